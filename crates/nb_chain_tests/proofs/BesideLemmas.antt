@@ -11,16 +11,17 @@ use Rattle.nb_opens.specs.Pairs.{AreMade}
 use Rattle.nb_chains.specs.declared.chain.Chain.{Chain}
 use Rattle.nb_chains.specs.declared.kind.ChainKind.TheVariants.{File, Name, Lease, Echo}
 use Rattle.nb_chains.specs.declared.kind.ChainKind.{ChainKind}
-use Rattle.nb_chains.specs.Kinds.{count_below}
-use Rattle.nb_frames.specs.Frames.{is_one_of}
+use Rattle.nb_chains.specs.Kinds.{count_below, top_mark, top_rank}
+use Rattle.nb_frames.specs.Frames.{is_one_of, KeepsObject}
 use Rattle.nb_frames.proofs.OwnCallLemmas.{either_way}
-use Rattle.nb_chains.proofs.FreshOnes.{sole_is}
+use Rattle.nb_chains.proofs.ChainDoes.{top_in}
+use Rattle.nb_chains.proofs.FreshOnes.{fresh_kept, sole_is}
 use Rattle.nb_chains.proofs.Opened.{ready_open}
 use Rattle.nb_chains.proofs.OfTwo.{of_two}
 use Rattle.nb_chains.specs.Calls.{ClosesChain, IsOpenChain, ShutsChain}
-use Rattle.nb_chains.specs.Chains.{AreChained, AreOthers, GrowsBy, GoesOn, IsReadyChain, IsReleased, IsShutChain, below_ids, chain_ids}
+use Rattle.nb_chains.specs.Chains.{AreChained, AreOthers, Awaits, GrowsBy, GoesOn, IsReadyChain, IsReleased, IsShutChain, below_ids, chain_ids}
 use Rattle.nb_chains.proofs.Staying.{goes_stays, grows_stays, released_stays}
-use Rattle.nb_chain_tests.specs.Beside.{AreBeside}
+use Rattle.nb_chain_tests.specs.Beside.{AreBeside, WaitsBeside}
 
 module _ (g h : Objects Obj) (c d : Chain) (noded : AreNoded rank_of_obj h) (b : AreBeside g c d) (on : GoesOn (chain_ids c) g h) where
   pub stay_beside : AreBeside h c d
@@ -72,3 +73,25 @@ made_beside one two c d g a h noded i j r e =
     let away : AreOthers (chain_ids d) (chain_ids c) = λ x o. elim (either_way (is_one_of (chain_ids d) x)) [ inl p ↦ absurd (let lt = above x p in let le = i.chained.given x o in omega (arith, lt, le)) | inr p ↦ p ] in
     let apart : AreOthers (chain_ids c) (chain_ids d) = λ x o. elim (either_way (is_one_of (chain_ids c) x)) [ inl p ↦ absurd (let lt = above x o in let le = i.chained.given x p in omega (arith, lt, le)) | inr p ↦ p ] in
     record { one = (grows_stays (1 + count_below two) d (chain_ids c) a h noded i.chained away j).chained; other = j.chained; apart = apart; away = away }
+
+-- what waits stays as it is where its object does
+waits_still : (kind : ChainKind) (w : Chain) (g h : Objects Obj) → Awaits kind w g → KeepsObject g h w.top.0 → g.book.made ≤ h.book.made → Awaits kind w h
+waits_still kind w g h a k later = record { alone = a.alone; fresh = fresh_kept g h w.top.0 (top_rank kind) (top_mark kind) a.fresh k later }
+
+-- one that waits, and another that was made after it
+pub made_after : (kind two : ChainKind) (w c : Chain) (g a h : Objects Obj) → AreNoded rank_of_obj h → Awaits kind w a → GrowsBy 1 w g a → GrowsBy (1 + count_below two) c a h → IsReadyChain two c h → c.top.0 ≡ a.book.made + 1 → WaitsBeside kind h w c
+made_after kind two w c g a h noded waits i j r e =
+    let b = made_beside Name two w c g a h noded i j r e in
+    record {
+      waits = waits_still kind w a h waits (j.others w.top.0 waits.fresh.given (b.away w.top.0 (top_in w))) (let k = j.made in omega (arith, k));
+      chained = b.other;
+      apart = b.away;
+    }
+
+-- it still waits after a call on the other
+pub stays_waiting : (kind : ChainKind) (w c : Chain) (g h : Objects Obj) → WaitsBeside kind g w c → GoesOn (chain_ids c) g h → WaitsBeside kind h w c
+stays_waiting kind w c g h b on = record {
+  waits = waits_still kind w g h b.waits (on.others.others w.top.0 b.waits.fresh.given (b.apart w.top.0 (top_in w))) (let e = on.others.same_made in omega (arith, e));
+  chained = on.chained;
+  apart = b.apart;
+}

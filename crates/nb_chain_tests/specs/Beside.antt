@@ -3,7 +3,8 @@ use Rattle.std.specs.Prelude.{◌≡◌}
 use Rattle.nb_graph.specs.Whole.{Objects}
 use Rattle.nb_nodes.specs.declared.obj.Obj.{Obj}
 use Rattle.nb_chains.specs.declared.chain.Chain.{Chain}
-use Rattle.nb_chains.specs.Chains.{AreChained, AreOthers, chain_ids}
+use Rattle.nb_chains.specs.declared.kind.ChainKind.{ChainKind}
+use Rattle.nb_chains.specs.Chains.{AreChained, AreOthers, Awaits, chain_ids}
 
 -- both stand there, and have no object in common
 pub record AreBeside (g : Objects Obj) (c d : Chain) : Type 0 where
@@ -11,3 +12,9 @@ pub record AreBeside (g : Objects Obj) (c d : Chain) : Type 0 where
   pub other : AreChained g (chain_ids d)
   pub apart : AreOthers (chain_ids c) (chain_ids d)
   pub away : AreOthers (chain_ids d) (chain_ids c)
+
+-- one of this kind waits beside another
+pub record WaitsBeside (kind : ChainKind) (g : Objects Obj) (w c : Chain) : Type 0 where
+  pub waits : Awaits kind w g
+  pub chained : AreChained g (chain_ids c)
+  pub apart : AreOthers (chain_ids c) (chain_ids w)

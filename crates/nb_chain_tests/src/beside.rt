@@ -1,4 +1,6 @@
-use crate::steps::{HOST, Tape, ask_echo, end_file, pass_time, reply, shut_file, two};
+use crate::steps::{
+    HOST, Tape, ask_echo, ask_name, end_file, one_and_what_waits, pass_time, reply, shut_file, two,
+};
 use nb_chains::ChainKind;
 use nb_graph::{ObjId, Port};
 use nb_opens::Arrival;
@@ -20,6 +22,17 @@ fn happened(rt: &impl Abort, tape: &mut Tape, expected: &[(u8, u64)]) {
         assert_eq!(rt; (event.event, event.object), (*number, *object));
     }
     tape.events.clear();
+}
+
+/// The first events close these slots of these objects, in order, with the user's cause.
+fn closed(rt: &impl Abort, tape: &Tape, expected: &[(u64, u8)]) {
+    for (event, (object, slot)) in tape.events.iter().zip(expected) {
+        assert_eq!(rt;
+            (event.event, event.object, event.slot),
+            (8, *object, *slot)
+        );
+        assert_eq!(rt; event.cause, STOPPED);
+    }
 }
 
 fn empty_tape(rt: &HostRuntime) -> Tape {
@@ -117,6 +130,57 @@ fn both_are_shut_down(rt: HostRuntime) -> Result<(), Fail> {
         &rt,
         &mut tape,
         &[(8, 1), (8, 1), (8, 1), (8, 1), (3, 1), (10, 1)],
+    );
+    assert_eq!(rt; graph.live(), 0);
+    Ok(())
+}
+
+/// The run ends while a name's address is asked for, and a Fetch waits for its open: all ports of the Fetch are closed, then
+/// those of the Resolver, each by rising slot, and they are let go in that order.
+#[test]
+fn one_is_shut_down_beside_what_waits(rt: HostRuntime) -> Result<(), Fail> {
+    let mut tape = empty_tape(&rt);
+    let (mut graph, fetch, name) = one_and_what_waits(
+        &rt,
+        &mut tape,
+        ChainKind::File,
+        ChainKind::Name,
+    )?;
+    assert_eq!(rt; (fetch.top, name.top), (ObjId(1), ObjId(2)));
+    ask_name(&mut graph, name, fetch, ChainKind::File, &mut tape);
+    tape.events.clear();
+    name.shut_down_beside(fetch, ChainKind::File, &mut graph, &STOPPED, 0, &mut tape);
+    closed(
+        &rt,
+        &tape,
+        &[
+            (1, 0),
+            (1, 1),
+            (1, 2),
+            (1, 3),
+            (2, 0),
+            (2, 1),
+            (2, 2),
+            (2, 3),
+        ],
+    );
+    happened(
+        &rt,
+        &mut tape,
+        &[
+            (8, 1),
+            (8, 1),
+            (8, 1),
+            (8, 1),
+            (8, 2),
+            (8, 2),
+            (8, 2),
+            (8, 2),
+            (3, 1),
+            (10, 1),
+            (3, 2),
+            (10, 2),
+        ],
     );
     assert_eq!(rt; graph.live(), 0);
     Ok(())

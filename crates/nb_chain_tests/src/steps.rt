@@ -3,12 +3,12 @@
 ghost use Rattle.std.specs.Prelude.{◌≡◌, ◌≤◌, IfOk, length};
 ghost use Rattle.nb_chains.specs.Chains.{AreChained, chain_ids, IsReadyChain};
 ghost use Rattle.nb_chains.specs.declared.kind.ChainKind.TheVariants as kind;
-ghost use Rattle.nb_chain_tests.specs.Beside.{AreBeside};
+ghost use Rattle.nb_chain_tests.specs.Beside.{AreBeside, WaitsBeside};
 ghost use Rattle.nb_ledger.specs.Flat.{unknown};
 
 use nb_chains::{Chain, ChainKind};
 use nb_graph::{Graph, Msg, Outside, Port};
-use nb_nodes::{Obj, PingAsk};
+use nb_nodes::{LookupAsk, Obj, PingAsk};
 use nb_opens::Arrival;
 use nb_terms::{Cause, Event};
 use nb_wire::Ip4;
@@ -50,6 +50,44 @@ pub(crate) fn two(
     let second = Chain::make(rt.alloc(), &mut graph, other, tape)?;
     graph.has_nodes();
     Ok((graph, first, second))
+}
+
+/// A graph with a chain of a kind that waits for the rest of its objects, and then another of another kind.
+pub(crate) fn one_and_what_waits(
+    rt: &HostRuntime,
+    tape: &mut Tape,
+    waits: ChainKind,
+    kind: ChainKind,
+) -> Result<(Graph<Obj>, Chain, Chain), Fail>
+    ensures { IfOk result (λ r. WaitsBeside waits r.0 r.1 r.2) }
+{
+    let mut graph = Graph::new(rt.alloc(), 8)?;
+    let first = Chain::wait(rt.alloc(), &mut graph, waits, tape)?;
+    let second = Chain::make(rt.alloc(), &mut graph, kind, tape)?;
+    graph.has_nodes();
+    Ok((graph, first, second))
+}
+
+/// The user of a chain for a name's address asks for it, while another waits.
+pub(crate) fn ask_name(
+    graph: &mut Graph<Obj>,
+    chain: Chain,
+    waits: Chain,
+    kind: ChainKind,
+    tape: &mut Tape,
+)
+    requires { WaitsBeside kind graph.old waits chain }
+    ensures { WaitsBeside kind graph.new waits chain }
+{
+    let _kind = kind;
+    let _waits = waits;
+    let ask = LookupAsk {
+        server: HOST,
+        own_port: 7,
+        id: 1,
+        name: b"pxe.example".as_slice(),
+    };
+    chain.begin(graph, 1, &ask.head(), ask.name, 0, tape);
 }
 
 /// The user of a chain for an echo asks for it.

@@ -24,7 +24,7 @@ use Rattle.nb_opens.proofs.Releasing.{loose_shut}
 use Rattle.nb_chains.specs.declared.chain.Chain.{Chain}
 use Rattle.nb_chains.specs.Calls.{ReleasesChain}
 use Rattle.nb_chains.specs.Chains.{AreChained, IsReleased, IsShutBy, IsShutChain, below_ids, chain_ids}
-use Rattle.nb_chains.specs.Ends.{AreUnlinked, LivesUnlinked}
+use Rattle.nb_chains.specs.Ends.{AreUnlinked, HasNoLinks, LivesUnlinked}
 use Rattle.nb_chains.proofs.FreshOnes.{sole_is}
 use Rattle.nb_chains.proofs.GivingLemmas.{gives_both, gives_more, more_within}
 use Rattle.nb_chains.proofs.GoingOn.{keeps_both}
@@ -56,7 +56,7 @@ module _ (g : Objects Obj) (f t : ℕ) (noded : AreNoded rank_of_obj g) (c : Are
   both_loose = record { different = λ e. let lt = s.two.older in omega (arith, e, lt); first = first_loose; other = other_loose }
 
 -- what stays as it is stays loose
-loose_kept : (g a : Objects Obj) (x : ℕ) → LivesUnlinked g x → KeepsObject g a x → a.book.made ≡ g.book.made → LivesUnlinked a x
+pub loose_kept : (g a : Objects Obj) (x : ℕ) → LivesUnlinked g x → KeepsObject g a x → a.book.made ≡ g.book.made → LivesUnlinked a x
 loose_kept g a x l k e = record {
   given = let i = l.given in omega (arith, i, e);
   lives = k.live ∙ l.lives;
@@ -115,25 +115,22 @@ module _ (g a h : Objects Obj) (m n o : Heard) (f t : ObjId) (both : AreUnlinked
         let other = gives_more (IsEventWithin (is_one_of (t.0 ∷ []))) own (of_one t.0 (other_in f.0 t.0)) a h n o (alone_freed t.0) (goes_gives a h n o t two k) in
         record { gives = gives_both own g a h m n o (alone_freed f.0) (alone_freed t.0) one other; released = released_two; shape = freed_stays f.0 t.0 }
 
--- a chain that has nothing below its top object
-pub top_loose : (c : Chain) (g : Objects Obj) → c.below ≡ None → AreNoded rank_of_obj g → AreChained g (chain_ids c) → IsShutChain c g → LivesUnlinked g c.top.0
-top_loose c g e noded chained shut =
-    let goes : Option ObjId → Type 0 = λ b. AreChained g (c.top.0 ∷ below_ids b) → IsShutBy b c.top.0 (graph_of (c.top.0 ∷ below_ids b) g) → LivesUnlinked g c.top.0 in
-    subst goes (sym e) (λ i s. sole_loose g c.top.0 noded i s) chained shut
+-- no object of a chain that is shut has a link
+pub shut_loose : (c : Chain) (g : Objects Obj) → AreNoded rank_of_obj g → AreChained g (chain_ids c) → IsShutChain c g → HasNoLinks c.below c.top.0 g
+shut_loose c g noded = by c.below
+  where
+    by : (b : Option ObjId) → AreChained g (c.top.0 ∷ below_ids b) → IsShutBy b c.top.0 (graph_of (c.top.0 ∷ below_ids b) g) → HasNoLinks b c.top.0 g
+    by None i s = sole_loose g c.top.0 noded i s
+    by (Some t) i s = both_loose g c.top.0 t.0 noded i s
 
+-- so its objects are let go: of one that has nothing below its top object
 pub released_alone : (c : Chain) (g h : Objects Obj) (m n : Heard) → c.below ≡ None → LivesUnlinked g c.top.0 → WentOne ObjStands obj_nature 0 (Wants (LetGo c.top) ∷ []) g h m n
     → ReleasesChain c g h m n
 released_alone c g h m n e l k =
     let goes : Option ObjId → Type 0 = λ b. ReleasesChain (record { top = c.top; below = b }) g h m n in
     subst goes (sym e) (sole_released g h m n c.top l k)
 
--- one that has
-pub two_loose : (c : Chain) (g : Objects Obj) (t : ObjId) → c.below ≡ Some t → AreNoded rank_of_obj g → AreChained g (chain_ids c) → IsShutChain c g → AreUnlinked g c.top.0 t.0
-two_loose c g t e noded chained shut =
-    let goes : Option ObjId → Type 0 = λ b. AreChained g (c.top.0 ∷ below_ids b) → IsShutBy b c.top.0 (graph_of (c.top.0 ∷ below_ids b) g) → AreUnlinked g c.top.0 t.0 in
-    subst goes (sym e) (λ i s. both_loose g c.top.0 t.0 noded i s) chained shut
-
--- whose objects were let go
+-- and of one that has
 pub released_both : (c : Chain) (g h : Objects Obj) (m n : Heard) (t : ObjId) → c.below ≡ Some t → ReleasesChain (record { top = c.top; below = Some t }) g h m n → ReleasesChain c g h m n
 released_both c g h m n t e k =
     let goes : Option ObjId → Type 0 = λ b. ReleasesChain (record { top = c.top; below = b }) g h m n in

@@ -18,6 +18,12 @@ pub mod ChainsMade
 pub mod LettingOneGo
 pub mod LettingGo
 pub mod FreeSlots
+pub mod PortsClosing
 pub mod ShuttingDown
+pub mod OfBoth
+pub mod ShuttingBeside
 pub mod Collecting
 pub mod Staying
+pub mod NotBegun
+pub mod WaitingApart
+pub mod GivingUp

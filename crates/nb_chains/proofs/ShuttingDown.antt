@@ -1,48 +1,21 @@
--- The end of a run: the ports of a chain's objects are closed, and its objects are let go.
-use Rattle.std.proofs.Common.{◌≡◌, ℕ, ◌<◌, true, List, [], ◌∷◌, ◌++◌, Option, Some, None, sym, ap, ◌∙◌, subst, arith}
+-- The end of a run: all ports of a chain are closed, and its objects are let go.
+use Rattle.std.proofs.Common.{◌≡◌, ℕ, ◌++◌, Option, Some, None, refl, ◌∙◌, subst}
 use Rattle.nb_terms.specs.declared.cause.Cause.{Cause}
 use Rattle.nb_ledger.specs.declared.port.ObjId.{ObjId}
-use Rattle.nb_ledger.specs.declared.event.GraphEvent.TheVariants.{LetGo}
 use Rattle.nb_ledger.specs.Flat.{Heard}
-use Rattle.nb_ledger.specs.GraphRun.{link_count}
-use Rattle.nb_ledger.specs.Ledger.{holds, object_lives, port as port_in}
-use Rattle.nb_graph.specs.Deeds.{Wants}
-use Rattle.nb_graph.specs.Noded.{AreNoded}
-use Rattle.nb_graph.specs.Went.{WentOne}
 use Rattle.nb_graph.specs.Whole.{Objects}
-use Rattle.nb_frames.specs.Frames.{is_one_of, graph_of}
+use Rattle.nb_frames.specs.Frames.{is_one_of}
 use Rattle.nb_frames.specs.Within.{IsEventWithin}
-use Rattle.nb_frames.proofs.OwnLemmas.{AreThere, are_there}
-use Rattle.nb_frames.proofs.OwnCallLemmas.{port_own}
 use Rattle.nb_nodes.specs.declared.obj.Obj.{Obj}
-use Rattle.nb_nodes.specs.Objects.{obj_nature, rank_of_obj}
-use Rattle.nb_nodes.specs.Standing.{ObjStands}
-use Rattle.nb_opens.specs.AloneNotices.{alone_closed, alone_freed}
-use Rattle.nb_opens.specs.Alones.{IsShutLone}
-use Rattle.nb_opens.specs.Notices.{closed_notices, freed_notices}
-use Rattle.nb_opens.specs.Pairs.{AreShut}
 use Rattle.nb_chains.specs.declared.chain.Chain.{Chain}
-use Rattle.nb_chains.specs.Calls.{ClosesChain, IsOpenChain, ReleasesChain, ShutsChain, closing_notices}
-use Rattle.nb_chains.specs.Chains.{AreChained, GoesOn, IsReleased, IsShutBy, below_ids, chain_ids}
-use Rattle.nb_chains.specs.Ends.{AreUnlinked, FreesSlots, HasFreeSlots, LivesUnlinked, free_slot_notices}
-use Rattle.nb_chains.specs.Giving.{ChainGives}
-use Rattle.nb_chains.proofs.FreshOnes.{sole_in}
+use Rattle.nb_chains.specs.Calls.{ClosesPorts, IsOpenChain, ReleasesChain, ShutsChain, ports_closed_notices, shutting_notices}
+use Rattle.nb_chains.specs.Chains.{GoesOn, IsReleased, chain_ids, last_below, released_by, released_notices}
+use Rattle.nb_chains.specs.Ends.{HasNoLinks}
+use Rattle.nb_chains.specs.Shapes.{SendsNone}
 use Rattle.nb_chains.proofs.GivingLemmas.{gives_both}
-use Rattle.nb_chains.proofs.GoingOn.{goes_both, others_both}
-use Rattle.nb_chains.proofs.LettingGo.{both_loose}
-use Rattle.nb_chains.proofs.LettingOneGo.{sole_loose, sole_released}
-use Rattle.nb_chains.proofs.OfTwo.{first_in, other_in}
+use Rattle.nb_chains.proofs.GoingOn.{others_both}
 use Rattle.nb_chains.proofs.ShapesOf.{alone_shut_stays, shut_stays}
-
--- one of a chain without a link
-loose_of : (g : Objects Obj) (ids : List ℕ) (x : ℕ) → AreChained g ids → is_one_of ids x ≡ true → LivesUnlinked g x → (h : Objects Obj) → GoesOn ids g h → ((k : ℕ) → link_count (port_in g.book x k) ≡ 0 → link_count (port_in h.book x k) ≡ 0) → LivesUnlinked h x
-loose_of g ids x chained is l h on kept = record {
-  given = on.chained.given x is;
-  lives = on.chained.lives x is;
-  held = on.chained.held x is;
-  unlinked = λ k i. kept k (l.unlinked k i);
-  stands = on.chained.stands x is;
-}
+use Rattle.nb_chains.specs.Giving.{ChainGives}
 
 -- what is released after it went on is released
 released_after : (c : Chain) (g a h : Objects Obj) → GoesOn (chain_ids c) g a → IsReleased c a h → IsReleased c g h
@@ -53,103 +26,22 @@ released_after c g a h on r = record {
   same_room = r.same_room ∙ on.same_room;
 }
 
--- one alone: its ports to the user and the network were closed, then the other two, and it is let go
-module _ (g b d h : Objects Obj) (l m n o : Heard) (x : ObjId) (z : Cause) (noded : AreNoded rank_of_obj b) (on : GoesOn (x.0 ∷ []) g b)
-    (more : (ids : List ℕ) → AreChained b ids → is_one_of ids x.0 ≡ true → FreesSlots ids b d m n x.0 z)
-    (goes : object_lives d.book x.0 ≡ true → 0 < holds d.book x.0 → (now : ℕ) → WentOne ObjStands obj_nature now (Wants (LetGo x) ∷ []) d h n o) where
-  abbrev sole : List ℕ
-  sole = x.0 ∷ []
+-- what it is given: the closes, and then that they are let go
+shut_parts : (x : ℕ) (b : Option ObjId) (z : Cause) → ports_closed_notices x b z ++ released_by x b ≡ shutting_notices x b z
+shut_parts x None z = refl
+shut_parts x (Some t) z = refl
 
-  abbrev chain : Chain
-  chain = record { top = x; below = None }
+shutting_stays : (x : ℕ) (b : Option ObjId) (z : Cause) → SendsNone (last_below x b) (shutting_notices x b z)
+shutting_stays x None z = alone_shut_stays x z
+shutting_stays x (Some t) z = shut_stays x t.0 z
 
-  freed : FreesSlots sole b d m n x.0 z
-  freed = more sole on.chained (sole_in x.0)
-
-  sole_there : AreThere sole b
-  sole_there = are_there sole b on.chained.lives (λ y i. let e = noded y (on.chained.lives y i) in (e.node, e.is_node))
-
-  sole_free : IsShutLone (graph_of sole b) x.0 → HasFreeSlots b x.0
-  sole_free s = (sym (port_own sole b sole_there x.0 2 (sole_in x.0)) ∙ s.ports 2, sym (port_own sole b sole_there x.0 3 (sole_in x.0)) ∙ s.ports 3)
-
-  pub sole_shut : IsShutLone (graph_of sole b) x.0 → ChainGives chain g b l m (alone_closed x.0 z) → ShutsChain chain g h z l o
-  sole_shut s closed =
-      let f = freed.free (sole_free s) in
-      let u = loose_of b sole x.0 on.chained (sole_in x.0) (sole_loose b x.0 noded on.chained s) d freed.on f.unlinked in
-      let r = sole_released d h n o x u (goes u.lives (omega (arith, u.held)) 0) in
-      let own = IsEventWithin (is_one_of sole) in
-      record {
-        gives = gives_both own g b h l m o (alone_closed x.0 z) (free_slot_notices x.0 z ++ alone_freed x.0) closed (gives_both own b d h m n o (free_slot_notices x.0 z) (alone_freed x.0) f.gives r.gives);
-        released = released_after chain g d h (goes_both sole g b d on freed.on) r.released;
-        shape = alone_shut_stays x.0 z;
-      }
-
--- two: the ports that are plugged were closed, then the free ones of each, and both are let go
-module _ (g b d e h : Objects Obj) (l m n o q : Heard) (f t : ObjId) (z : Cause) (noded : AreNoded rank_of_obj b) (on : GoesOn (f.0 ∷ t.0 ∷ []) g b)
-    (top_more : (ids : List ℕ) → AreChained b ids → is_one_of ids f.0 ≡ true → FreesSlots ids b d m n f.0 z) (low_more : (ids : List ℕ) → AreChained d ids → is_one_of ids t.0 ≡ true → FreesSlots ids d e n o t.0 z)
-    (goes : AreUnlinked e f.0 t.0 → ReleasesChain (record { top = f; below = Some t }) e h o q) where
-  abbrev ids : List ℕ
-  ids = f.0 ∷ t.0 ∷ []
-
-  abbrev chain_of_two : Chain
-  chain_of_two = record { top = f; below = Some t }
-
-  top_freed : FreesSlots ids b d m n f.0 z
-  top_freed = top_more ids on.chained (first_in f.0 t.0)
-
-  low_freed : FreesSlots ids d e n o t.0 z
-  low_freed = low_more ids top_freed.on.chained (other_in f.0 t.0)
-
-  there : AreThere ids b
-  there = are_there ids b on.chained.lives (λ y i. let k = noded y (on.chained.lives y i) in (k.node, k.is_node))
-
-  at_first : (k : ℕ) → port_in b.book f.0 k ≡ port_in (graph_of ids b).book f.0 k
-  at_first k = sym (port_own ids b there f.0 k (first_in f.0 t.0))
-
-  at_other : (k : ℕ) → port_in b.book t.0 k ≡ port_in (graph_of ids b).book t.0 k
-  at_other k = sym (port_own ids b there t.0 k (other_in f.0 t.0))
-
-  pub two_shut : AreShut (graph_of ids b) f.0 t.0 → ChainGives chain_of_two g b l m (closed_notices f.0 t.0 z) → ShutsChain chain_of_two g h z l q
-  two_shut s closed =
-      let both = both_loose b f.0 t.0 noded on.chained s in
-      let i = top_freed.free (at_first 2 ∙ s.two.fetch_2, at_first 3 ∙ s.two.fetch_3) in
-      let apart : f.0 ≡ t.0 → ⊥ = λ same. both.different (sym same) in
-      let j = low_freed.free (i.others t.0 2 both.different ∙ (at_other 2 ∙ s.two.tftp_2), i.others t.0 3 both.different ∙ (at_other 3 ∙ s.two.tftp_3)) in
-      let first = loose_of b ids f.0 on.chained (first_in f.0 t.0) both.first d top_freed.on i.unlinked in
-      let other = loose_of b ids t.0 on.chained (other_in f.0 t.0) both.other d top_freed.on (λ k z. ap link_count (i.others t.0 k both.different) ∙ z) in
-      let r = goes (record {
-        different = both.different;
-        first = loose_of d ids f.0 top_freed.on.chained (first_in f.0 t.0) first e low_freed.on (λ k z. ap link_count (j.others f.0 k apart) ∙ z);
-        other = loose_of d ids t.0 top_freed.on.chained (other_in f.0 t.0) other e low_freed.on j.unlinked;
-      }) in
-      let own = IsEventWithin (is_one_of ids) in
-      let slots = gives_both own b d e m n o (free_slot_notices f.0 z) (free_slot_notices t.0 z) i.gives j.gives in
-      record {
-        gives = gives_both own g b h l m q (closed_notices f.0 t.0 z) ((free_slot_notices f.0 z ++ free_slot_notices t.0 z) ++ freed_notices f.0 t.0) closed
-            (gives_both own b e h m o q (free_slot_notices f.0 z ++ free_slot_notices t.0 z) (freed_notices f.0 t.0) slots r.gives);
-        released = released_after chain_of_two g e h (goes_both ids g d e (goes_both ids g b d on top_freed.on) low_freed.on) r.released;
-        shape = shut_stays f.0 t.0 z;
-      }
-
--- what a chain's shut_down does, by what it has below its top object
-module _ (c : Chain) (g b d h : Objects Obj) (l m n o : Heard) (z : Cause) (noded : AreNoded rank_of_obj b) (on : GoesOn (chain_ids c) g b) (closes : ClosesChain c g b z l m)
-    (top_more : (ids : List ℕ) → AreChained b ids → is_one_of ids c.top.0 ≡ true → FreesSlots ids b d m n c.top.0 z) where
-  -- its ports were closed
-  record WereShut (w : Option ObjId) : Type 0 where
-    pub goes : GoesOn (c.top.0 ∷ below_ids w) g b
-    pub shut : IsShutBy w c.top.0 (graph_of (c.top.0 ∷ below_ids w) b)
-    pub gives : ChainGives (record { top = c.top; below = w }) g b l m (closing_notices c.top.0 w z)
-
-  were_shut : IsOpenChain c g → WereShut c.below
-  were_shut is = record { goes = on; shut = closes.shut is; gives = subst (ChainGives c g b l m) (closes.are is) closes.gives }
-
-  pub shuts_sole : c.below ≡ None → (object_lives d.book c.top.0 ≡ true → 0 < holds d.book c.top.0 → (now : ℕ) → WentOne ObjStands obj_nature now (Wants (LetGo c.top) ∷ []) d h n o) → IsOpenChain c g → ShutsChain c g h z l o
-  shuts_sole e goes is =
-      let P : Option ObjId → Type 0 = λ w. WereShut w → ShutsChain (record { top = c.top; below = w }) g h z l o in
-      subst P (sym e) (λ k. sole_shut g b d h l m n o c.top z noded k.goes top_more goes k.shut k.gives) (were_shut is)
-
-  pub shuts_two : (t : ObjId) → c.below ≡ Some t → (e : Objects Obj) (q : Heard) → ((ids : List ℕ) → AreChained d ids → is_one_of ids t.0 ≡ true → FreesSlots ids d e n o t.0 z)
-      → (AreUnlinked e c.top.0 t.0 → ReleasesChain (record { top = c.top; below = Some t }) e h o q) → IsOpenChain c g → ShutsChain c g h z l q
-  shuts_two t same e q low_more goes is =
-      let P : Option ObjId → Type 0 = λ w. WereShut w → ShutsChain (record { top = c.top; below = w }) g h z l q in
-      subst P (sym same) (λ k. two_shut g b d e h l m n o q c.top t z noded k.goes top_more low_more goes k.shut k.gives) (were_shut is)
+pub shuts_chain : (c : Chain) (g a h : Objects Obj) (m n o : Heard) (z : Cause) → GoesOn (chain_ids c) g a → (IsOpenChain c g → ClosesPorts c g a z m n) → (HasNoLinks c.below c.top.0 a → ReleasesChain c a h n o) → IsOpenChain c g → ShutsChain c g h z m o
+shuts_chain c g a h m n o z on closes goes is =
+    let p = closes is in
+    let r = goes p.unlinked in
+    let all = gives_both (IsEventWithin (is_one_of (chain_ids c))) g a h m n o (ports_closed_notices c.top.0 c.below z) (released_notices c) p.gives r.gives in
+    record {
+      gives = subst (ChainGives c g h m o) (shut_parts c.top.0 c.below z) all;
+      released = released_after c g a h on r.released;
+      shape = shutting_stays c.top.0 c.below z;
+    }

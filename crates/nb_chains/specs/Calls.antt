@@ -1,6 +1,6 @@
 -- What each call does to a chain, for whatever may be under way, and what the outside is given: one list of notices, of which
 -- all is said. What an open's objects do is said of the graph of these objects alone. Our own.
-use Rattle.std.specs.Prelude.{◌≡◌, ℕ, List, Option, Some, None}
+use Rattle.std.specs.Prelude.{◌≡◌, ◌+◌, ℕ, true, false, List, ◌++◌, length, Option, Some, None}
 use Rattle.nb_terms.specs.declared.cause.Cause.{Cause}
 use Rattle.nb_ledger.specs.declared.event.GraphEvent.TheVariants.{Entered}
 use Rattle.nb_ledger.specs.declared.event.Way.{Way}
@@ -8,6 +8,9 @@ use Rattle.nb_ledger.specs.declared.event.Way.TheVariants as way
 use Rattle.nb_ledger.specs.declared.port.ObjId.{ObjId}
 use Rattle.nb_ledger.specs.declared.port.Port.{Port}
 use Rattle.nb_ledger.specs.Flat.{Heard, Notice}
+use Rattle.nb_ledger.specs.Ledger.{object_lives}
+use Rattle.nb_frames.specs.Frames.{KeepsOthers, is_one_of}
+use Rattle.nb_frames.specs.Within.{IsEventWithin}
 use Rattle.nb_dhcp.specs.declared.asker.Asker.{Asker}
 use Rattle.nb_dns.specs.Lookups.{Lookup}
 use Rattle.nb_graph.specs.Deeds.{no_memory}
@@ -20,9 +23,9 @@ use Rattle.nb_nodes.specs.Exchanges.{Service}
 use Rattle.nb_nodes.specs.LeaseExchanges.{lease_service}
 use Rattle.nb_nodes.specs.LookupExchanges.{lookup_service}
 use Rattle.nb_opens.specs.declared.alone.AloneKind.TheVariants.{Resolver, Dhcp, Ping}
-use Rattle.nb_opens.specs.AloneNotices.{alone_closed, alone_shut}
+use Rattle.nb_opens.specs.AloneNotices.{alone_closed, alone_freed, alone_shut}
 use Rattle.nb_opens.specs.Alones.{Begins, IsOpenLone, IsReady, IsShutLone, ReceiveAllBy, Talks, TickAllBy, alone_number}
-use Rattle.nb_opens.specs.Companies.{only}
+use Rattle.nb_opens.specs.Companies.{all_closed, only}
 use Rattle.nb_opens.specs.Notices.{closed_notices, first_close, shut_notices}
 use Rattle.nb_opens.specs.Pairs.{AreGoing, AreMade, BeginDoes, CallDoes, Downloads, HasEnded, IsDownloading}
 use Rattle.nb_ping.specs.Pings.{Pinged}
@@ -31,8 +34,9 @@ use Rattle.nb_tftp.specs.History.{Call, Entry}
 use Rattle.nb_chains.specs.declared.chain.Chain.{Chain}
 use Rattle.nb_chains.specs.declared.kind.ChainKind.{ChainKind}
 use Rattle.nb_chains.specs.declared.kind.ChainKind.TheVariants.{File, Name, Lease, Echo}
-use Rattle.nb_chains.specs.Chains.{IsReadyChain, IsReleased, IsShutChain, last_serial, own_graph, released_notices}
-use Rattle.nb_chains.specs.Giving.{ChainGives}
+use Rattle.nb_chains.specs.Chains.{IsReadyChain, IsReleased, IsShutChain, chain_ids, last_serial, own_graph, released_notices}
+use Rattle.nb_chains.specs.Ends.{HasNoLinks, first_close_among, free_notices}
+use Rattle.nb_chains.specs.Giving.{CallGives, ChainGives}
 use Rattle.nb_chains.specs.Shapes.{HasShapeOrFails, SendsNone}
 
 -- WHAT IS UNDER WAY
@@ -168,3 +172,28 @@ pub record ShutsChain (c : Chain) (old new : Objects Obj) (cause : Cause) (befor
   pub gives : ChainGives c old new before after (shutting_notices c.top.0 c.below cause)
   pub released : IsReleased c old new
   pub shape : SendsNone (last_serial c) (shutting_notices c.top.0 c.below cause)
+
+-- what the outside is given where all its ports are closed: those that are plugged, and then those that aren't
+abbrev pub ports_closed_notices : ℕ → Option ObjId → Cause → List Notice
+ports_closed_notices x below cause = closing_notices x below cause ++ free_notices x below cause
+
+-- They are, and no object of it has a link.
+pub record ClosesPorts (c : Chain) (old new : Objects Obj) (cause : Cause) (before after : Heard) : Type 0 where
+  pub gives : ChainGives c old new before after (ports_closed_notices c.top.0 c.below cause)
+  pub unlinked : HasNoLinks c.below c.top.0 new
+
+-- what the outside is given at the end of a run where the object w waits beside it: the ports of w are closed by rising slot,
+-- then those of the chain; w is let go, and then the chain
+abbrev pub beside_notices : ℕ → Chain → Cause → List Notice
+beside_notices w c cause = all_closed w cause ++ (ports_closed_notices c.top.0 c.below cause ++ (alone_freed w ++ released_notices c))
+
+-- The run ends where another chain waits beside it. None of the objects of both lives any more, all else is as it was, and the
+-- first close of a port of its own has the cause.
+pub record ShutsChainBeside (c waits : Chain) (old new : Objects Obj) (cause : Cause) (before after : Heard) : Type 0 where
+  pub gives : CallGives (IsEventWithin (is_one_of (chain_ids c ++ chain_ids waits))) old new before after (beside_notices waits.top.0 c cause)
+  pub gone : (x : ℕ) → is_one_of (chain_ids c ++ chain_ids waits) x ≡ true → object_lives new.book x ≡ false
+  pub others : KeepsOthers (is_one_of (chain_ids c ++ chain_ids waits)) old new
+  pub number : length new.book.objects + (length (chain_ids c) + length (chain_ids waits)) ≡ length old.book.objects
+  pub same_room : new.book.room ≡ old.book.room
+  pub shape : SendsNone (last_serial c) (beside_notices waits.top.0 c cause)
+  pub close : first_close_among (chain_ids c) (beside_notices waits.top.0 c cause) ≡ Some cause

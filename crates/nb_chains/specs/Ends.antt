@@ -1,16 +1,17 @@
 -- The end of a run: all ports of a chain's objects are closed, by rising serial and slot, and its objects are let go as
 -- they were made. Our own.
-use Rattle.std.specs.Prelude.{◌≡◌, ◌<◌, ◌≤◌, ℕ, true, List, [], ◌∷◌}
+use Rattle.std.specs.Prelude.{◌≡◌, ◌<◌, ◌≤◌, ◌==◌, ℕ, true, List, [], ◌∷◌, ◌++◌, Option, Some, None, if◌then◌else◌}
 use Rattle.nb_ledger.specs.declared.event.GraphEvent.TheVariants.{Closed}
 use Rattle.nb_ledger.specs.declared.port.PortState.TheVariants.{Open}
-use Rattle.nb_ledger.specs.Flat.{Heard, Notice}
+use Rattle.nb_ledger.specs.declared.port.ObjId.{ObjId}
+use Rattle.nb_ledger.specs.Flat.{Heard, Notice, event, message}
 use Rattle.nb_ledger.specs.GraphRun.{link_count}
 use Rattle.nb_ledger.specs.Ledger.{holds, object_lives, port}
 use Rattle.nb_graph.specs.Whole.{Objects, port_at}
 use Rattle.nb_frames.specs.Frames.{is_one_of}
 use Rattle.nb_frames.specs.Within.{IsEventWithin}
 use Rattle.nb_nodes.specs.declared.obj.Obj.{Obj}
-use Rattle.nb_opens.specs.Notices.{tells}
+use Rattle.nb_opens.specs.Notices.{or_else, tells}
 use Rattle.nb_terms.specs.declared.cause.Cause.{Cause}
 use Rattle.nb_chains.specs.Chains.{GoesOn, StandsForSome}
 use Rattle.nb_chains.specs.Giving.{CallGives}
@@ -47,3 +48,22 @@ pub record ClosesFreeSlots (ids : List ℕ) (g h : Objects Obj) (before after : 
 pub record FreesSlots (ids : List ℕ) (g h : Objects Obj) (before after : Heard) (x : ℕ) (c : Cause) : Type 0 where
   pub on : GoesOn ids g h
   pub free : HasFreeSlots g x → ClosesFreeSlots ids g h before after x c
+
+-- of a chain, by what it has below its top object: none of its objects has a link
+abbrev pub HasNoLinks : Option ObjId → ℕ → Objects Obj → Type 0
+HasNoLinks None x g = LivesUnlinked g x
+HasNoLinks (Some t) x g = AreUnlinked g x t.0
+
+-- what the outside is given where the free slots of all its objects are closed
+abbrev pub free_notices : ℕ → Option ObjId → Cause → List Notice
+free_notices x None c = free_slot_notices x c
+free_notices x (Some t) c = free_slot_notices x c ++ free_slot_notices t.0 c
+
+-- the cause of a close of a port of one of these, and that of the first among what is given
+abbrev pub close_among : List ℕ → Notice → Option Cause
+close_among ids (event e) = if e.event == 8 then (if is_one_of ids e.object then Some e.cause else None) else None
+close_among ids (message from tag rec a b bytes) = None
+
+abbrev pub first_close_among : List ℕ → List Notice → Option Cause
+first_close_among ids [] = None
+first_close_among ids (n ∷ ns) = or_else (close_among ids n) (first_close_among ids ns)

@@ -1,7 +1,7 @@
 ghost use Rattle.std.specs.Prelude.{◌≡◌, ◌+◌, ◌<◌, ◌≤◌, ◌^◌, ◌++◌, ◌∷◌, [], ℕ, List, Option, Some, true, length};
-ghost use Rattle.nb_chains.specs.Calls.{BeginsChain, ClosesChain, IsOpenChain, ReceivesChain, ReleasesChain, ShutsChain, TicksChain};
-ghost use Rattle.nb_chains.specs.Chains.{AreChained, GoesOn, IsShutChain, chain_ids, last_serial, own_graph, source_for};
-ghost use Rattle.nb_chains.specs.Ends.{AreUnlinked, FreesSlots};
+ghost use Rattle.nb_chains.specs.Calls.{BeginsChain, ClosesChain, ClosesPorts, IsOpenChain, ReceivesChain, ReleasesChain, ShutsChain, ShutsChainBeside, TicksChain};
+ghost use Rattle.nb_chains.specs.Chains.{AreChained, AreOthers, Awaits, GoesOn, IsShutChain, chain_ids, last_serial, own_graph, source_for};
+ghost use Rattle.nb_chains.specs.Ends.{AreUnlinked, FreesSlots, HasNoLinks};
 ghost use Rattle.nb_frames.specs.Frames.{is_one_of};
 ghost use Rattle.nb_graph.specs.Deeds.{Wants};
 ghost use Rattle.nb_graph.specs.Went.{WentOne};
@@ -16,6 +16,7 @@ ghost use Rattle.nb_opens.specs.Pairs.{HasEnded, body_in};
 ghost use Rattle.nb_tftp.specs.History.{came, ticked};
 ghost use Rattle.nb_tftp.specs.Received.{received};
 
+use crate::kind::ChainKind;
 use nb_graph::{Graph, Msg, ObjId, Outside, Port};
 use nb_image::Body;
 use nb_nodes::{ABOVE, BELOW, Load, Obj, Tag};
@@ -125,6 +126,8 @@ impl Chain {
         ensures body { (t : TheObjId) (body : Option (List ℕ)) → HasEnded (own_graph self graph.old) self.top.0 t.0 body
             → result ≡ body }
         ensures shut { IsShutChain self graph.old → IsShutChain self graph.new }
+        // Every life, hold, rank, port and link.
+        ensures book { graph.new.book ≡ graph.old.book }
     {
         graph.has_nodes();
         let load = graph.harvest(self.top);
@@ -139,10 +142,16 @@ impl Chain {
         ensures { ReleasesChain self graph.old graph.new (O.events out.old) (O.events out.new) }
     {
         graph.has_nodes();
-        match self.below {
-            None => let_go(graph, self.top, out),
-            Some(below) => let_both_go(graph, self.top, below, out),
-        }
+        self.let_all_go(graph, out);
+    }
+
+    /// Lets its one object go, of which nothing was asked.
+    pub fn give_up<O: Outside>(self, graph: &mut Graph<Obj>, kind: ChainKind, out: &mut O)
+        requires waits { Awaits kind self graph.old }
+        ensures { ReleasesChain self graph.old graph.new (O.events out.old) (O.events out.new) }
+    {
+        let _kind = kind;
+        let_go(graph, self.top, out);
     }
 
     /// The end of a run: all ports of its objects are closed with this cause, by rising serial and slot, also those that
@@ -152,15 +161,59 @@ impl Chain {
         ensures { IsOpenChain self graph.old → ShutsChain self graph.old graph.new cause.now (O.events out.old)
             (O.events out.new) }
     {
+        self.close_ports(graph, cause, now, out);
+        self.let_all_go(graph, out);
+    }
+
+    /// The end of a run where another chain waits beside this one: all ports are closed with this cause, first those of
+    /// what waits; what waits is let go, and then the objects of this one.
+    pub fn shut_down_beside<O: Outside>(
+        self,
+        waits: Chain,
+        kind: ChainKind,
+        graph: &mut Graph<Obj>,
+        cause: &Cause,
+        now: u64,
+        out: &mut O,
+    )
+        requires chained { AreChained graph.old (chain_ids self) }
+        requires waits { Awaits kind waits graph.old }
+        ensures { AreOthers (chain_ids self) (chain_ids waits) → IsOpenChain self graph.old
+            → ShutsChainBeside self waits graph.old graph.new cause.now (O.events out.old) (O.events out.new) }
+    {
+        let _kind = kind;
+        graph.has_nodes();
+        waits.close_ports(graph, cause, now, out);
+        graph.has_nodes();
+        self.close_ports(graph, cause, now, out);
+        waits.let_all_go(graph, out);
+        self.let_all_go(graph, out);
+    }
+
+    /// Closes all ports of its objects, the free ones last.
+    fn close_ports<O: Outside>(self, graph: &mut Graph<Obj>, cause: &Cause, now: u64, out: &mut O)
+        requires { AreChained graph.old (chain_ids self) }
+        ensures on { GoesOn (chain_ids self) graph.old graph.new }
+        ensures closes { IsOpenChain self graph.old → ClosesPorts self graph.old graph.new cause.now (O.events out.old)
+            (O.events out.new) }
+    {
         self.close(graph, cause, now, out);
         graph.has_nodes();
         close_free(graph, self.top, cause, now, out);
         match self.below {
+            None => {}
+            Some(below) => close_free(graph, below, cause, now, out),
+        }
+    }
+
+    /// Lets its objects go, the top one first, where they have no link.
+    fn let_all_go<O: Outside>(self, graph: &mut Graph<Obj>, out: &mut O)
+        ensures { HasNoLinks self.below self.top.0 graph.old → ReleasesChain self graph.old graph.new
+            (O.events out.old) (O.events out.new) }
+    {
+        match self.below {
             None => let_go(graph, self.top, out),
-            Some(below) => {
-                close_free(graph, below, cause, now, out);
-                let_both_go(graph, self.top, below, out);
-            }
+            Some(below) => let_both_go(graph, self.top, below, out),
         }
     }
 

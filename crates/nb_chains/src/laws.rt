@@ -2,8 +2,8 @@
 
 ghost use Rattle.std.specs.Prelude.{◌≡◌, ℕ, List, Option, []};
 ghost use Rattle.nb_chains.specs.Calls.{IsChainUnderWay, IsOpenChain};
-ghost use Rattle.nb_chains.specs.Chains.{AreChained, AreOthers, GoesOn, GrowsBy, IsReadyChain, IsReleased, StaysChained, chain_ids};
-ghost use Rattle.nb_chains.specs.Giving.{ChainGives};
+ghost use Rattle.nb_chains.specs.Chains.{AreChained, AreOthers, Awaits, GoesOn, GrowsBy, IsReadyChain, IsReleased, StaysChained, chain_ids};
+ghost use Rattle.nb_chains.specs.Giving.{CallGives, ChainGives};
 ghost use Rattle.nb_chains.specs.Shapes.{HasShape, RunsInOrder, SendsNone};
 ghost use Rattle.nb_chains.specs.declared.chain.Chain.{Chain as TheChain};
 ghost use Rattle.nb_chains.specs.declared.kind.ChainKind.{ChainKind as TheKind};
@@ -34,6 +34,12 @@ pub fn chains_are_open()
         → IsOpenChain c g }
 {}
 
+/// What waits is no object of an open that is under way, of which something was asked.
+pub fn waiting_ones_are_apart()
+    ensures { (kind other : TheKind) (w c : TheChain) (g : Objects TheObj) → AreNoded rank_of_obj g → Awaits kind w g
+        → AreChained g (chain_ids c) → IsChainUnderWay other c g → AreOthers (chain_ids c) (chain_ids w) }
+{}
+
 /// The events of a call whose notices have a shape are those before what goes down and those after it, in that order.
 pub fn calls_run_in_order()
     ensures shaped { (c : TheChain) (x : ℕ) (g h : Objects TheObj) (m n : Heard) (ns : List Notice)
@@ -41,4 +47,7 @@ pub fn calls_run_in_order()
         → RunsInOrder (IsEventWithin (is_one_of (chain_ids c))) x g h s.first s.back }
     ensures above { (c : TheChain) (x : ℕ) (g h : Objects TheObj) (m n : Heard) (ns : List Notice)
         → ChainGives c g h m n ns → SendsNone x ns → RunsInOrder (IsEventWithin (is_one_of (chain_ids c))) x g h [] ns }
+    ensures among { (ids : List ℕ) (x : ℕ) (g h : Objects TheObj) (m n : Heard) (ns : List Notice)
+        → CallGives (IsEventWithin (is_one_of ids)) g h m n ns → SendsNone x ns
+        → RunsInOrder (IsEventWithin (is_one_of ids)) x g h [] ns }
 {}

@@ -13,4 +13,4 @@ mod making;
 
 pub use chain::Chain;
 pub use kind::ChainKind;
-pub use laws::{calls_run_in_order, chains_are_open, other_chains_stay};
+pub use laws::{calls_run_in_order, chains_are_open, other_chains_stay, waiting_ones_are_apart};

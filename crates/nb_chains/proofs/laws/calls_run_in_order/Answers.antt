@@ -9,3 +9,6 @@ returns-clause-shaped c = λ chain. runs_in_order (IsEventWithin (is_one_of (cha
 
 pub returns-clause-above : goal.returns-clause-above
 returns-clause-above c = λ chain. runs_above (IsEventWithin (is_one_of (chain_ids chain)))
+
+pub returns-clause-among : goal.returns-clause-among
+returns-clause-among c = λ ids. runs_above (IsEventWithin (is_one_of ids))
