@@ -31,7 +31,7 @@ use Rattle.nb_machine.specs.States.{bare}
 use Rattle.nb_laws.specs.Events.{Event, hears}
 use Rattle.nb_laws.specs.Histories.{client}
 use Rattle.nb_laws.specs.Lists.{time, call_at, came_in}
-use Rattle.nb_lawful.proofs.UsedEvents.{IsUsed, live_one, no_call}
+use Rattle.nb_openlaws.proofs.UsedEvents.{IsUsed, live_one, no_call}
 use Rattle.nb_boot.specs.Stepped.{NoneLives}
 use Rattle.nb_boot.proofs.Places.{opening_of, opening_by, lone_opening, KnowsWorld, KnowsOpen, KnowsLone, IsOnly}
 

@@ -11,7 +11,7 @@ use Rattle.nb_tftp.specs.History.{Call, ticked}
 use Rattle.nb_opens.specs.Graphs.{is_graph, without_graph}
 use Rattle.nb_laws.specs.Events.{Event, starts, hears, waits, stops, puts, written_by, EachEvent}
 use Rattle.nb_laws.specs.Lists.{Opening, live, call_at, came_in, time}
-use Rattle.nb_lawful.proofs.UsedEvents.{IsUsed}
+use Rattle.nb_openlaws.proofs.UsedEvents.{IsUsed}
 use Rattle.nb_laws.proofs.Histories.{gathered_one}
 use Rattle.nb_laws.proofs.Tellings.{told}
 use Rattle.nb_traced.specs.LowestObjects.{GraphSoFar, graph_by, is_it, is_from_outside}

@@ -10,7 +10,7 @@ use Rattle.nb_opens.specs.Graphs.{is_graph, without_graph}
 use Rattle.nb_laws.specs.Events.{Event, starts, hears, waits, stops, puts, used_by, written_by, put_one, inputs, outputs, EachEvent}
 use Rattle.nb_laws.specs.Histories.{IsRead, client}
 use Rattle.nb_laws.specs.Lists.{Opening, opening_at, openings, is_end_of, open_has_ended, live, time}
-use Rattle.nb_lawful.proofs.UsedEvents.{IsUsed}
+use Rattle.nb_openlaws.proofs.UsedEvents.{IsUsed}
 use Rattle.nb_laws.proofs.Tellings.{told, openings_more, over_more, no_or, no_more}
 use Rattle.nb_boot.specs.Entries.{is_of_graph, plain}
 use Rattle.nb_boot.proofs.EntryScenes.{Scene, scene_by, Unlived, LivesAlone, Fact}

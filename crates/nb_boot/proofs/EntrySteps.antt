@@ -20,7 +20,7 @@ use Rattle.nb_laws.specs.Events.{Event, starts, hears, waits, stops, puts, used_
 use Rattle.nb_laws.specs.Histories.{IsRead, IsHistory, client}
 use Rattle.nb_laws.specs.Lists.{openings, open_has_ended, live, call_at, time, gathered}
 use Rattle.nb_laws.specs.Lawful.{IsLawful}
-use Rattle.nb_lawful.proofs.UsedEvents.{IsUsed}
+use Rattle.nb_openlaws.proofs.UsedEvents.{IsUsed}
 use Rattle.nb_laws.proofs.Histories.{each_append}
 use Rattle.nb_laws.proofs.Tellings.{told}
 use Rattle.nb_traced.specs.LowestObjects.{GraphSoFar, no_graph, graph_by, is_it, is_from_outside}

@@ -15,7 +15,7 @@ use Rattle.nb_laws.specs.Lists.{Opening, live, call_at}
 use Rattle.nb_boot.specs.Stepped.{NoneLives}
 use Rattle.nb_laws.specs.Frames.{WritesSo, TriesSo, IsPut, by_open, IsSent, IsDue, by_call, by_opening, stays_due}
 use Rattle.nb_laws.specs.Frames as frames
-use Rattle.nb_lawful.proofs.UsedEvents.{IsUsed}
+use Rattle.nb_openlaws.proofs.UsedEvents.{IsUsed}
 use Rattle.nb_laws.proofs.Tellings.{told}
 use Rattle.nb_traced.specs.LowestObjects.{GraphSoFar, graph_by, graph_so_far}
 use Rattle.nb_traced.specs.Entries.{IsWithin}

@@ -18,8 +18,8 @@ use Rattle.nb_laws.specs.Histories.{IsHistory, client}
 use Rattle.nb_laws.specs.Lawful.{IsLawful}
 use Rattle.nb_laws.specs.Lists as lists
 use Rattle.nb_laws.specs.Lists.{Opening, openings, open_has_ended, live}
+use Rattle.nb_openlaws.specs.Standings.{live_opening, lives_among, AgreesState, AgreesDevice, AgreesStanding}
 use Rattle.nb_lawful.specs.ScriptAgreement.{ScriptsAgree}
-use Rattle.nb_lawful.specs.Standings.{live_opening, lives_among, AgreesState, AgreesDevice, AgreesStanding}
 use Rattle.nb_lawful.proofs.CourseLaws.{stands_so, keeps_todays}
 use Rattle.nb_lawful.proofs.Devices.{DeviceAgrees}
 use Rattle.nb_lawful.proofs.Runs.{course_story}

@@ -17,7 +17,7 @@ use Rattle.nb_engine.specs.GraphSteps as traced_path
 use Rattle.nb_laws.specs.Events.{Event, starts, hears, waits, stops, puts, used_by, written_by}
 use Rattle.nb_laws.specs.Histories.{IsRead}
 use Rattle.nb_laws.specs.Lists.{Opening, time, openings, open_has_ended, live, call_at, came_in, gathered}
-use Rattle.nb_lawful.proofs.UsedEvents.{IsUsed, live_one}
+use Rattle.nb_openlaws.proofs.UsedEvents.{IsUsed, live_one}
 use Rattle.nb_boot.specs.Stepped.{NoneLives, ShutsLive, StartsSo, AreStepped, nothing, uses, goes_on}
 use Rattle.nb_boot.proofs.Goings.{path_on}
 use Rattle.nb_boot.proofs.Places.{opening_of, lone_opening, KnowsWorld, KnowsLone, StandsSo, lawful_run}

@@ -14,13 +14,13 @@ use Rattle.nb_laws.proofs.Histories.{gathered_append}
 use Rattle.nb_laws.proofs.HandOffs.{last_end_more}
 use Rattle.nb_laws.proofs.SoFar.{so_far_more, nothing_so_far}
 use Rattle.nb_laws.proofs.Tellings.{made_more, openings_more, over_more, no_more, same_number}
+use Rattle.nb_openlaws.specs.OpenEndings.{OpensEndSo}
+use Rattle.nb_openlaws.proofs.UsedEvents.{live_ended}
 use Rattle.nb_lawful.specs.CommandOpens.{CommandOpen, command_open_ended, command_open}
 use Rattle.nb_lawful.specs.OpenPurposes.{OpenStands}
-use Rattle.nb_lawful.specs.OpenEndings.{OpensEndSo}
 use Rattle.nb_lawful.specs.Results.{ResultStands, CommandsSo}
 use Rattle.nb_lawful.proofs.Quiet.{command_open_more}
 use Rattle.nb_lawful.proofs.Awaited.{its}
-use Rattle.nb_lawful.proofs.UsedEvents.{live_ended}
 use Rattle.nb_lawful.proofs.Solitude.{IsSettled, EndsMatch, HasAsked, Solitude, none_lives, settled_by, settled_for, asked_for, IsCalm, live_then, stay_more, calm_then}
 
 no_one : {A : Type 0} (x : A) → [] ≡ x ∷ [] → ⊥

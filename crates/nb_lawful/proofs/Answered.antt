@@ -34,7 +34,7 @@ use Rattle.nb_laws.proofs.Tellings.{told}
 use Rattle.nb_laws.proofs.Commands.{script_as, script_told}
 use Rattle.nb_laws.proofs.HandOffs.{one_keeps, parts_more}
 use Rattle.nb_laws.proofs.SoFar.{over_so_far, left_unasked, result_so_far, shown_sleeps}
-use Rattle.nb_lawful.specs.Standings.{live_opening}
+use Rattle.nb_openlaws.specs.Standings.{live_opening}
 use Rattle.nb_lawful.specs.CommandOpens.{command_open}
 use Rattle.nb_lawful.specs.Results.{by_sleep}
 use Rattle.nb_lawful.specs.ScriptAgreement.{SettingsAre, SleepsUntil, AsksIn, IsToReach, HasImages}

@@ -25,11 +25,11 @@ use Rattle.nb_laws.proofs.Tellings.{told}
 use Rattle.nb_laws.proofs.Commands.{command_begins, may_begin, script_passes, script_begins, script_told}
 use Rattle.nb_laws.proofs.HandOffs.{parts_more, one_keeps, command_keeps, no_command, last_end_more}
 use Rattle.nb_laws.proofs.SoFar.{so_far_more, over_so_far, begun_so_far, begins_so_far, command_so_far, left_quiet, result_so_far, shown_effect_is}
+use Rattle.nb_openlaws.proofs.Puts.{close_ends}
+use Rattle.nb_openlaws.proofs.Doings.{left_by, ends_by, shuts_by, goes_by, waits_by, table_stays, up_stays}
 use Rattle.nb_lawful.specs.Results.{CommandsSo}
 use Rattle.nb_lawful.specs.ScriptAgreement.{SleepsUntil, awaits_time, HasImages, ScriptsAgree}
-use Rattle.nb_lawful.proofs.Puts.{close_ends}
 use Rattle.nb_lawful.proofs.Quiet.{quiet_so_far, quiet_begin, quiet_images, quiet_parts, command_open_more, ends_quiet, ends_fail}
-use Rattle.nb_lawful.proofs.Doings.{left_by, ends_by, shuts_by, goes_by, waits_by, table_stays, up_stays}
 use Rattle.nb_lawful.proofs.Begun.{told_two, stand_then, begins_so, command_stands, jump_stands, no_label_stands, shut_stands, settings_done, settings_begun}
 
 -- records that are written next have their places, and the history agrees with where the scripts stand then

@@ -16,9 +16,9 @@ use Rattle.nb_laws.specs.Events.{Event, puts}
 use Rattle.nb_laws.specs.Lists.{last_end}
 use Rattle.nb_laws.proofs.Tellings.{told, same_number}
 use Rattle.nb_laws.proofs.HandOffs.{IsOpens, AreOpens, last_end_more}
+use Rattle.nb_openlaws.proofs.Puts.{PutsSo, puts_so, over_is}
 use Rattle.nb_lawful.specs.CommandOpens.{CommandOpen, command_open_ended, command_open_by, command_open}
 use Rattle.nb_lawful.specs.ScriptAgreement.{IsAnother}
-use Rattle.nb_lawful.proofs.Puts.{PutsSo, puts_so, over_is}
 use Rattle.nb_lawful.proofs.Quiet.{told_command_open}
 
 -- the command's open, as far as it has come

@@ -20,10 +20,10 @@ use Rattle.nb_laws.proofs.Histories.{each_append}
 use Rattle.nb_laws.proofs.Tellings.{told, made_more}
 use Rattle.nb_laws.proofs.Codes.{code_more, told_code}
 use Rattle.nb_laws.proofs.SoFar.{so_far_more, over_so_far, begun_so_far, begins_so_far, shown_effect_is, shown_table_is, shown_up_is, shown_refused}
+use Rattle.nb_openlaws.proofs.Puts.{AreQuiet}
 use Rattle.nb_lawful.specs.CommandOpens.{command_open}
 use Rattle.nb_lawful.specs.Results.{GivesResult, by_words, by_jump, by_no_label, by_shut, ResultStands, CommandsSo}
 use Rattle.nb_lawful.specs.ScriptAgreement.{SettingsAre}
-use Rattle.nb_lawful.proofs.Puts.{AreQuiet}
 use Rattle.nb_lawful.proofs.Quiet.{command_open_more, quiet_makes_none, quiet_so_far, quiet_commands, quiet_made}
 
 pub told_two : (es : List Event) (a b : List Out) → es ++ told (a ++ b) ≡ (es ++ told a) ++ told b

@@ -20,12 +20,12 @@ use Rattle.nb_machine.specs.Courses as course
 use Rattle.nb_laws.specs.Events.{Event, puts}
 use Rattle.nb_laws.specs.HandOff.{BootsFile}
 use Rattle.nb_laws.proofs.Tellings.{told}
-use Rattle.nb_lawful.specs.Standings.{AgreesState}
-use Rattle.nb_lawful.specs.OpenEndings.{by_hand_off}
+use Rattle.nb_openlaws.specs.Standings.{AgreesState}
+use Rattle.nb_openlaws.specs.OpenEndings.{by_hand_off}
+use Rattle.nb_openlaws.proofs.Networks.{network_agrees}
+use Rattle.nb_openlaws.proofs.Closings.{EndsFor}
 use Rattle.nb_lawful.specs.ScriptAgreement.{ScriptsAgree}
-use Rattle.nb_lawful.proofs.Networks.{network_agrees}
 use Rattle.nb_lawful.proofs.Quiet.{ends_silent}
-use Rattle.nb_lawful.proofs.Closings.{EndsFor}
 use Rattle.nb_lawful.proofs.Opened.{Purpose, for_file, for_query}
 use Rattle.nb_lawful.proofs.CommandEnds.{HasEnded}
 use Rattle.nb_lawful.proofs.Fetched.{fetched_image, boots_file}

@@ -19,7 +19,7 @@ use Rattle.nb_laws.specs.Lists.{made, openings, calls, last_end}
 use Rattle.nb_laws.specs.Cores.{as_dns, as_handed, handed_over, has_its_answer}
 use Rattle.nb_laws.specs.CommandsSoFar.{so_far}
 use Rattle.nb_laws.specs.Agreement.{AgreesScript}
-use Rattle.nb_lawful.specs.Standings.{live_opening, heard_call, heard_calls}
+use Rattle.nb_openlaws.specs.Standings.{live_opening, heard_call, heard_calls}
 use Rattle.nb_lawful.specs.CommandOpens.{command_open, command_end, over_of}
 use Rattle.nb_lawful.specs.ScriptAgreement.{SettingsAre, HasImages}
 use Rattle.nb_lawful.proofs.Awaited.{its}

@@ -31,10 +31,10 @@ use Rattle.nb_laws.proofs.Commands.{script_as, script_told}
 use Rattle.nb_laws.proofs.HandOffs.{brought_more, one_keeps, parts_more, failed_image}
 use Rattle.nb_laws.proofs.Inquiries.{IsFetch, fetches_at_once, fetches_of_host, fetch_of, shown_inquiry_keeps}
 use Rattle.nb_laws.proofs.SoFar.{over_so_far, left_unasked, left_by_host, result_so_far}
-use Rattle.nb_lawful.specs.Standings.{live_opening}
+use Rattle.nb_openlaws.specs.Standings.{live_opening}
+use Rattle.nb_openlaws.proofs.Puts.{close_ends}
 use Rattle.nb_lawful.specs.Results.{CommandsSo}
 use Rattle.nb_lawful.specs.ScriptAgreement.{SettingsAre, FetchesWith}
-use Rattle.nb_lawful.proofs.Puts.{close_ends}
 use Rattle.nb_lawful.proofs.Quiet.{quiet_so_far, quiet_images, quiet_parts, quiet_commands, ends_quiet, ends_silent}
 use Rattle.nb_lawful.proofs.AtOnce.{Goes}
 use Rattle.nb_lawful.proofs.CommandEnds.{HasEnded}

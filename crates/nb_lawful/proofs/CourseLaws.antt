@@ -9,9 +9,9 @@ use Rattle.nb_laws.specs.HandOff.{HandsOff}
 use Rattle.nb_laws.specs.Histories.{IsHistory}
 use Rattle.nb_laws.specs.Lawful.{IsLawful}
 use Rattle.nb_laws.proofs.Histories.{one_history}
+use Rattle.nb_openlaws.specs.Standings.{AgreesStanding}
 use Rattle.nb_lawful.specs.Lawful.{KeepsLaws}
 use Rattle.nb_lawful.specs.ScriptAgreement.{ScriptsAgree}
-use Rattle.nb_lawful.specs.Standings.{AgreesStanding}
 use Rattle.nb_lawful.specs.StateByLists.{IsStateBy}
 use Rattle.nb_lawful.proofs.Runs.{lawful_course, lawful_history, handed_off_all, waiting_state}
 use Rattle.nb_lawful.proofs.StepOpens.{opens_give}

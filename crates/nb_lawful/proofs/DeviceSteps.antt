@@ -12,11 +12,11 @@ use Rattle.nb_laws.specs.Events.{Event, starts, puts, followed}
 use Rattle.nb_laws.specs.Histories.{IsRead, client}
 use Rattle.nb_laws.specs.CommandsSoFar.{so_far}
 use Rattle.nb_laws.proofs.Tellings.{told}
-use Rattle.nb_lawful.specs.Standings.{AgreesDevice, AgreesStanding}
+use Rattle.nb_openlaws.specs.Standings.{AgreesDevice, AgreesStanding}
+use Rattle.nb_openlaws.proofs.Networks.{network_agrees}
+use Rattle.nb_openlaws.proofs.NetworkDevices.{device_follows}
+use Rattle.nb_openlaws.proofs.Courses.{step_event, step_more}
 use Rattle.nb_lawful.specs.ScriptAgreement.{SettingsAre, ScriptsAgree}
-use Rattle.nb_lawful.proofs.Networks.{network_agrees}
-use Rattle.nb_lawful.proofs.NetworkDevices.{device_follows}
-use Rattle.nb_lawful.proofs.Courses.{step_event, step_more}
 use Rattle.nb_lawful.proofs.Begun.{told_two}
 use Rattle.nb_lawful.proofs.Scripted.{network_steps}
 use Rattle.nb_lawful.proofs.Devices.{DeviceAgrees, device_moves, device_stays}

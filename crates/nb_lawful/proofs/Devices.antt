@@ -14,10 +14,10 @@ use Rattle.nb_laws.specs.Histories.{IsRead, client}
 use Rattle.nb_laws.specs.CommandsSoFar.{so_far}
 use Rattle.nb_laws.proofs.Histories.{client_linked}
 use Rattle.nb_laws.proofs.Tellings.{told, client_told}
-use Rattle.nb_lawful.specs.Standings.{AgreesDevice}
+use Rattle.nb_openlaws.specs.Standings.{AgreesDevice}
+use Rattle.nb_openlaws.proofs.Doings.{left_by, ends_by, shuts_by, OpensBy, opens_transfer, opens_query, opens_by}
 use Rattle.nb_lawful.specs.Results.{CommandsSo}
 use Rattle.nb_lawful.specs.ScriptAgreement.{SettingsAre, ScriptsAgree}
-use Rattle.nb_lawful.proofs.Doings.{left_by, ends_by, shuts_by, OpensBy, opens_transfer, opens_query, opens_by}
 
 -- while a script runs or waits, the device is the client of the history
 abbrev pub DeviceAgrees : List Event → Standing → Type 0

@@ -27,7 +27,7 @@ use Rattle.nb_laws.specs.Frames.{result_by}
 use Rattle.nb_laws.specs.HandOff.{wanted_by, is_open_of, image_wanted, image_if, image_by, last_image, images_brought, image_list, BootsFile, boots_at_once, boots_of_host}
 use Rattle.nb_laws.proofs.Tellings.{told, same_number}
 use Rattle.nb_laws.proofs.Inquiries.{IsFetch, fetches_at_once, fetches_of_host, fetch_of}
-use Rattle.nb_lawful.specs.Standings.{live_opening, heard_calls}
+use Rattle.nb_openlaws.specs.Standings.{live_opening, heard_calls}
 use Rattle.nb_lawful.specs.CommandOpens.{command_end}
 use Rattle.nb_lawful.specs.Results.{GivesResult, by_failed_end, by_image, by_image_of_host, ResultStands, CommandsSo}
 use Rattle.nb_lawful.specs.ScriptAgreement.{FetchesWith}

@@ -38,7 +38,7 @@ use Rattle.nb_laws.proofs.Commands.{script_as, script_told}
 use Rattle.nb_laws.proofs.HandOffs.{one_keeps, parts_more}
 use Rattle.nb_laws.proofs.Inquiries.{asks_some, shown_inquiry_keeps}
 use Rattle.nb_laws.proofs.SoFar.{so_far_more, left_by_host}
-use Rattle.nb_lawful.specs.Standings.{live_opening, heard_calls}
+use Rattle.nb_openlaws.specs.Standings.{live_opening, heard_calls}
 use Rattle.nb_lawful.specs.CommandOpens.{command_end}
 use Rattle.nb_lawful.specs.Results.{GivesResult, by_failed_end, by_found, by_echo_of_host, ResultStands}
 use Rattle.nb_lawful.specs.ScriptAgreement.{SettingsAre, IsLiveFor, AsksIn}

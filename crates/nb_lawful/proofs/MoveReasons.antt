@@ -24,21 +24,22 @@ use Rattle.nb_laws.specs.Silence.{IsSilent}
 use Rattle.nb_laws.specs.Agreement.{IsStill, AreStill}
 use Rattle.nb_laws.proofs.Asides.{still_command}
 use Rattle.nb_laws.proofs.Tellings.{told, still_advances, still_tries, still_advanced}
-use Rattle.nb_lawful.specs.Standings.{AgreesState, AgreesDevice}
-use Rattle.nb_lawful.specs.OpenEndings.{OpensEndSo, FramesSo, by_device}
+use Rattle.nb_openlaws.specs.Standings.{AgreesState, AgreesDevice}
+use Rattle.nb_openlaws.specs.OpenEndings.{OpensEndSo, FramesSo, by_device}
+use Rattle.nb_openlaws.specs.OpenReasons.{OpenReasons}
+use Rattle.nb_openlaws.proofs.OpenStates.{still_state}
+use Rattle.nb_openlaws.proofs.Courses.{kept_state, opens_next, onward_next, shuts_keep}
+use Rattle.nb_openlaws.proofs.Sendings.{no_reasons, reasons_then}
+use Rattle.nb_openlaws.proofs.Doings.{shuts_by, opens_by}
+use Rattle.nb_openlaws.proofs.KeptOpens.{AreKept, KeptAt}
+use Rattle.nb_openlaws.proofs.Closings.{EndsFor, closes_reasons}
+use Rattle.nb_openlaws.proofs.FirstReasons.{Opens, begins_reasons, lost_reasons}
 use Rattle.nb_lawful.specs.ScriptAgreement.{ScriptsAgree}
-use Rattle.nb_lawful.proofs.OpenStates.{still_state}
-use Rattle.nb_lawful.proofs.Courses.{kept_state, opens_next, onward_next, shuts_keep}
-use Rattle.nb_lawful.proofs.Sendings.{OpenReasons, no_reasons, reasons_then}
 use Rattle.nb_lawful.proofs.Quiet.{ends_quiet}
-use Rattle.nb_lawful.proofs.Doings.{shuts_by, opens_by}
 use Rattle.nb_lawful.proofs.Begun.{begun_comes, begun_silently, begun_closing}
 use Rattle.nb_lawful.proofs.Opening.{begins_by}
 use Rattle.nb_lawful.proofs.Scripted.{based}
 use Rattle.nb_lawful.proofs.Devices.{opens_device}
-use Rattle.nb_lawful.proofs.KeptOpens.{AreKept, KeptAt}
-use Rattle.nb_lawful.proofs.Closings.{EndsFor, closes_reasons}
-use Rattle.nb_lawful.proofs.FirstReasons.{Opens, begins_reasons, lost_reasons}
 use Rattle.nb_lawful.proofs.OpenWays.{head_is}
 use Rattle.nb_lawful.proofs.Runs.{Story}
 

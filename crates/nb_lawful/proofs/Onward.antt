@@ -26,9 +26,9 @@ use Rattle.nb_laws.proofs.HandOffs.{parts_more, one_keeps, failed_image}
 use Rattle.nb_laws.proofs.Inquiries.{shown_inquiry_keeps}
 use Rattle.nb_laws.proofs.Stays.{inquiry_stays}
 use Rattle.nb_laws.proofs.SoFar.{over_so_far, result_so_far, left_by_host}
+use Rattle.nb_openlaws.specs.Standings.{live_opening}
 use Rattle.nb_lawful.specs.OpenPurposes.{next_for_host}
 use Rattle.nb_lawful.specs.Results.{by_full_next, CommandsSo}
-use Rattle.nb_lawful.specs.Standings.{live_opening}
 use Rattle.nb_lawful.specs.ScriptAgreement.{SettingsAre, IsToReach, ScriptsAgree}
 use Rattle.nb_lawful.proofs.AtOnce.{Goes}
 use Rattle.nb_lawful.proofs.Opened.{UnderWay, Purpose, for_file, for_query, begins_open, finds_none}

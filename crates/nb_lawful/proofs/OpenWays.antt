@@ -23,17 +23,15 @@ use Rattle.nb_laws.specs.Events.{Event}
 use Rattle.nb_laws.specs.Histories.{client}
 use Rattle.nb_laws.specs.Lists.{hardware}
 use Rattle.nb_laws.proofs.Tellings.{told}
-use Rattle.nb_lawful.specs.Standings.{live_opening, AgreesState, AgreesDevice, AgreesStanding}
-use Rattle.nb_lawful.specs.OpenEndings.{HadWay}
-use Rattle.nb_lawful.proofs.KindFacts.{first_of, way_as}
-use Rattle.nb_lawful.proofs.Courses.{step_event, step_more}
-use Rattle.nb_lawful.proofs.Doings.{ends_by, OpensBy, opens_transfer, opens_query, opens_by}
-use Rattle.nb_lawful.proofs.KeptOpens.{around}
+use Rattle.nb_openlaws.specs.Standings.{live_opening, AgreesState, AgreesDevice, AgreesStanding}
+use Rattle.nb_openlaws.specs.OpenEndings.{HadWay}
+use Rattle.nb_openlaws.specs.OpenReasons.{HaveWays}
+use Rattle.nb_openlaws.proofs.KindFacts.{first_of, way_as}
+use Rattle.nb_openlaws.proofs.Courses.{step_event, step_more}
+use Rattle.nb_openlaws.proofs.Doings.{ends_by, OpensBy, opens_transfer, opens_query, opens_by}
+use Rattle.nb_openlaws.proofs.KeptOpens.{around}
 use Rattle.nb_lawful.proofs.StepReasons.{last_lives}
 use Rattle.nb_lawful.proofs.Devices.{DeviceAgrees}
-
-abbrev pub HaveWays : List Event → List Live → Type 0
-HaveWays es ls = AllByRecursion (λ l. HadWay l.number es (live_opening l)) ls
 
 abbrev pub WaysAt : List Event → Standing → Type 0
 WaysAt es course.ready = Unit {0}

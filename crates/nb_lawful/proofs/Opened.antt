@@ -32,10 +32,10 @@ use Rattle.nb_laws.proofs.Tellings.{told, same_number}
 use Rattle.nb_laws.proofs.Commands.{script_as, script_told}
 use Rattle.nb_laws.proofs.HandOffs.{AreOpens, opens_send, parts_more, one_keeps, failed_image, last_end_more}
 use Rattle.nb_laws.proofs.SoFar.{so_far_more, over_so_far, left_quiet, result_so_far}
+use Rattle.nb_openlaws.proofs.Puts.{opens_quiet}
 use Rattle.nb_lawful.specs.CommandOpens.{command_open_by, command_end, over_of}
 use Rattle.nb_lawful.specs.Results.{by_failed_end, CommandsSo}
 use Rattle.nb_lawful.specs.ScriptAgreement.{SettingsAre, FetchesWith, AsksIn, IsAnother, IsAwaited, AwaitsSo, awaits_file, awaits_query, HasImages, ScriptsAgree}
-use Rattle.nb_lawful.proofs.Puts.{opens_quiet}
 use Rattle.nb_lawful.proofs.Quiet.{quiet_so_far, quiet_begin, quiet_images, quiet_parts, quiet_commands, command_open_more}
 use Rattle.nb_lawful.proofs.Awaited.{opens_keep_open}
 use Rattle.nb_lawful.proofs.AtOnce.{Goes}

@@ -32,12 +32,12 @@ use Rattle.nb_laws.proofs.Commands.{may_begin, script_begins}
 use Rattle.nb_laws.proofs.HandOffs.{parts_more, one_keeps}
 use Rattle.nb_laws.proofs.Inquiries.{inquiry_keeps}
 use Rattle.nb_laws.proofs.SoFar.{begun_so_far, begins_so_far, shown_effect_is, shown_table_is}
+use Rattle.nb_openlaws.specs.Standings.{live_opening}
+use Rattle.nb_openlaws.proofs.Doings.{OpensBy, opens_transfer, opens_query, opens_by, table_stays, up_stays}
 use Rattle.nb_lawful.specs.OpenPurposes.{first_for_file, first_for_query, OpenStands}
 use Rattle.nb_lawful.specs.Results.{CommandsSo}
-use Rattle.nb_lawful.specs.Standings.{live_opening}
 use Rattle.nb_lawful.specs.ScriptAgreement.{FetchesWith, IsLiveFor, AsksIn, IsAnother, HasImages, ScriptsAgree}
 use Rattle.nb_lawful.proofs.Quiet.{command_open_more}
-use Rattle.nb_lawful.proofs.Doings.{OpensBy, opens_transfer, opens_query, opens_by, table_stays, up_stays}
 use Rattle.nb_lawful.proofs.Begun.{command_comes, begins_so, settings_begun}
 use Rattle.nb_lawful.proofs.AtOnce.{Goes}
 use Rattle.nb_lawful.proofs.Opened.{UnderWay, Purpose, for_file, for_query, begins_open, finds_none}

@@ -15,9 +15,9 @@ use Rattle.nb_laws.specs.Silence.{IsSilent, AreSilent}
 use Rattle.nb_laws.proofs.Histories.{followed_append}
 use Rattle.nb_laws.proofs.Tellings.{told, made_more}
 use Rattle.nb_laws.proofs.HandOffs.{one_keeps, last_end_more}
+use Rattle.nb_openlaws.proofs.Puts.{IsQuiet, AreQuiet, IsEndWith}
 use Rattle.nb_lawful.specs.CommandOpens.{command_open_by, command_open}
 use Rattle.nb_lawful.specs.Results.{CommandsSo}
-use Rattle.nb_lawful.proofs.Puts.{IsQuiet, AreQuiet, IsEndWith}
 
 pub reply_quiet : (bytes : List ℕ) → AreQuiet (reply_records bytes)
 unfolding IsQuiet

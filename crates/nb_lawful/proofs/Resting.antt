@@ -14,7 +14,7 @@ use Rattle.nb_laws.specs.HandOff.{wanted_by}
 use Rattle.nb_laws.specs.Progress.{NoneOversleeps}
 use Rattle.nb_laws.proofs.Inquiries.{asks_some}
 use Rattle.nb_laws.proofs.SoFar.{shown_sleeps, same_shown, same_seconds, inquiry_rests}
-use Rattle.nb_lawful.specs.Standings.{live_opening}
+use Rattle.nb_openlaws.specs.Standings.{live_opening}
 use Rattle.nb_lawful.specs.ScriptAgreement.{SleepsUntil, FetchesWith, AsksIn, AwaitsSo, awaits_time, awaits_file, awaits_query}
 
 fetch_rests : (es : List Event) (l : Live) (wanted : Wanted) → FetchesWith (so_far es) l wanted → NoneOversleeps es

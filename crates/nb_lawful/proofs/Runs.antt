@@ -9,30 +9,31 @@ use Rattle.nb_machine.specs.Courses as course
 use Rattle.nb_machine.specs.Courses.{Standing, Progress, StepBegins, Proceeds, Course}
 use Rattle.nb_laws.specs.Events.{Event, puts, inputs, outputs, used_by, written_by, EachEvent, EachThen}
 use Rattle.nb_laws.specs.Histories.{IsRead, IsHistory}
-use Rattle.nb_laws.specs.Lists.{last_place, calls, live, open_has_ended, openings, gathered}
+use Rattle.nb_laws.specs.Lists.{last_place, calls, openings, gathered}
 use Rattle.nb_laws.specs.Frames.{TriesSo}
 use Rattle.nb_laws.specs.HandOff.{HandsOff}
 use Rattle.nb_laws.specs.Lawful.{HandsAsBrought}
-use Rattle.nb_laws.specs.Progress.{StepsSo, AdvancesSo, IsAdvanced, NoneIsAnswered, NoneOversleeps}
+use Rattle.nb_laws.specs.Progress.{StepsSo, AdvancesSo, IsAdvanced, NoneOversleeps}
 use Rattle.nb_laws.proofs.Histories.{each_append, each_then_append, one_history}
 use Rattle.nb_laws.proofs.SoFar.{over_rests, nothing_so_far, inquiry_rests}
 use Rattle.nb_laws.proofs.Tellings.{told, tries_later}
 use Rattle.nb_laws.specs.CommandsSoFar.{CommandsSoFar}
 use Rattle.nb_machine.specs.Queries.{for_host}
-use Rattle.nb_lawful.specs.Standings.{live_opening, AreLive, AgreesStanding}
+use Rattle.nb_openlaws.specs.Standings.{live_opening, AreLive, AgreesStanding}
+use Rattle.nb_openlaws.specs.OpenEndings.{OpensEndSo, FramesSo}
+use Rattle.nb_openlaws.specs.OpenReasons.{OpenReasons}
+use Rattle.nb_openlaws.proofs.UsedEvents.{IsUsed, live_one}
+use Rattle.nb_openlaws.proofs.Courses.{step_told, step_event, step_more, step_event_is, step_more_is, move_told, writes_more, uses_none, uses_one, writes_one}
+use Rattle.nb_openlaws.proofs.KeptOpens.{KeptAt, course_kept}
+use Rattle.nb_openlaws.proofs.CourseEvents.{standing_unanswered}
 use Rattle.nb_lawful.specs.StateByLists.{IsLiveBy, IsStateBy}
-use Rattle.nb_lawful.specs.OpenEndings.{OpensEndSo, FramesSo}
 use Rattle.nb_lawful.specs.Results.{CommandsSo}
 use Rattle.nb_lawful.specs.ScriptAgreement.{ScriptsAgree}
 use Rattle.nb_lawful.specs.Lawful.{KeepsLaws}
-use Rattle.nb_lawful.proofs.UsedEvents.{IsUsed, live_one}
 use Rattle.nb_lawful.proofs.Stepping.{used_stands}
-use Rattle.nb_lawful.proofs.Courses.{step_told, step_event, step_more, step_event_is, step_more_is, move_told, writes_more, uses_none, uses_one, writes_one}
-use Rattle.nb_lawful.proofs.Sendings.{OpenReasons}
 use Rattle.nb_lawful.proofs.Scripted.{AnswersAt, step_scripts, move_scripts}
 use Rattle.nb_lawful.proofs.Resting.{waiting_rests}
 use Rattle.nb_lawful.proofs.StepReasons.{course_counts, step_stands}
-use Rattle.nb_lawful.proofs.KeptOpens.{KeptAt, course_kept, none_answered}
 use Rattle.nb_lawful.proofs.OpenWays.{WaysAt, step_ways, move_ways}
 use Rattle.nb_lawful.proofs.Devices.{DeviceAgrees, told_read, move_device}
 use Rattle.nb_lawful.proofs.DeviceSteps.{step_device}
@@ -55,21 +56,6 @@ pub record Story (ins : List In) (outs : List Out) (es : List Event) (p : Standi
   pub advanced : IsAdvanced es
 
 -- WHERE A COURSE STANDS
-
-nothing_unanswered : NoneIsAnswered []
-unfolding live openings open_has_ended gathered
-nothing_unanswered = λ k o is. absurd (let no : [] ≡ o ∷ [] = is in cc no)
-
-pub standing_unanswered : (es : List Event) (outs : List Out) (p : Standing) → AgreesStanding es p → ScriptsAgree es outs p → KeptAt p → NoneIsAnswered es
-standing_unanswered es outs course.ready a h k = subst NoneIsAnswered (sym a) nothing_unanswered
-standing_unanswered es outs (course.running s inner outer) a h k = none_answered es s a k
-standing_unanswered es outs (course.waiting s w) a h k = none_answered es s a k
-standing_unanswered es outs (course.reaching s inner outer next) a h k = none_answered es s a k
-standing_unanswered es outs (course.yielded s inner outer) a h k = none_answered es s a k
-standing_unanswered es outs (course.handing s rest) a h k = none_answered es s a.0 k
-standing_unanswered es outs (course.left s outer cause) a h k = none_answered es s a k
-standing_unanswered es outs (course.handed_off s) a h k = none_answered es s a k
-standing_unanswered es outs (course.stopped s) a h k = none_answered es s a k
 
 pub standing_rests : (es : List Event) (outs : List Out) (p : Standing) → AgreesStanding es p → ScriptsAgree es outs p → NoneOversleeps es
 standing_rests es outs course.ready a h = over_rests es (ap (λ (x : CommandsSoFar). x.is_open) (nothing_so_far es h.0))
@@ -158,7 +144,7 @@ step_story give ins outs es m r added m2 begins t kept counted is =
       ways = step_ways es m r added m2 begins t.base t.ways;
       read = each_one IsRead es e more t.read d.read (told_read (es ++ e ∷ []) more g.stands);
       commands = each_one CommandsSo es e more t.commands (used_stands es e (step_used es m r added m2 begins t.base)) g.stands;
-      steps = each_one StepsSo es e more t.steps (step_stands es outs m r added m2 begins t.base (counted ∙ ap length t.used) (standing_unanswered es outs m.standing t.base t.scripts kept) t.scripts) (told_steps (es ++ e ∷ []) more);
+      steps = each_one StepsSo es e more t.steps (step_stands es outs m r added m2 begins t.base (counted ∙ ap length t.used) (standing_unanswered es m.standing t.base kept) t.scripts) (told_steps (es ++ e ∷ []) more);
       ends = each_one OpensEndSo es e more t.ends x.1 x.4.ends;
       frames = each_one FramesSo es e more t.frames x.2 x.4.frames;
       tries = each_then_append TriesSo [] (es ++ e ∷ []) (told more) tries_later (each_then_append TriesSo [] es (e ∷ []) tries_later t.tries (x.3, tt)) x.4.tries;
@@ -226,7 +212,7 @@ lawful_course give ins outs p c =
         tries = t.tries;
         advances = t.advances;
         advanced = t.advanced;
-        unfinished = standing_unanswered es outs p.standing t.base t.scripts (course_kept ins outs p c);
+        unfinished = standing_unanswered es p.standing t.base (course_kept ins outs p c);
         rested = standing_rests es outs p.standing t.base t.scripts;
         parts = subst (λ z. HandsAsBrought es z) t.written (standing_hands es outs p.standing t.scripts);
       },

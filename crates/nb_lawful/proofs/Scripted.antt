@@ -31,13 +31,13 @@ use Rattle.nb_laws.proofs.Codes.{code_more, told_code}
 use Rattle.nb_laws.proofs.Commands.{told_begun, begun_more}
 use Rattle.nb_laws.proofs.HandOffs.{parts_more, one_keeps, silent_image}
 use Rattle.nb_laws.proofs.SoFar.{so_far_more, silent_so_far, first_so_far, over_rests}
-use Rattle.nb_lawful.specs.Standings.{AreLive, AgreesState, AgreesStanding}
+use Rattle.nb_openlaws.specs.Standings.{AreLive, AgreesState, AgreesStanding}
+use Rattle.nb_openlaws.proofs.Networks.{network_agrees}
+use Rattle.nb_openlaws.proofs.OpenStates as states
+use Rattle.nb_openlaws.proofs.Courses.{step_event, step_more}
+use Rattle.nb_openlaws.proofs.Puts.{close_ends}
 use Rattle.nb_lawful.specs.Results.{CommandsSo}
 use Rattle.nb_lawful.specs.ScriptAgreement.{SettingsAre, IsAnother, HasImages, ScriptsAgree}
-use Rattle.nb_lawful.proofs.Networks.{network_agrees}
-use Rattle.nb_lawful.proofs.OpenStates as states
-use Rattle.nb_lawful.proofs.Courses.{step_event, step_more}
-use Rattle.nb_lawful.proofs.Puts.{close_ends}
 use Rattle.nb_lawful.proofs.Quiet.{silent_stands, quiet_commands, quiet_made, ends_quiet}
 use Rattle.nb_lawful.proofs.Begun.{told_two, stand_then}
 use Rattle.nb_lawful.proofs.AtOnce.{Goes, goes_nowhere, passes_goes, left_goes, does_goes, leaves_goes, jumps_goes, no_label_goes, shuts_goes, sleeps_goes}

@@ -22,43 +22,31 @@ use Rattle.nb_laws.specs.Progress.{AdvancesSo, IsAdvanced}
 use Rattle.nb_laws.specs.Agreement.{AreStill}
 use Rattle.nb_laws.proofs.Asides.{still_conclusion}
 use Rattle.nb_laws.proofs.Tellings.{told}
-use Rattle.nb_lawful.specs.Standings.{AreLive, AgreesState, AgreesDevice}
-use Rattle.nb_lawful.specs.OpenEndings.{OpensEndSo, FramesSo, by_itself}
+use Rattle.nb_openlaws.specs.Standings.{AreLive, AgreesState}
+use Rattle.nb_openlaws.specs.OpenEndings.{OpensEndSo, FramesSo, by_itself}
+use Rattle.nb_openlaws.specs.OpenReasons.{OpensAgree, OpenReasons}
+use Rattle.nb_openlaws.proofs.Takings.{grown}
+use Rattle.nb_openlaws.proofs.UsedEvents.{IsUsed, used_same, made_used, hardware_used}
+use Rattle.nb_openlaws.proofs.LiveStates.{all_same}
+use Rattle.nb_openlaws.proofs.Networks.{network_agrees}
+use Rattle.nb_openlaws.proofs.NetworkReasons.{used_advanced, off_advanced}
+use Rattle.nb_openlaws.proofs.OpenReasons.{network_so}
+use Rattle.nb_openlaws.proofs.Sendings.{no_reasons, reasons_then}
+use Rattle.nb_openlaws.proofs.Courses.{step_event, step_more}
+use Rattle.nb_openlaws.proofs.OpenStates.{still_state}
+use Rattle.nb_openlaws.proofs.KeptOpens.{AreKept, KeptAt, network_kept}
+use Rattle.nb_openlaws.proofs.Closings.{EndsFor, closes_reasons}
 use Rattle.nb_lawful.specs.ScriptAgreement.{ScriptsAgree}
-use Rattle.nb_lawful.proofs.Takings.{grown}
-use Rattle.nb_lawful.proofs.UsedEvents.{IsUsed, used_same, made_used, hardware_used}
-use Rattle.nb_lawful.proofs.LiveStates.{all_same}
-use Rattle.nb_lawful.proofs.Networks.{network_agrees, event_is}
-use Rattle.nb_lawful.proofs.NetworkReasons.{used_advanced, off_advanced, network_reasons}
-use Rattle.nb_lawful.proofs.AllReasons.{TakenSo}
-use Rattle.nb_lawful.proofs.Sendings.{OpenReasons, no_reasons, reasons_then}
-use Rattle.nb_lawful.proofs.Courses.{step_event, step_more}
-use Rattle.nb_lawful.proofs.OpenStates.{still_state}
 use Rattle.nb_lawful.proofs.Begun.{told_two}
 use Rattle.nb_lawful.proofs.Scripted.{AnswersIn, AnswersAt}
-use Rattle.nb_lawful.proofs.KeptOpens.{AreKept, KeptAt, network_kept}
-use Rattle.nb_lawful.proofs.OpenWays.{HaveWays}
-use Rattle.nb_lawful.proofs.Closings.{EndsFor, closes_reasons}
 use Rattle.nb_lawful.proofs.MoveReasons.{AreUnsent, still_reasons, move_reasons}
 use Rattle.nb_lawful.proofs.Booting.{step_boots, hand_off_ends}
 use Rattle.nb_lawful.proofs.Runs.{Story, OpensGive}
 
 -- THE NETWORK'S PART
 
--- what a state of a story has
-record Opened (es : List Event) (s : State) : Type 0 where
-  base : AgreesState es s
-  device : AgreesDevice es s
-  kept : AreKept s.live
-  ways : HaveWays es s.live
-  advanced : IsAdvanced es
-
-network_so : (es : List Event) (s s2 : State) (n : ℕ) (r : In) (put : List Out) (over : List Over) (net : Network s n r put s2 over) (o : Opened es s) (a : AgreesState es s) → TakenSo (es ++ (network_agrees es s n r put s2 over net a).event ∷ []) put over
-network_so es s s2 n r put over net o a =
-    subst (λ e. TakenSo (es ++ e ∷ []) put over) (sym (event_is es s n r put s2 over net a)) (network_reasons es s n r put s2 over net o.base o.device o.kept o.ways o.advanced)
-
 -- the answers of opens that end are as their ends say
-network_answers : (es : List Event) (s : State) → Opened es s → AnswersIn es s
+network_answers : (es : List Event) (s : State) → OpensAgree es s → AnswersIn es s
 network_answers es s o = λ n r put s2 over net a. (network_so es s s2 n r put over net o a).answers
 
 pub answers_so : (ins : List In) (outs : List Out) (es : List Event) (m : Progress) → Story ins outs es m.standing → KeptAt m.standing → AnswersAt es m.standing
@@ -100,7 +88,7 @@ leads_reasons es s inner outer (concludes (boots list kernel)) more p (over, all
 leads_reasons es s inner outer (settles x) more p (none, is) a k adv file = subst (OpenReasons (es ++ told (result x.cause ∷ []))) (sym none) (no_reasons (es ++ told (result x.cause ∷ [])) adv)
 leads_reasons es s inner outer (goes_onward next) more p (none, is) a k adv file = subst (OpenReasons (es ++ told [])) (sym none) (no_reasons (es ++ told []) adv)
 
-answered_reasons : (es : List Event) (outs : List Out) (s s2 : State) (w : Waiting) (n : ℕ) (r : In) (put more : List Out) (over : List Over) (x : Answer) (p : Standing) (net : Network s n r put s2 over) (o : Opened es s) → answer_in s2 r over w.awaited ≡ Some x →
+answered_reasons : (es : List Event) (outs : List Out) (s s2 : State) (w : Waiting) (n : ℕ) (r : In) (put more : List Out) (over : List Over) (x : Answer) (p : Standing) (net : Network s n r put s2 over) (o : OpensAgree es s) → answer_in s2 r over w.awaited ≡ Some x →
     LeadsTo s2 (anew w.script) w.outer (concluded_by s2 w.job x) more p → ScriptsAgree es outs (course.waiting s w) →
     OpenReasons (es ++ (network_agrees es s n r put s2 over net o.base).event ∷ []) (put ++ upshot_records (concluded_by s2 w.job x) ++ more)
 answered_reasons es outs s s2 w n r put more over x p net o some leads h =
@@ -127,7 +115,7 @@ last_off es n = fold-append off_by false es (stops n ∷ [])
 off_ends : (es : List Event) (n : ℕ) → EndsFor stopped_cause (es ++ stops n ∷ [])
 off_ends es n = λ ends all k. by_itself (by_stop refl (told_off (es ++ stops n ∷ []) ends ∙ last_off es n))
 
-off_reasons : (es : List Event) (s : State) (n : ℕ) (put : List Out) (over : List Over) → Opened es s → AllTake s.devices (close stopped_cause) s.live put [] over → OpenReasons (es ++ stops n ∷ []) put
+off_reasons : (es : List Event) (s : State) (n : ℕ) (put : List Out) (over : List Over) → OpensAgree es s → AllTake s.devices (close stopped_cause) s.live put [] over → OpenReasons (es ++ stops n ∷ []) put
 off_reasons es s n put over o all =
     let es1 = es ++ stops n ∷ [] in
     let each : AreLive es1 s.live = all_same es es1 s.live (grown es (stops n ∷ [])) (made_used es (stops n) tt) (hardware_used es (stops n) tt tt) (λ j some. used_same j es (stops n) tt refl) o.base.each in

@@ -11,11 +11,11 @@ use Rattle.nb_laws.specs.Events.{Event, starts, hears, waits, stops, puts, input
 use Rattle.nb_laws.specs.Progress.{NoneIsAnswered, IsStep, IsResumed, by_live, by_count, by_sleep, StepsSo}
 use Rattle.nb_laws.proofs.SoFar.{over_rests, nothing_so_far}
 use Rattle.nb_laws.specs.CommandsSoFar.{CommandsSoFar}
-use Rattle.nb_lawful.specs.Standings.{AgreesLive, AreLive, live_opening, AgreesState, AgreesStanding}
+use Rattle.nb_openlaws.specs.Standings.{AgreesLive, AreLive, live_opening, AgreesState, AgreesStanding}
+use Rattle.nb_openlaws.proofs.UsedEvents.{IsUsed, IsFurther, live_one}
+use Rattle.nb_openlaws.proofs.Networks.{network_agrees}
+use Rattle.nb_openlaws.proofs.Courses.{step_event}
 use Rattle.nb_lawful.specs.ScriptAgreement.{IsAwaited, AwaitsSo, awaits_time, awaits_file, awaits_query, ScriptsAgree}
-use Rattle.nb_lawful.proofs.UsedEvents.{IsUsed, IsFurther, live_one}
-use Rattle.nb_lawful.proofs.Networks.{network_agrees}
-use Rattle.nb_lawful.proofs.Courses.{step_event}
 use Rattle.nb_lawful.proofs.Resting.{waiting_rests, sleeping_comes}
 
 -- THE COUNT

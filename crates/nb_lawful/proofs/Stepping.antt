@@ -24,11 +24,11 @@ use Rattle.nb_laws.proofs.Tellings.{told}
 use Rattle.nb_laws.proofs.Commands.{script_used, script_told}
 use Rattle.nb_laws.proofs.HandOffs.{used_keep, parts_more}
 use Rattle.nb_laws.proofs.SoFar.{so_far_more}
+use Rattle.nb_openlaws.proofs.UsedEvents.{IsUsed, IsFurther}
+use Rattle.nb_openlaws.proofs.Puts.{AreQuiet, take_quiet}
 use Rattle.nb_lawful.specs.CommandOpens.{CommandOpen, command_open_by, command_open}
 use Rattle.nb_lawful.specs.Results.{CommandsSo}
 use Rattle.nb_lawful.specs.ScriptAgreement.{SettingsAre, IsAnother, HasImages}
-use Rattle.nb_lawful.proofs.UsedEvents.{IsUsed, IsFurther}
-use Rattle.nb_lawful.proofs.Puts.{AreQuiet, take_quiet}
 use Rattle.nb_lawful.proofs.Quiet.{reply_quiet, quiet_so_far, quiet_begin, quiet_images, quiet_parts, command_open_more, told_command_open}
 use Rattle.nb_lawful.proofs.Awaited.{its, others_took, with_exchanges, Took, took_on, took_last, snoc_both, took}
 use Rattle.nb_lawful.proofs.Opened.{told_hardware}

@@ -29,9 +29,9 @@ use Rattle.nb_laws.specs.Silence.{AreSilent}
 use Rattle.nb_laws.proofs.Histories.{client_linked}
 use Rattle.nb_laws.proofs.SoFar.{so_far_more, silent_so_far, same_shown}
 use Rattle.nb_laws.proofs.Tellings.{told}
+use Rattle.nb_openlaws.specs.OpenEndings.{HadWay, EndsBecause, by_itself, by_lost_way, by_device, by_hand_off, OpensEndSo, FramesSo}
 use Rattle.nb_lawful.specs.CommandOpens.{CommandOpen, over_of, command_open, command_end}
 use Rattle.nb_lawful.specs.Lawful.{KeepsLaws}
-use Rattle.nb_lawful.specs.OpenEndings.{HadWay, EndsBecause, by_itself, by_lost_way, by_device, by_hand_off, OpensEndSo, FramesSo}
 use Rattle.nb_lawful.specs.OpenPurposes.{OpenIsFor, first_for_file, first_for_query, next_for_host}
 use Rattle.nb_lawful.specs.Results.{GivesResult, by_words, by_jump, by_no_label, by_shut, by_sleep, by_failed_end, by_found, by_image, by_full_next, by_echo_of_host, by_image_of_host, CommandsSo}
 use Rattle.nb_lawful.proofs.Awaited.{its}

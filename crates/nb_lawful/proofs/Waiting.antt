@@ -20,10 +20,10 @@ use Rattle.nb_laws.specs.Lists.{Hardware, hardware, made, ms_of, last_end}
 use Rattle.nb_laws.specs.Cores.{has_its_answer}
 use Rattle.nb_laws.specs.CommandsSoFar.{CommandsSoFar, so_far, shown_effect}
 use Rattle.nb_laws.proofs.Tellings.{told}
-use Rattle.nb_lawful.specs.Standings.{live_opening}
+use Rattle.nb_openlaws.specs.Standings.{live_opening}
+use Rattle.nb_openlaws.proofs.Takings.{AgreesOver, AreOver}
 use Rattle.nb_lawful.specs.CommandOpens.{command_open_by, command_open}
 use Rattle.nb_lawful.specs.ScriptAgreement.{SleepsUntil, FetchesWith, IsLiveFor, AsksIn, IsAnother, IsAwaited, AwaitsSo, awaits_time, awaits_file, awaits_query}
-use Rattle.nb_lawful.proofs.Takings.{AgreesOver, AreOver}
 use Rattle.nb_lawful.proofs.Quiet.{quiet_none}
 use Rattle.nb_lawful.proofs.Awaited.{its, with_exchanges, Took, took_on, took_last}
 use Rattle.nb_lawful.proofs.Stepping.{Leaves, network_took, Came}

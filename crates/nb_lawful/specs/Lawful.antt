@@ -4,7 +4,7 @@ use Rattle.nb_laws.specs.Events.{Event, outputs, EachEvent, EachThen}
 use Rattle.nb_laws.specs.Frames.{TriesSo}
 use Rattle.nb_laws.specs.Lawful.{HandsAsBrought}
 use Rattle.nb_laws.specs.Progress.{StepsSo, AdvancesSo, IsAdvanced, NoneIsAnswered, NoneOversleeps}
-use Rattle.nb_lawful.specs.OpenEndings.{OpensEndSo, FramesSo}
+use Rattle.nb_openlaws.specs.OpenEndings.{OpensEndSo, FramesSo}
 use Rattle.nb_lawful.specs.Results.{CommandsSo}
 
 pub record KeepsLaws (es : List Event) : Type 0 where

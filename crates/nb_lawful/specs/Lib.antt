@@ -1,5 +1,3 @@
-pub mod Standings
-pub mod OpenEndings
 pub mod CommandOpens
 pub mod OpenPurposes
 pub mod Results

@@ -21,7 +21,7 @@ use Rattle.nb_laws.specs.HandOff.{wanted_by, images_brought, image_list, HandsOf
 use Rattle.nb_laws.specs.Progress.{NoneOversleeps}
 use Rattle.nb_laws.specs.Silence.{AreSilent}
 use Rattle.nb_laws.specs.Agreement.{AgreesScript, Asks}
-use Rattle.nb_lawful.specs.Standings.{live_opening}
+use Rattle.nb_openlaws.specs.Standings.{live_opening}
 use Rattle.nb_lawful.specs.CommandOpens.{command_open}
 use Rattle.nb_lawful.specs.OpenPurposes.{HasLookedUp}
 

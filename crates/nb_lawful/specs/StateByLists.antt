@@ -8,7 +8,7 @@ use Rattle.nb_laws.specs.Events.{Event}
 use Rattle.nb_laws.specs.Histories.{client}
 use Rattle.nb_laws.specs.Lists.{time, made, port_offset, hardware, openings, calls}
 use Rattle.nb_laws.specs.Lists as lists
-use Rattle.nb_lawful.specs.Standings.{live_opening, heard_calls, IsKindBy}
+use Rattle.nb_openlaws.specs.Standings.{live_opening, heard_calls, IsKindBy}
 
 -- an open that lives: its OPEN, and all that has come to it; its numbers are those of START's key
 pub record IsLiveBy (es : List Event) (l : Live) : Type 0 where

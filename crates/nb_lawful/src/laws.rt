@@ -9,9 +9,9 @@ ghost use Rattle.nb_laws.specs.Lawful.{IsLawful};
 ghost use Rattle.nb_machine.specs.Courses.{waiting, handed_off, Progress, stands, Course};
 ghost use Rattle.nb_machine.specs.Scripts.{Waiting};
 ghost use Rattle.nb_machine.specs.States.{State};
+ghost use Rattle.nb_openlaws.specs.Standings.{AgreesStanding};
 ghost use Rattle.nb_lawful.specs.Lawful.{KeepsLaws};
 ghost use Rattle.nb_lawful.specs.ScriptAgreement.{ScriptsAgree};
-ghost use Rattle.nb_lawful.specs.Standings.{AgreesStanding};
 ghost use Rattle.nb_lawful.specs.StateByLists.{IsStateBy};
 
 /// The records of a course have one history. It keeps the laws, however many opens live at once: `KeepsLaws`

@@ -16,10 +16,10 @@ use Rattle.nb_machine.specs.Takings.{end_among, Over, AllTake, all_have, lives_o
 use Rattle.nb_laws.specs.Events.{Event, puts}
 use Rattle.nb_laws.specs.Frames.{IsDue, stays_due}
 use Rattle.nb_laws.specs.Lists.{time, made, port_offset, hardware, Opening, openings, open_has_ended, calls, tries, marks, mark_of}
-use Rattle.nb_lawful.specs.OpenEndings.{HadWay}
-use Rattle.nb_lawful.specs.Standings.{heard_call, moment_in, told_tries, heard_calls, exchange_marks, heard_marks, live_opening, IsKindBy, HasOwnPort, IsOngoing, AgreesLive, AreLive, lives_among, AreApart}
+use Rattle.nb_openlaws.specs.OpenEndings.{HadWay}
+use Rattle.nb_openlaws.specs.Standings.{heard_call, moment_in, told_tries, heard_calls, exchange_marks, heard_marks, live_opening, IsKindBy, HasOwnPort, IsOngoing, AgreesLive, AreLive, lives_among, AreApart}
 use Rattle.nb_laws.proofs.Tellings.{told, no_more}
-use Rattle.nb_lawful.proofs.OpenRecords.{all_append, AreOf, ends_in, left, of_later, other_tries, other_ends, end_among_is, IsPutBy, kept_puts}
+use Rattle.nb_openlaws.proofs.OpenRecords.{all_append, AreOf, ends_in, left, of_later, other_tries, other_ends, end_among_is, IsPutBy, kept_puts}
 
 -- the history says the same of open j
 pub record SameAt (j : ℕ) (a b : List Event) : Type 0 where

@@ -29,11 +29,11 @@ use Rattle.nb_laws.specs.Lists.{hardware, Opening, live}
 use Rattle.nb_laws.specs.Cores.{answers_open, has_its_answer}
 use Rattle.nb_laws.specs.Progress.{NoneIsAnswered}
 use Rattle.nb_laws.proofs.Calls.{got_same}
-use Rattle.nb_lawful.specs.Standings.{AgreesLive, AreLive, live_opening, lives_among, AgreesState}
-use Rattle.nb_lawful.proofs.UsedEvents.{live_one}
-use Rattle.nb_lawful.proofs.LastEntries.{did_so}
-use Rattle.nb_lawful.proofs.KindFacts.{unanswered_as}
-use Rattle.nb_lawful.proofs.Doings.{ends_by, OpensBy, opens_transfer, opens_query, opens_by}
+use Rattle.nb_openlaws.specs.Standings.{AgreesLive, AreLive, live_opening, lives_among, AgreesState}
+use Rattle.nb_openlaws.proofs.UsedEvents.{live_one}
+use Rattle.nb_openlaws.proofs.LastEntries.{did_so}
+use Rattle.nb_openlaws.proofs.KindFacts.{unanswered_as}
+use Rattle.nb_openlaws.proofs.Doings.{ends_by, OpensBy, opens_transfer, opens_query, opens_by}
 
 abbrev pub AreKept : List Live → Type 0
 AreKept ls = AllByRecursion Keeps ls

@@ -37,17 +37,18 @@ use Rattle.nb_machine.specs.Lives.{OpenKind, tftp, dns, dhcp, ping, OpenInput, m
 use Rattle.nb_machine.specs.Kinds.{KeepsBy}
 use Rattle.nb_machine.specs.Transfers.{transfer_of, earlier, finds_none, end_records}
 use Rattle.nb_machine.specs.Takings.{end_among}
-use Rattle.nb_lawful.specs.Standings.{heard_call, heard_calls, heard_marks, moment_in, told_tries, IsKindBy, HasOwnPort, IsOngoing}
-use Rattle.nb_lawful.specs.OpenEndings.{HadWay, EndsBecause, by_itself, by_lost_way}
-use Rattle.nb_lawful.proofs.Takings.{IsNow, IsDueBy, way_stays, grown}
-use Rattle.nb_lawful.proofs.OpenRecords.{of_acts}
-use Rattle.nb_lawful.proofs.UsedEvents.{live_one}
-use Rattle.nb_lawful.proofs.NetworkDevices.{client_some, some_of}
-use Rattle.nb_lawful.proofs.OpenEntries.{acts_end, untried_tries, Did}
-use Rattle.nb_lawful.proofs.LastEntries.{Promised, exchange_end, EndsUntried, TookAs, LastAs, took_as, closed_as, last_as, DidSo, did_so}
-use Rattle.nb_lawful.proofs.Sendings.{OpenReasons, reasons_then, MaySend, core_reasons, transfer_reasons, each_open}
-use Rattle.nb_lawful.proofs.KindFacts.{opening_as, first_of, unanswered_as, IsCore, core_asks, core_ends, no_way_as}
-use Rattle.nb_lawful.proofs.TransferEnds.{within_limit, transfer_holds}
+use Rattle.nb_openlaws.specs.Standings.{heard_call, heard_calls, heard_marks, moment_in, told_tries, IsKindBy, HasOwnPort, IsOngoing}
+use Rattle.nb_openlaws.specs.OpenEndings.{HadWay, EndsBecause, by_itself, by_lost_way}
+use Rattle.nb_openlaws.specs.OpenReasons.{OpenReasons}
+use Rattle.nb_openlaws.proofs.Takings.{IsNow, IsDueBy, way_stays, grown}
+use Rattle.nb_openlaws.proofs.OpenRecords.{of_acts}
+use Rattle.nb_openlaws.proofs.UsedEvents.{live_one}
+use Rattle.nb_openlaws.proofs.NetworkDevices.{client_some, some_of}
+use Rattle.nb_openlaws.proofs.OpenEntries.{acts_end, untried_tries, Did}
+use Rattle.nb_openlaws.proofs.LastEntries.{Promised, exchange_end, EndsUntried, TookAs, LastAs, took_as, closed_as, last_as, DidSo, did_so}
+use Rattle.nb_openlaws.proofs.Sendings.{reasons_then, MaySend, core_reasons, transfer_reasons, each_open}
+use Rattle.nb_openlaws.proofs.KindFacts.{opening_as, first_of, unanswered_as, IsCore, core_asks, core_ends, no_way_as}
+use Rattle.nb_openlaws.proofs.TransferEnds.{within_limit, transfer_holds}
 
 -- it has come to an open, were it of this kind, over this client
 pub record ComeAs (kind : OpenKind) (es : List Event) (input : OpenInput) (l : Live) (link : Client) : Type 0 where

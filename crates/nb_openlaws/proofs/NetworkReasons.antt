@@ -21,17 +21,18 @@ use Rattle.nb_machine.specs.Kinds.{Keeps}
 use Rattle.nb_machine.specs.States.{State}
 use Rattle.nb_machine.specs.Takings.{Over}
 use Rattle.nb_machine.specs.Network.{Network, on_net0, passes_by, brings, brings_reply, passes_time}
-use Rattle.nb_lawful.specs.Standings.{live_opening, AgreesLive, AreLive, lives_among, AgreesState, AgreesDevice}
-use Rattle.nb_lawful.specs.OpenEndings.{HadWay}
-use Rattle.nb_lawful.proofs.Takings.{both_false, way_stays, grown}
-use Rattle.nb_lawful.proofs.UsedEvents.{IsUsed, no_call}
-use Rattle.nb_lawful.proofs.HeardFrames.{found, none_datagram, none_reply, none_for, none_at}
-use Rattle.nb_lawful.proofs.Networks.{among_more, front_of, back_of, one_comes, one_replies, network_event}
-use Rattle.nb_lawful.proofs.NetworkDevices.{link_is}
-use Rattle.nb_lawful.proofs.LiveStates.{times_come}
-use Rattle.nb_lawful.proofs.Sendings.{OpenReasons, no_reasons}
-use Rattle.nb_lawful.proofs.ExchangeReasons.{blocks_so}
-use Rattle.nb_lawful.proofs.AllReasons.{IsPlaced, TakenSo, all_reasons, one_reasons}
+use Rattle.nb_openlaws.specs.Standings.{live_opening, AgreesLive, AreLive, lives_among, AgreesState, AgreesDevice}
+use Rattle.nb_openlaws.specs.OpenEndings.{HadWay}
+use Rattle.nb_openlaws.specs.OpenReasons.{OpenReasons}
+use Rattle.nb_openlaws.proofs.Takings.{both_false, way_stays, grown}
+use Rattle.nb_openlaws.proofs.UsedEvents.{IsUsed, no_call}
+use Rattle.nb_openlaws.proofs.HeardFrames.{found, none_datagram, none_reply, none_for, none_at}
+use Rattle.nb_openlaws.proofs.Networks.{among_more, front_of, back_of, one_comes, one_replies, network_event}
+use Rattle.nb_openlaws.proofs.NetworkDevices.{link_is}
+use Rattle.nb_openlaws.proofs.LiveStates.{times_come}
+use Rattle.nb_openlaws.proofs.Sendings.{no_reasons}
+use Rattle.nb_openlaws.proofs.ExchangeReasons.{blocks_so}
+use Rattle.nb_openlaws.proofs.AllReasons.{IsPlaced, TakenSo, all_reasons, one_reasons}
 
 -- EVENTS THAT ARE USED
 

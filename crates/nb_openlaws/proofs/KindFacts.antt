@@ -37,8 +37,8 @@ use Rattle.nb_laws.proofs.Tries.{either_false}
 use Rattle.nb_machine.specs.Lives.{OpenKind, tftp, dns, dhcp, ping, kind_number, Live}
 use Rattle.nb_machine.specs.Transfers.{transfer_of}
 use Rattle.nb_machine.specs.Cores.{look_up_of, ping_of}
-use Rattle.nb_lawful.specs.Standings.{IsKindBy}
-use Rattle.nb_lawful.proofs.LastEntries.{Promised}
+use Rattle.nb_openlaws.specs.Standings.{IsKindBy}
+use Rattle.nb_openlaws.proofs.LastEntries.{Promised}
 
 -- the opening of an open, were it of this kind
 abbrev pub opening_as : OpenKind → Live → Opening

@@ -39,9 +39,9 @@ use Rattle.nb_machine.specs.Transfers.{transfer_of, arrival_of, end_records, tra
 use Rattle.nb_machine.specs.Cores as cores
 use Rattle.nb_machine.specs.Cores.{look_up_of, ping_of, core_end, core_records, CoreExchanged, KeepsCore}
 use Rattle.nb_machine.specs.Kinds.{KeepsBy}
-use Rattle.nb_lawful.specs.Standings.{heard_port, heard_call, moment_in, HasOwnPort, IsOngoing}
-use Rattle.nb_lawful.proofs.OpenRecords.{snoc_one, no_snoc}
-use Rattle.nb_lawful.proofs.OpenEntries.{IsFit, Did, did_transfer, ReadsAs, did_core, transfer_fit, all_front, all_last, each_front}
+use Rattle.nb_openlaws.specs.Standings.{heard_port, heard_call, moment_in, HasOwnPort, IsOngoing}
+use Rattle.nb_openlaws.proofs.OpenRecords.{snoc_one, no_snoc}
+use Rattle.nb_openlaws.proofs.OpenEntries.{IsFit, Did, did_transfer, ReadsAs, did_core, transfer_fit, all_front, all_last, each_front}
 
 -- WHAT CORES OF ONE OBJECT ASK
 

@@ -12,17 +12,17 @@ use Rattle.nb_machine.specs.States.{State, net0}
 use Rattle.nb_machine.specs.Takings.{Over, AllTake, all_have, lives_on, is_over}
 use Rattle.nb_machine.specs.Network.{on_net0, Network, passes_by, brings, brings_reply, passes_time}
 use Rattle.nb_laws.specs.Events.{Event, hears, waits, puts}
-use Rattle.nb_lawful.specs.Standings.{AgreesState, AgreesDevice}
+use Rattle.nb_openlaws.specs.Standings.{AgreesState, AgreesDevice}
 use Rattle.nb_laws.proofs.Tellings.{told}
-use Rattle.nb_lawful.proofs.OpenRecords.{IsOf, AreOf, all_append}
+use Rattle.nb_openlaws.proofs.OpenRecords.{IsOf, AreOf, all_append}
 use Rattle.std.proofs.Common.{take, drop}
 use Rattle.nb_defs.specs.Records.{command, result}
 use Rattle.nb_stack.specs.Brings.{Brings}
 use Rattle.nb_laws.specs.CommandsSoFar.{so_far, so_far_by, CommandsSoFar}
 use Rattle.nb_laws.specs.Histories.{IsRead, client}
 use Rattle.nb_laws.proofs.Histories.{client_put, client_hears, client_waits}
-use Rattle.nb_lawful.proofs.OpenRecords.{kept_puts}
-use Rattle.nb_lawful.proofs.Networks.{network_event, event_is, network_agrees}
+use Rattle.nb_openlaws.proofs.OpenRecords.{kept_puts}
+use Rattle.nb_openlaws.proofs.Networks.{network_event, event_is, network_agrees}
 
 -- THE CLIENT AND ITS NEIGHBOURS
 

@@ -5,10 +5,10 @@ use Rattle.nb_tftp.specs.History.{ticked}
 use Rattle.nb_machine.specs.Lives.{OpenInput, Live}
 use Rattle.nb_laws.specs.Events.{Event, starts, hears, waits, stops, puts}
 use Rattle.nb_laws.specs.Lists.{time, made, port_offset, hardware, opens_by, Opening, opening_at, openings, is_end_of, open_has_ended, live, came_in, call_at, calls, mark_of, mark_at, marks}
-use Rattle.nb_lawful.specs.Standings.{heard_call, live_opening, IsKindBy, HasOwnPort, AgreesLive}
+use Rattle.nb_openlaws.specs.Standings.{heard_call, live_opening, IsKindBy, HasOwnPort, AgreesLive}
 use Rattle.nb_laws.proofs.Histories.{offset_more, hardware_more}
 use Rattle.nb_laws.proofs.Tellings.{made_more, openings_more, calls_more, marks_more, over_more, no_more, no_or}
-use Rattle.nb_lawful.proofs.Takings.{SameAt, IsNow, IsDueBy, HasCome}
+use Rattle.nb_openlaws.proofs.Takings.{SameAt, IsNow, IsDueBy, HasCome}
 
 -- AN EVENT THAT IS USED
 

@@ -21,7 +21,7 @@ use Rattle.nb_machine.specs.Kinds.{KeepsBy, Keeps}
 use Rattle.nb_machine.specs.Takings.{end_told, end_among}
 use Rattle.nb_laws.specs.Events.{Event, puts}
 use Rattle.nb_laws.specs.Lists.{time, made, port_offset, hardware, mark_at, opens_by, opening_at, openings, is_end_of, open_has_ended, calls, tries, marks}
-use Rattle.nb_lawful.specs.Standings.{told_try, told_tries}
+use Rattle.nb_openlaws.specs.Standings.{told_try, told_tries}
 use Rattle.nb_laws.proofs.Tellings.{told, made_more, openings_more, calls_more, marks_more, over_more, no_more}
 use Rattle.nb_laws.proofs.Histories.{time_more, offset_more, hardware_more}
 

@@ -20,13 +20,14 @@ use Rattle.nb_machine.specs.Lives.{OpenInput, time as time_came, exchange, Live,
 use Rattle.nb_machine.specs.Kinds.{Keeps}
 use Rattle.nb_machine.specs.States.{net0}
 use Rattle.nb_machine.specs.Takings.{Over, AllTake, all_have, lives_on, is_over}
-use Rattle.nb_lawful.specs.Standings.{live_opening, heard_call, heard_calls, AreApart}
-use Rattle.nb_lawful.specs.OpenEndings.{HadWay}
-use Rattle.nb_lawful.proofs.OpenRecords.{all_append, AreLater, left, of_later, kept_puts}
-use Rattle.nb_lawful.proofs.Takings.{HasCome, AllCome, tail_come, way_stays, grown}
-use Rattle.nb_lawful.proofs.NetworkDevices.{client_some, some_of}
-use Rattle.nb_lawful.proofs.Sendings.{OpenReasons, no_reasons, reasons_then}
-use Rattle.nb_lawful.proofs.ExchangeReasons.{blocks_so, IsTaken, ExchangeSo, exchange_so}
+use Rattle.nb_openlaws.specs.Standings.{live_opening, heard_call, heard_calls, AreApart}
+use Rattle.nb_openlaws.specs.OpenEndings.{HadWay}
+use Rattle.nb_openlaws.specs.OpenReasons.{OpenReasons}
+use Rattle.nb_openlaws.proofs.OpenRecords.{all_append, AreLater, left, of_later, kept_puts}
+use Rattle.nb_openlaws.proofs.Takings.{HasCome, AllCome, tail_come, way_stays, grown}
+use Rattle.nb_openlaws.proofs.NetworkDevices.{client_some, some_of}
+use Rattle.nb_openlaws.proofs.Sendings.{no_reasons, reasons_then}
+use Rattle.nb_openlaws.proofs.ExchangeReasons.{blocks_so, IsTaken, ExchangeSo, exchange_so}
 
 -- what an open asks for has come, or not, whatever is written
 pub answer_on : (es : List Event) (outs : List Out) (k : ℕ) (o : Opening) → AreLater outs → has_its_answer k o (es ++ told outs) ≡ has_its_answer k o es

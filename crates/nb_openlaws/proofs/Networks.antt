@@ -22,17 +22,17 @@ use Rattle.nb_machine.specs.Takings.{Over, AllTake, all_have, lives_on, is_over}
 use Rattle.nb_machine.specs.Network.{on_net0, Network, passes_by, brings, brings_reply, passes_time}
 use Rattle.nb_laws.specs.Events.{Event, hears, waits, used_by, written_by}
 use Rattle.nb_laws.specs.Lists.{time, ms_of, made, Hardware, hardware, call_at}
-use Rattle.nb_lawful.specs.Standings.{AgreesLive, AreLive, has_live_number, lives_among, AreApart, AgreesState, told_tries}
+use Rattle.nb_openlaws.specs.Standings.{AgreesLive, AreLive, has_live_number, lives_among, AreApart, AgreesState, told_tries}
 use Rattle.nb_laws.proofs.Histories.{time_more}
 use Rattle.nb_laws.specs.Frames.{by_call}
 use Rattle.nb_machine.specs.Scripts.{net0_mac}
 use Rattle.nb_laws.proofs.Tellings.{told, live_same}
-use Rattle.nb_lawful.proofs.OpenRecords.{AreLater, ends_in, all_append}
-use Rattle.nb_lawful.proofs.Takings.{SameAt, then_same, Grows, grown, grows_on, HasCome, AreOver, or_first, or_second, both_false, flip_other, all_taken}
+use Rattle.nb_openlaws.proofs.OpenRecords.{AreLater, ends_in, all_append}
+use Rattle.nb_openlaws.proofs.Takings.{SameAt, then_same, Grows, grown, grows_on, HasCome, AreOver, or_first, or_second, both_false, flip_other, all_taken}
 use Rattle.std.proofs.Common.{take, drop}
-use Rattle.nb_lawful.proofs.UsedEvents.{IsUsed, IsFurther, live_ended, no_call, made_used, used_same, offset_used, hardware_used, has_come}
-use Rattle.nb_lawful.proofs.HeardFrames.{for_as_told, reply_as_told, heard_by, one_heard, own_of_datagram, one_echoed, own_of_reply, both_true, none_datagram, none_reply, none_for, found, none_at}
-use Rattle.nb_lawful.proofs.LiveStates.{all_same, nothing_came, as_state, quiet_state, times_come, time_agrees}
+use Rattle.nb_openlaws.proofs.UsedEvents.{IsUsed, IsFurther, live_ended, no_call, made_used, used_same, offset_used, hardware_used, has_come}
+use Rattle.nb_openlaws.proofs.HeardFrames.{for_as_told, reply_as_told, heard_by, one_heard, own_of_datagram, one_echoed, own_of_reply, both_true, none_datagram, none_reply, none_for, found, none_at}
+use Rattle.nb_openlaws.proofs.LiveStates.{all_same, nothing_came, as_state, quiet_state, times_come, time_agrees}
 
 -- SOMETHING COMES TO ONE OF THEM
 

@@ -26,13 +26,14 @@ use Rattle.nb_laws.specs.Frames.{MayAskFor, by_transfer, by_look_up, by_discover
 use Rattle.nb_laws.specs.Progress.{IsAdvanced}
 use Rattle.nb_laws.proofs.Histories.{client_put, hardware_more}
 use Rattle.nb_laws.proofs.Tellings.{advanced_open, calls_more, over_more}
-use Rattle.nb_lawful.specs.Standings.{live_opening, IsKindBy, AgreesState}
-use Rattle.nb_lawful.specs.OpenEndings.{by_itself}
-use Rattle.nb_lawful.proofs.UsedEvents.{live_one}
-use Rattle.nb_lawful.proofs.Sendings.{OpenReasons, reasons_then, NewestBy, MaySend, send_reasons}
-use Rattle.nb_lawful.proofs.KindFacts.{opening_as, first_of, no_way_as}
-use Rattle.nb_lawful.proofs.OpenStates.{IsNext, opens_here, hardware_now}
-use Rattle.nb_lawful.proofs.Closings.{ended_advanced}
+use Rattle.nb_openlaws.specs.Standings.{live_opening, IsKindBy, AgreesState}
+use Rattle.nb_openlaws.specs.OpenEndings.{by_itself}
+use Rattle.nb_openlaws.specs.OpenReasons.{OpenReasons}
+use Rattle.nb_openlaws.proofs.UsedEvents.{live_one}
+use Rattle.nb_openlaws.proofs.Sendings.{reasons_then, NewestBy, MaySend, send_reasons}
+use Rattle.nb_openlaws.proofs.KindFacts.{opening_as, first_of, no_way_as}
+use Rattle.nb_openlaws.proofs.OpenStates.{IsNext, opens_here, hardware_now}
+use Rattle.nb_openlaws.proofs.Closings.{ended_advanced}
 
 -- ITS FIRST MESSAGE
 

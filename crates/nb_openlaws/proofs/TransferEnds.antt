@@ -27,7 +27,7 @@ use Rattle.nb_laws.proofs.Watches.{watch_told, tries_fired}
 use Rattle.nb_laws.proofs.Tries.{either_false}
 use Rattle.nb_machine.specs.Lives.{Live, tftp}
 use Rattle.nb_machine.specs.Transfers.{transfer_of}
-use Rattle.nb_lawful.proofs.KindFacts.{opening_as}
+use Rattle.nb_openlaws.proofs.KindFacts.{opening_as}
 
 -- what the history says of a transfer's open, after its last entry; its tries, where that was a time
 pub record TransferTold (es : List Event) (l : Live) (h : List Entry) (e : Entry) : Type 0 where

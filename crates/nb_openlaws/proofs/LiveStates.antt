@@ -11,14 +11,14 @@ use Rattle.nb_machine.specs.States.{State, with_live, later_by}
 use Rattle.nb_machine.specs.Takings.{Over, AllTake}
 use Rattle.nb_laws.specs.Events.{Event, waits}
 use Rattle.nb_laws.specs.Lists.{time, ms_of, made, Hardware, hardware, Opening, open_has_ended, call_at, tries, marks}
-use Rattle.nb_lawful.specs.Standings.{heard_calls, heard_marks, live_opening, HasOwnPort, AreLive, lives_among, AreApart, AgreesState, told_tries}
+use Rattle.nb_openlaws.specs.Standings.{heard_calls, heard_marks, live_opening, HasOwnPort, AreLive, lives_among, AreApart, AgreesState, told_tries}
 use Rattle.nb_laws.proofs.Histories.{time_more}
 use Rattle.nb_laws.specs.Frames.{by_call}
 use Rattle.nb_machine.specs.Scripts.{net0_mac}
 use Rattle.nb_laws.proofs.Tellings.{told, no_more, live_same}
-use Rattle.nb_lawful.proofs.OpenRecords.{AreLater, ends_in, left}
-use Rattle.nb_lawful.proofs.Takings.{SameAt, then_same, Grows, grown, AllCome, live_on, both_false, all_taken}
-use Rattle.nb_lawful.proofs.UsedEvents.{IsUsed, IsFurther, live_ended, live_one, no_call, made_used, used_same, offset_used, hardware_used, has_come}
+use Rattle.nb_openlaws.proofs.OpenRecords.{AreLater, ends_in, left}
+use Rattle.nb_openlaws.proofs.Takings.{SameAt, then_same, Grows, grown, AllCome, live_on, both_false, all_taken}
+use Rattle.nb_openlaws.proofs.UsedEvents.{IsUsed, IsFurther, live_ended, live_one, no_call, made_used, used_same, offset_used, hardware_used, has_come}
 
 -- THE STATE
 

@@ -28,20 +28,13 @@ use Rattle.nb_laws.proofs.Histories.{each_append, each_then_append, client_put}
 use Rattle.nb_laws.proofs.Tellings.{told, tries_later, still_advanced, advanced_more, blocks_same, place_more, kept, openings_more, calls_more, same_number}
 use Rattle.nb_laws.proofs.Asides.{aside_try}
 use Rattle.nb_laws.proofs.CoreAsks.{CoreAsks, asks_none, asks_one}
-use Rattle.nb_lawful.specs.OpenEndings.{OpensEndSo, FramesSo}
-use Rattle.nb_lawful.proofs.Takings.{due_told}
-use Rattle.nb_lawful.proofs.UsedEvents.{live_one}
+use Rattle.nb_openlaws.specs.OpenEndings.{OpensEndSo, FramesSo}
+use Rattle.nb_openlaws.specs.OpenReasons.{OpenReasons}
+use Rattle.nb_openlaws.proofs.Takings.{due_told}
+use Rattle.nb_openlaws.proofs.UsedEvents.{live_one}
 
 pub told_more : (a b : List Out) → told (a ++ b) ≡ told a ++ told b
 told_more a b = map-append puts a b
-
--- records that are written have their reasons, and each open's last ADVANCE has its last block then
-pub record OpenReasons (es : List Event) (outs : List Out) : Type 0 where
-  pub ends : EachEvent OpensEndSo es (told outs)
-  pub frames : EachEvent FramesSo es (told outs)
-  pub advances : EachEvent AdvancesSo es (told outs)
-  pub tries : EachThen TriesSo es (told outs)
-  pub after : IsAdvanced (es ++ told outs)
 
 pub no_reasons : (es : List Event) → IsAdvanced es → OpenReasons es []
 no_reasons es a = record { ends = tt; frames = tt; advances = tt; tries = tt; after = subst IsAdvanced (sym (append-nil es)) a }

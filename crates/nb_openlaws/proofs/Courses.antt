@@ -21,13 +21,13 @@ use Rattle.nb_machine.specs.Courses as course
 use Rattle.nb_machine.specs.Courses.{Standing, Progress, stands, nowhere, ConclusionLeads, LeadsTo, StepBegins, Proceeds, Course}
 use Rattle.nb_laws.specs.Events.{Event, starts, stops, puts, inputs, outputs, used_by, written_by, put_one}
 use Rattle.nb_laws.specs.Lists.{time, made, port_offset, hardware, gathered, openings, open_has_ended, live, calls, marks}
-use Rattle.nb_lawful.specs.Standings.{AgreesState, AgreesStanding}
+use Rattle.nb_openlaws.specs.Standings.{AgreesState, AgreesStanding}
 use Rattle.nb_laws.proofs.Tellings.{told}
 use Rattle.nb_laws.proofs.Asides.{more_still, still_command, still_conclusion, still_handoff, silent_handoff}
-use Rattle.nb_lawful.proofs.UsedEvents.{IsUsed}
-use Rattle.nb_lawful.proofs.LiveStates.{as_state, nothing_came, close_agrees, SameStart}
-use Rattle.nb_lawful.proofs.Networks.{network_agrees}
-use Rattle.nb_lawful.proofs.OpenStates.{still_state, IsNext, opened_state, failed_state, begun_so}
+use Rattle.nb_openlaws.proofs.UsedEvents.{IsUsed}
+use Rattle.nb_openlaws.proofs.LiveStates.{as_state, nothing_came, close_agrees, SameStart}
+use Rattle.nb_openlaws.proofs.Networks.{network_agrees}
+use Rattle.nb_openlaws.proofs.OpenStates.{still_state, IsNext, opened_state, failed_state, begun_so}
 
 -- WHAT A COMMAND DOES TO THE STATE
 
@@ -276,13 +276,6 @@ move_told es m added m2 (course.opens_no_more n s inner outer next full) a = sti
 move_told es m added m2 (course.hands n s r rest) a = (still_state es (r ∷ []) s (a.1.0, tt) a.0, a.1.1, a.2.1)
 move_told es m added m2 (course.has_handed n s) a = still_state es [] s tt a.0
 
--- a history of the records, with which the standing agrees
-pub record Tells (ins : List In) (outs : List Out) (p : Standing) : Type 0 where
-  pub events : List Event
-  pub used : ins ≡ inputs events
-  pub written : outs ≡ outputs events
-  pub agrees : AgreesStanding events p
-
 -- records are written
 pub writes_more : (outs : List Out) (es : List Event) (more : List Out) → outs ≡ outputs es → outs ++ more ≡ outputs (es ++ told more)
 writes_more outs es more o = ap (λ z. z ++ more) o ∙ sym (flat_map-append put_one es (told more) ∙ ap (λ z. outputs es ++ z) (put_all more))
@@ -298,24 +291,3 @@ pub writes_one : (outs : List Out) (es : List Event) (e : Event) (added more : L
 writes_one outs es e added more o is =
     ap (λ z. outs ++ z) is ∙ sym (append_assoc outs (written_by e ∷ []) more)
     ∙ writes_more (outs ++ written_by e ∷ []) (es ++ e ∷ []) more (ap (λ z. z ++ written_by e ∷ []) o ∙ sym (flat_map-append put_one es (e ∷ [])))
-
--- of every course
-pub course_tells : (ins : List In) (outs : List Out) (p : Progress) → Course ins outs p → Tells ins outs p.standing
-course_tells ins outs p course.begins = record { events = []; used = refl; written = refl; agrees = refl }
-course_tells ins outs p (course.uses ins0 outs0 m0 r added m1 c begins) =
-    let t = course_tells ins0 outs0 m0 c in
-    let b = step_told t.events m0 r added m1 begins t.agrees in
-    record {
-      events = (t.events ++ b.event ∷ []) ++ told b.more;
-      used = uses_none (ins0 ++ r ∷ []) (t.events ++ b.event ∷ []) b.more (uses_one ins0 t.events b.event r t.used b.is_record);
-      written = writes_one outs0 t.events b.event added b.more t.written b.puts_so;
-      agrees = b.agrees;
-    }
-course_tells ins outs p (course.goes_on ins0 outs0 m0 added m1 c moves) =
-    let t = course_tells ins0 outs0 m0 c in
-    record {
-      events = t.events ++ told added;
-      used = uses_none ins0 t.events added t.used;
-      written = writes_more outs0 t.events added t.written;
-      agrees = move_told t.events m0 added m1 moves t.agrees;
-    }

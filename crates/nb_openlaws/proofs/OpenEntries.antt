@@ -34,7 +34,7 @@ use Rattle.nb_machine.specs.Transfers.{arrival_of, finds_none, earlier, end_reco
 use Rattle.nb_machine.specs.Cores as cores
 use Rattle.nb_machine.specs.Cores.{core_end, core_records, CoreExchanged}
 use Rattle.nb_machine.specs.Takings.{end_told, end_among}
-use Rattle.nb_lawful.specs.Standings.{heard_port, heard_call, heard_calls, moment_in, told_try, told_tries, exchange_marks, heard_marks, HasOwnPort, IsOngoing}
+use Rattle.nb_openlaws.specs.Standings.{heard_port, heard_call, heard_calls, moment_in, told_try, told_tries, exchange_marks, heard_marks, HasOwnPort, IsOngoing}
 
 -- ENDS AMONG RECORDS
 

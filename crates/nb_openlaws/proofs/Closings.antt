@@ -11,15 +11,16 @@ use Rattle.nb_machine.specs.Takings.{Over, AllTake, all_have, lives_on, is_over}
 use Rattle.nb_laws.specs.Events.{Event, puts}
 use Rattle.nb_laws.specs.Progress.{IsAdvanced}
 use Rattle.nb_laws.proofs.Tellings.{told, advanced_more}
-use Rattle.nb_lawful.specs.Standings.{live_opening, AgreesLive, AreLive, lives_among, AreApart}
-use Rattle.nb_lawful.specs.OpenEndings.{EndsBecause}
-use Rattle.nb_lawful.proofs.OpenRecords.{left}
-use Rattle.nb_lawful.proofs.Takings.{grown, others_same}
-use Rattle.nb_lawful.proofs.UsedEvents.{live_one}
-use Rattle.nb_lawful.proofs.LiveStates.{all_same}
-use Rattle.nb_lawful.proofs.Sendings.{OpenReasons, no_reasons, reasons_then}
-use Rattle.nb_lawful.proofs.Puts.{puts_so, IsEndWith, closed_put}
-use Rattle.nb_lawful.proofs.KeptOpens.{AreKept, live_unanswered}
+use Rattle.nb_openlaws.specs.Standings.{live_opening, AgreesLive, AreLive, lives_among, AreApart}
+use Rattle.nb_openlaws.specs.OpenEndings.{EndsBecause}
+use Rattle.nb_openlaws.specs.OpenReasons.{OpenReasons}
+use Rattle.nb_openlaws.proofs.OpenRecords.{left}
+use Rattle.nb_openlaws.proofs.Takings.{grown, others_same}
+use Rattle.nb_openlaws.proofs.UsedEvents.{live_one}
+use Rattle.nb_openlaws.proofs.LiveStates.{all_same}
+use Rattle.nb_openlaws.proofs.Sendings.{no_reasons, reasons_then}
+use Rattle.nb_openlaws.proofs.Puts.{puts_so, IsEndWith, closed_put}
+use Rattle.nb_openlaws.proofs.KeptOpens.{AreKept, live_unanswered}
 
 -- why each ends: after any ends with this cause
 abbrev pub EndsFor : Cause → List Event → Type 0

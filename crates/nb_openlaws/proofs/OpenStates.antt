@@ -22,15 +22,15 @@ use Rattle.nb_machine.specs.States.{State, net0, with_opened, with_one_made}
 use Rattle.nb_machine.specs.Scripts.{net0_mac}
 use Rattle.nb_laws.specs.Events.{Event, puts}
 use Rattle.nb_laws.specs.Lists.{time, made, port_offset, Hardware, hardware, opening_at, openings, open_has_ended, calls, tries, marks}
-use Rattle.nb_lawful.specs.Standings.{heard_calls, heard_marks, told_try, told_tries, IsKindBy, IsOngoing, live_opening, AgreesLive, AreLive, lives_among, AreApart, AgreesState}
+use Rattle.nb_openlaws.specs.Standings.{heard_calls, heard_marks, told_try, told_tries, IsKindBy, IsOngoing, live_opening, AgreesLive, AreLive, lives_among, AreApart, AgreesState}
 use Rattle.nb_laws.specs.Agreement.{IsStill, AreStill}
 use Rattle.nb_laws.proofs.Histories.{time_more, offset_more, hardware_more}
 use Rattle.nb_laws.proofs.Tellings.{told, made_more, openings_more, calls_more, marks_more, over_more, no_more, live_same, same_number}
 use Rattle.nb_laws.proofs.Asides.{own_send}
-use Rattle.nb_lawful.proofs.OpenRecords.{AreOf, IsLater, AreLater, is_end_record, ends_in, left, all_append, of_later, of_send, other_tries, other_ends}
-use Rattle.nb_lawful.proofs.Takings.{SameAt, then_same, or_first, or_second, both_false}
-use Rattle.nb_lawful.proofs.UsedEvents.{live_ended}
-use Rattle.nb_lawful.proofs.LiveStates.{quiet_state}
+use Rattle.nb_openlaws.proofs.OpenRecords.{AreOf, IsLater, AreLater, is_end_record, ends_in, left, all_append, of_later, of_send, other_tries, other_ends}
+use Rattle.nb_openlaws.proofs.Takings.{SameAt, then_same, or_first, or_second, both_false}
+use Rattle.nb_openlaws.proofs.UsedEvents.{live_ended}
+use Rattle.nb_openlaws.proofs.LiveStates.{quiet_state}
 
 -- RECORDS THAT TELL NOTHING OF AN OPEN
 

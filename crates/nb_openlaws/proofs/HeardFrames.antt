@@ -15,9 +15,9 @@ use Rattle.nb_machine.specs.States.{State, net0}
 use Rattle.nb_machine.specs.Network.{is_for_one}
 use Rattle.nb_laws.specs.Events.{Event, hears}
 use Rattle.nb_laws.specs.Lists.{time, Opening, counts_from, takes_reply, came_in, call_at}
-use Rattle.nb_lawful.specs.Standings.{heard_call, live_opening, HasOwnPort, AgreesLive, AreLive, lives_among, AgreesState}
-use Rattle.nb_lawful.proofs.Takings.{or_first, or_second}
-use Rattle.nb_lawful.proofs.UsedEvents.{IsUsed, live_one, no_call}
+use Rattle.nb_openlaws.specs.Standings.{heard_call, live_opening, HasOwnPort, AgreesLive, AreLive, lives_among, AgreesState}
+use Rattle.nb_openlaws.proofs.Takings.{or_first, or_second}
+use Rattle.nb_openlaws.proofs.UsedEvents.{IsUsed, live_one, no_call}
 
 -- WHAT A FRAME BRINGS
 

@@ -1,0 +1,4 @@
+pub mod Standings
+pub mod OpenEndings
+pub mod CourseEvents
+pub mod OpenReasons
