@@ -1,0 +1,5 @@
+pub mod DriveEffectLemmas
+pub mod StreamCutLemmas
+pub mod SessionLemmas
+pub mod LoginAnswerLemmas
+pub mod AskLemmas
