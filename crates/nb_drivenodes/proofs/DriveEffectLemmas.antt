@@ -15,10 +15,10 @@ use Rattle.nb_drivenodes.specs.DriveEffects.{TextCarrier, DriveEffects, OnlyFirs
 use Rattle.nb_drivenodes.specs.SessionTalks.{IsNoEmit}
 
 -- two messages, by what they are
-drive-said-by : {L : Type 0} (k : TextCarrier L) (m : Said) (f : Few (Emit L)) (o p : Option (Emit L)) → f.first ≡ o → f.second ≡ p → drive_say k m f ≡ map (drive_says k m) (in_list o ++ in_list p)
+pub drive-said-by : {L : Type 0} (k : TextCarrier L) (m : Said) (f : Few (Emit L)) (o p : Option (Emit L)) → f.first ≡ o → f.second ≡ p → drive_say k m f ≡ map (drive_says k m) (in_list o ++ in_list p)
 drive-said-by {L} k m f o p a b = ap (λ (z : Option (Emit L)). map (drive_says k m) (in_list z ++ in_list f.second)) a ∙ ap (λ (z : Option (Emit L)). map (drive_says k m) (in_list o ++ in_list z)) b
 
-drive-goes-by : {L : Type 0} (P : Emit L → Type 0) (f : Few (Emit L)) (o p : Option (Emit L)) → f.first ≡ o → f.second ≡ p → AllByRecursion P (in_list o ++ in_list p) → AllByRecursion P (emits_of f)
+pub drive-goes-by : {L : Type 0} (P : Emit L → Type 0) (f : Few (Emit L)) (o p : Option (Emit L)) → f.first ≡ o → f.second ≡ p → AllByRecursion P (in_list o ++ in_list p) → AllByRecursion P (emits_of f)
 drive-goes-by {L} P f o p a b all =
     subst (λ (z : Option (Emit L)). AllByRecursion P (in_list z ++ in_list f.second)) (sym a)
     (subst (λ (z : Option (Emit L)). AllByRecursion P (in_list o ++ in_list z)) (sym b) all)

@@ -3,3 +3,6 @@ pub mod StreamCutLemmas
 pub mod SessionLemmas
 pub mod LoginAnswerLemmas
 pub mod AskLemmas
+pub mod UnitLemmas
+pub mod UnitAnswerLemmas
+pub mod UnitTalkLemmas

@@ -4,3 +4,5 @@ pub mod SessionNotes
 pub mod DriveEffects
 pub mod StreamCuts
 pub mod SessionTalks
+pub mod UnitAnswers
+pub mod UnitTalks

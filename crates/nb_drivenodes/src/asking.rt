@@ -1,14 +1,15 @@
 //! What a call of a drive's objects asks for, as the effects of an entry.
 
-ghost use Rattle.std.specs.Prelude.{◌≡◌, ◌+◌, [], length, min, None};
+ghost use Rattle.std.specs.Prelude.{◌≡◌, ◌+◌, ◌++◌, [], length, min, None, IfOk};
 ghost use Rattle.nb_conns.specs.ConnEffects.{closes_for};
 ghost use Rattle.nb_drivenodes.specs.DriveEffects.{conn_asked_emit, text_emit, passed_emit, opened_emit, pdu_emit, stream_end_emit, AsksConn, OnlyFirst};
 
 use crate::{CarriesText, DriveTag};
 use nb_conns::StreamTag;
 use nb_graph::{Emit, Few, Fx, Msg};
-use nb_terms::Cause;
+use nb_terms::{Cause, NoMemory};
 use nb_wire::Text;
+use std::alloc::Global;
 
 /// The slot that faces the user above.
 pub(crate) const ABOVE: u8 = 0;
@@ -151,4 +152,13 @@ pub(crate) fn ask_close<N, L>(over: Option<Cause>, fx: &mut Fx<N, L>)
         fx.closes.push((ABOVE, cause));
         fx.closes.push((BELOW, cause));
     }
+}
+
+/// The bytes of a message in one piece.
+pub(crate) fn joined(alloc: Global, msg: &Msg<'_>) -> Result<Vec<u8>, NoMemory>
+    ensures { IfOk result (λ v. v.items ≡ msg.now.first.now ++ msg.now.second.now) }
+{
+    let mut bytes = Vec::from_slice(alloc, msg.first)?;
+    bytes.extend_from_slice(msg.second)?;
+    Ok(bytes)
 }

@@ -14,7 +14,7 @@ ghost use Rattle.nb_drivenodes.specs.StreamCuts.{FeedsSo, cuts_one, cuts_off};
 ghost use Rattle.nb_drivenodes.specs.SessionTalks.{IscsiStands, SessionOn, IsUnaskedSession, stage_reads, stage_takes_session, AnsweredBy, stage_by, StartsLogin};
 ghost use Rattle.nb_drivenodes.specs.DriveAsks.{info_of};
 
-use crate::asking::{ABOVE, BELOW, all_of, ask_close, ask_conn, hand_up, pass_down, send, tell_end, tell_open};
+use crate::asking::{ABOVE, BELOW, all_of, ask_close, ask_conn, hand_up, joined, pass_down, send, tell_end, tell_open};
 use crate::drive_ask::DriveAsk;
 use crate::login_answer::{LoginAnswer, answer_to};
 use crate::session_stage::SessionStage;
@@ -366,13 +366,4 @@ fn start(alloc: Global, ask: &DriveAsk<'_>) -> Result<(Login, Text), LoginRefusa
 {
     let info = ask.info(alloc)?;
     Login::start(alloc, info)
-}
-
-/// The bytes of a message in one piece.
-fn joined(alloc: Global, msg: &Msg<'_>) -> Result<Vec<u8>, NoMemory>
-    ensures { IfOk result (λ v. v.items ≡ msg.now.first.now ++ msg.now.second.now) }
-{
-    let mut bytes = Vec::from_slice(alloc, msg.first)?;
-    bytes.extend_from_slice(msg.second)?;
-    Ok(bytes)
 }

@@ -9,13 +9,17 @@ mod asking;
 mod drive_ask;
 mod drive_tag;
 mod iscsi;
+mod logical_unit;
 mod login_answer;
 mod session_note;
 mod session_stage;
 mod text_load;
+mod unit_answer;
+mod unit_stage;
 
 pub use drive_ask::{DriveAsk, DriveNames};
 pub use drive_tag::DriveTag;
 pub use iscsi::Iscsi;
+pub use logical_unit::LogicalUnit;
 pub use session_note::SessionNote;
 pub use text_load::CarriesText;

@@ -1,0 +1,4 @@
+use Rattle.nb_drivenode_tests.proofs.rack.Rack.unit.Goals as goal
+
+pub returns : goal.returns
+returns c = ?
