@@ -84,12 +84,7 @@ fn rank_of(graph: &Graph<Rack>, id: ObjId) -> u8
     }
 }
 
-fn join(
-    graph: &mut Graph<Rack>,
-    tape: &mut Tape,
-    above: ObjId,
-    below: ObjId,
-) -> Result<(), Fail> {
+fn join(graph: &mut Graph<Rack>, tape: &mut Tape, above: ObjId, below: ObjId) -> Result<(), Fail> {
     let upper = Port {
         obj: above,
         slot: 1,
@@ -116,7 +111,14 @@ fn asking(alloc: Global, setting: Setting) -> Result<Vec<u8>, AllocError> {
     let mut bytes = Vec::from_slice(alloc, &ask.bytes())?;
     bytes.extend_from_slice(&[0, 1, 0, 0, 0, 0, 0, 0])?;
     for word in [
-        0, 0x0012_3456, 7, 0x0001_0203, 0x0405_0607, 0x0809_0a0b, 0x0c0d_0e0f, 0u32,
+        0,
+        0x0012_3456,
+        7,
+        0x0001_0203,
+        0x0405_0607,
+        0x0809_0a0b,
+        0x0c0d_0e0f,
+        0u32,
     ] {
         bytes.extend_from_slice(&word.to_be_bytes())?;
     }
@@ -174,17 +176,23 @@ impl Drive {
             slot: 1,
         };
         if bytes.is_empty() {
-            let _ = self.graph.up(at, &message(tag, 0, 0, b""), 0, &mut self.tape);
+            let _ = self
+                .graph
+                .up(at, &message(tag, 0, 0, b""), 0, &mut self.tape);
         }
         for piece in bytes.chunks(size.max(1)) {
-            let _ = self.graph.up(at, &message(tag, 0, 0, piece), 0, &mut self.tape);
+            let _ = self
+                .graph
+                .up(at, &message(tag, 0, 0, piece), 0, &mut self.tape);
         }
     }
 
     /// The user asks for blocks.
     fn read(&mut self, lba: u32, count: u32) {
         let at = Port { obj: USER, slot: 0 };
-        let _ = self.graph.down(at, &message(READ, lba, count, b""), 0, &mut self.tape);
+        let _ = self
+            .graph
+            .down(at, &message(READ, lba, count, b""), 0, &mut self.tape);
     }
 
     /// What the user has kept.
@@ -267,7 +275,11 @@ fn play(
         }
         drive.give(RECEIVED, pdu.as_slice(), size);
     }
-    assert_eq!(*rt; drive.tape.sent.as_slice().get(16..), Some(wanted.as_slice()), "{size}");
+    assert_eq!(*rt;
+        drive.tape.sent.as_slice().get(16..),
+        Some(wanted.as_slice()),
+        "{size}"
+    );
     assert!(*rt; drive.kept().0 == expected.as_slice(), "the blocks, {size}");
     Ok(drive)
 }
@@ -355,7 +367,9 @@ fn broken_and_closed(rt: HostRuntime) -> Result<(), Fail> {
     );
     let mut drive = play(&rt, rt.alloc(), CHAP, USER_SET, 100)?;
     let at = Port { obj: USER, slot: 1 };
-    drive.graph.close(at, &nb_terms::Cause::default(), 0, &mut drive.tape);
+    drive
+        .graph
+        .close(at, &nb_terms::Cause::default(), 0, &mut drive.tape);
     assert_eq!(rt;
         drive.tape.closed.as_slice(),
         [(1, 0), (2, 0), (2, 0), (3, 0), (3, 0)].as_slice()

@@ -1,11 +1,11 @@
 -- What a drive's asking is read from.
-use Rattle.std.proofs.Common.{◌≡◌, ℕ, ◌+◌, ◌≤◌, Bool, true, List, length, take, drop, nat_le, Option, Some, None, refl, ap, sym, ◌∙◌, subst, arith, if◌then◌else◌}
+use Rattle.std.proofs.Common.{◌≡◌, ℕ, ◌+◌, Bool, true, List, length, take, drop, nat_le, Option, None, ap, sym, ◌∙◌, arith, if◌then◌else◌}
 use Rattle.std.proofs.lemmas.Bool.{le-leb}
 use Rattle.std.proofs.lemmas.List.{drop-drop}
 use Rattle.std.specs.Prelude.{option_and_then}
 use Rattle.nb_conns.specs.declared.conn_ask.ConnAsk.{ConnAsk}
 use Rattle.nb_conns.specs.ConnAsks.{conn_ask_in}
-use Rattle.nb_drivenodes.specs.DriveAsks.{DriveAskParts, names_in, words_of, info_by, drive_ask_by, drive_ask_in}
+use Rattle.nb_drivenodes.specs.DriveAsks.{names_in, words_of, info_by, drive_ask_by, drive_ask_in}
 
 -- the bytes are cut so
 pub ask-cut : (bytes r1 r2 r3 conn lun words : List ℕ) (a : Option ConnAsk) (names : Option (List (List ℕ))) → conn ≡ take 16 bytes → r1 ≡ drop 16 bytes → length r1 + 16 ≡ length bytes

@@ -7,7 +7,7 @@ use Rattle.nb_graph.specs.declared.effects.Emit.{Emit}
 use Rattle.nb_graph.specs.declared.effects.Few.{Few}
 use Rattle.nb_graph.specs.declared.effects.Fx.{Fx}
 use Rattle.nb_graph.specs.Trace.{Said, in_list}
-use Rattle.nb_conns.specs.ConnEffects.{emits_of, GoesAbove, GoesBelow, SaysNothing}
+use Rattle.nb_conns.specs.ConnEffects.{emits_of, GoesAbove, GoesBelow}
 use Rattle.nb_iscsipdu.specs.PduTexts.{PduParts}
 use Rattle.nb_login.specs.declared.session.Session.{Session}
 use Rattle.nb_drivenodes.specs.SessionNotes.{note_bytes, note_of}

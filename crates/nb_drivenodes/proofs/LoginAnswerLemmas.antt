@@ -1,10 +1,9 @@
 -- Where the messages of its stream, and those from above, lead a session.
-use Rattle.std.proofs.Common.{◌≡◌, ℕ, ◌&&◌, Bool, true, false, List, [], ◌∷◌, ◌++◌, take, map, Option, Some, None, refl, ap, sym, ◌∙◌, subst, append-nil}
+use Rattle.std.proofs.Common.{◌≡◌, ℕ, ◌&&◌, Bool, true, false, List, [], ◌∷◌, ◌++◌, take, Option, Some, None, refl, ap, sym, ◌∙◌, subst}
 use Rattle.std.proofs.lemmas.List.{map-append}
-use Rattle.std.proofs.lemmas.Bool.{false≢true, eqb-true}
-use Rattle.nb_terms.specs.declared.cause.Cause.{Cause}
+use Rattle.std.proofs.lemmas.Bool.{false≢true}
 use Rattle.nb_graph.specs.declared.effects.Fx.{Fx}
-use Rattle.nb_graph.specs.Trace.{Said, NodeEntry, up, down}
+use Rattle.nb_graph.specs.Trace.{Said, up, down}
 use Rattle.nb_conns.specs.declared.stream_tag.StreamTag.{StreamTag}
 use Rattle.nb_conns.specs.declared.stream_tag.StreamTag.TheVariants as stream
 use Rattle.nb_conns.specs.StreamTags.{stream_tag_number}
@@ -25,10 +24,10 @@ use Rattle.nb_drivenodes.specs.declared.login_answer.LoginAnswer.{LoginAnswer}
 use Rattle.nb_drivenodes.specs.declared.session_stage.SessionStage.{SessionStage}
 use Rattle.nb_drivenodes.specs.declared.session_stage.SessionStage.TheVariants.{Unasked, LoggingIn, Open, Drained, Ended}
 use Rattle.nb_drivenodes.specs.DriveAsks.{DriveAskParts, drive_ask_in}
-use Rattle.nb_drivenodes.specs.DriveEffects.{TextCarrier, DriveEffects, OnlyFirst, sends_says, conn_says, opens_says, pdu_says, stream_end_says}
-use Rattle.nb_drivenodes.specs.StreamCuts.{CutsTo, HasCut, FeedsSo, cuts_none, cuts_one, cuts_off}
-use Rattle.nb_drivenodes.specs.SessionTalks.{SessionTalk, logging_in, in_session, session_drained, login_failed, comes_below, answered_to, reply_to, login_leads, login_fault, SessionTalks, login_begins, login_refused, login_waits, login_answers, login_breaks, login_lacks, session_waits, session_gives, session_breaks, session_lacks, session_sends, pdus_given, HasOpened, HasLogin, IsSessionAt, before_login, while_logging_in, while_in_session, once_drained, once_failed, once_session_cut, SessionOn, stage_reads, stage_takes_session, answer_by, AnswersLogin, stage_by, IsNoEmit, AnsweredBy}
-use Rattle.nb_drivenodes.proofs.DriveEffectLemmas.{closes-alone, sends-alone, opens-alone, pdu-alone, end-alone}
+use Rattle.nb_drivenodes.specs.DriveEffects.{TextCarrier, DriveEffects, sends_says, conn_says, opens_says, pdu_says, stream_end_says}
+use Rattle.nb_drivenodes.specs.StreamCuts.{HasCut, FeedsSo, cuts_none, cuts_one, cuts_off}
+use Rattle.nb_drivenodes.specs.SessionTalks.{logging_in, in_session, session_drained, login_failed, comes_below, answered_to, reply_to, login_leads, login_fault, login_begins, login_refused, login_waits, login_answers, login_breaks, login_lacks, session_waits, session_gives, session_breaks, session_lacks, session_sends, pdus_given, HasLogin, IsSessionAt, before_login, while_logging_in, while_in_session, once_drained, once_failed, once_session_cut, SessionOn, stage_reads, stage_takes_session, answer_by, AnswersLogin, stage_by, IsNoEmit, AnsweredBy}
+use Rattle.nb_drivenodes.proofs.DriveEffectLemmas.{closes-alone, sends-alone, opens-alone}
 
 pub some-same : {A : Type 0} {a b : A} → Some a ≡ Some b → a ≡ b
 some-same h = let z = h in cc
@@ -97,7 +96,7 @@ answer-at : (a : DriveAskParts) (h : List LoginEntry) (m : PduCame) (w : Session
 answer-at a h m w after taken stands answer v (Some text) session answers is stage has put opens pdus cuts =
     subst (λ (z : SessionStage). IsSessionAt z after (logging_in a taken (answered_to a.info h m))) (sym (stage ∙ ap (λ z. stage_by z v) is))
     (while_logging_in v after a taken (answered_to a.info h m) (has (answered_to a.info h m) (answers.stands_on text put))
-        (asks-on a.info h (login_entry m (decided_at a.info h m)) (expected_of m) text put) pdus cuts)
+    (asks-on a.info h (login_entry m (decided_at a.info h m)) (expected_of m) text put) pdus cuts)
 answer-at a h m w after taken stands answer v None (Some s) answers is stage has put opens pdus cuts =
     subst (λ (z : SessionStage). IsSessionAt z after (in_session a taken (answered_to a.info h m))) (sym (stage ∙ ap (λ z. stage_by z v) is))
     (while_in_session after a taken (answered_to a.info h m) (record { meets = answers.meets; session = s; opens = opens }) cuts)
@@ -144,10 +143,10 @@ pub login-breaks-on : {N L : Type 0} (k : TextCarrier L) (m : Said) (slot now : 
     → FeedsSo before after m.bytes fx.took cuts_off → DriveEffects k m [] [] (closes_for (Some (login_broken m.rec))) fx → SessionOn k old before Ended after (up slot m now true fx)
 login-breaks-on k m slot now fx old before after takes shut feeds effects _ (before_login _ s) = absurd (false≢true takes)
 login-breaks-on k m slot now fx old before after takes shut feeds effects _ (while_logging_in _ _ a taken h has on pdus cuts) = (
-      login_failed a (taken ++ take fx.took m.bytes) h (Some (login_broken m.rec)),
-      login_breaks a taken h slot m now fx (comes-of old stream.Received slot m takes) (feeds taken cuts).0 effects,
-      once_failed after a (taken ++ take fx.took m.bytes) h (Some (login_broken m.rec)) (meets-at old a.info h has),
-    )
+  login_failed a (taken ++ take fx.took m.bytes) h (Some (login_broken m.rec)),
+  login_breaks a taken h slot m now fx (comes-of old stream.Received slot m takes) (feeds taken cuts).0 effects,
+  once_failed after a (taken ++ take fx.took m.bytes) h (Some (login_broken m.rec)) (meets-at old a.info h has),
+)
 login-breaks-on k m slot now fx old before after takes shut feeds effects _ (while_in_session _ a taken h opened cuts) = absurd (shut refl)
 login-breaks-on k m slot now fx old before after takes shut feeds effects _ (once_drained _ a taken h opened) = absurd (false≢true takes)
 login-breaks-on k m slot now fx old before after takes shut feeds effects _ (once_failed _ a taken h over meets) = absurd (false≢true takes)
@@ -157,10 +156,10 @@ pub login-lacks-on : {N L : Type 0} (k : TextCarrier L) (m : Said) (slot now : �
     → TookAll m fx → DriveEffects k m [] [] (closes_for (Some (login_broken m.rec))) fx → SessionOn k old before Ended after (up slot m now true fx)
 login-lacks-on k m slot now fx old before after takes shut all effects _ (before_login _ s) = absurd (false≢true takes)
 login-lacks-on k m slot now fx old before after takes shut all effects _ (while_logging_in _ _ a taken h has on pdus cuts) = (
-      login_failed a taken h (Some (login_broken m.rec)),
-      login_lacks a taken h slot m now fx (comes-of old stream.End slot m takes) all effects,
-      once_failed after a taken h (Some (login_broken m.rec)) (meets-at old a.info h has),
-    )
+  login_failed a taken h (Some (login_broken m.rec)),
+  login_lacks a taken h slot m now fx (comes-of old stream.End slot m takes) all effects,
+  once_failed after a taken h (Some (login_broken m.rec)) (meets-at old a.info h has),
+)
 login-lacks-on k m slot now fx old before after takes shut all effects _ (while_in_session _ a taken h opened cuts) = absurd (shut refl)
 login-lacks-on k m slot now fx old before after takes shut all effects _ (once_drained _ a taken h opened) = absurd (false≢true takes)
 login-lacks-on k m slot now fx old before after takes shut all effects _ (once_failed _ a taken h over meets) = absurd (false≢true takes)
@@ -172,10 +171,10 @@ pub session-breaks-on : {N L : Type 0} (k : TextCarrier L) (m : Said) (slot now 
 session-breaks-on k m slot now fx old before after o takes feeds effects _ (before_login _ s) = absurd (false≢true takes)
 session-breaks-on k m slot now fx old before after o takes feeds effects _ (while_logging_in _ _ a taken h has on pdus cuts) = absurd (subst (λ (z : SessionStage). HasLogin z a.info h) o has)
 session-breaks-on k m slot now fx old before after o takes feeds effects _ (while_in_session _ a taken h opened cuts) = (
-      session_drained a (taken ++ take fx.took m.bytes) h,
-      session_breaks a taken h slot m now fx takes (feeds taken cuts).0 effects,
-      once_drained after a (taken ++ take fx.took m.bytes) h opened,
-    )
+  session_drained a (taken ++ take fx.took m.bytes) h,
+  session_breaks a taken h slot m now fx takes (feeds taken cuts).0 effects,
+  once_drained after a (taken ++ take fx.took m.bytes) h opened,
+)
 session-breaks-on k m slot now fx old before after o takes feeds effects _ (once_drained _ a taken h opened) = absurd (false≢true takes)
 session-breaks-on k m slot now fx old before after o takes feeds effects _ (once_failed _ a taken h over meets) = absurd (false≢true takes)
 session-breaks-on k m slot now fx old before after o takes feeds effects _ (once_session_cut _) = absurd (false≢true takes)
@@ -185,10 +184,10 @@ pub session-lacks-on : {N L : Type 0} (k : TextCarrier L) (m : Said) (slot now :
 session-lacks-on k m slot now fx old before after o takes all effects _ (before_login _ s) = absurd (false≢true takes)
 session-lacks-on k m slot now fx old before after o takes all effects _ (while_logging_in _ _ a taken h has on pdus cuts) = absurd (subst (λ (z : SessionStage). HasLogin z a.info h) o has)
 session-lacks-on k m slot now fx old before after o takes all effects _ (while_in_session _ a taken h opened cuts) = (
-      session_drained a taken h,
-      session_lacks a taken h slot m now fx takes all effects,
-      once_drained after a taken h opened,
-    )
+  session_drained a taken h,
+  session_lacks a taken h slot m now fx takes all effects,
+  once_drained after a taken h opened,
+)
 session-lacks-on k m slot now fx old before after o takes all effects _ (once_drained _ a taken h opened) = absurd (false≢true takes)
 session-lacks-on k m slot now fx old before after o takes all effects _ (once_failed _ a taken h over meets) = absurd (false≢true takes)
 session-lacks-on k m slot now fx old before after o takes all effects _ (once_session_cut _) = absurd (false≢true takes)
@@ -207,10 +206,10 @@ session-sends-on k m now fx old g o tag effects _ (once_session_cut _) = absurd 
 pub login-begins-on : {N L : Type 0} (k : TextCarrier L) (m : Said) (now : ℕ) (fx : Fx N L) (old new : SessionStage) (g : List ℕ) (a : DriveAskParts) → old ≡ Unasked → m.tag ≡ stream_tag_number stream.Begin → drive_ask_in m.bytes ≡ Some a
     → zero_name a.info ≡ None → HasLogin new a.info [] → DriveEffects k m (conn_says m (login_said a.info [])) [] [] fx → SessionOn k old g new g (down m now true fx)
 login-begins-on k m now fx old new g a o tag asks names has effects _ (before_login _ s) = (
-      logging_in a [] [],
-      login_begins a m now fx tag asks names effects,
-      while_logging_in new g a [] [] has refl refl s,
-    )
+  logging_in a [] [],
+  login_begins a m now fx tag asks names effects,
+  while_logging_in new g a [] [] has refl refl s,
+)
 login-begins-on k m now fx old new g a o tag asks names has effects _ (while_logging_in _ _ b taken h holds on pdus cuts) = absurd (subst (λ (z : SessionStage). HasLogin z b.info h) o holds)
 login-begins-on k m now fx old new g a o tag asks names has effects _ (while_in_session _ b taken h opened cuts) = absurd (let z = o in cc)
 login-begins-on k m now fx old new g a o tag asks names has effects _ (once_drained _ b taken h opened) = absurd (let z = o in cc)
@@ -221,10 +220,10 @@ login-begins-on k m now fx old new g a o tag asks names has effects _ (once_sess
 pub login-refused-on : {N L : Type 0} (k : TextCarrier L) (m : Said) (now : ℕ) (fx : Fx N L) (old : SessionStage) (g : List ℕ) (a : DriveAskParts) (name : SentName) → old ≡ Unasked → m.tag ≡ stream_tag_number stream.Begin → drive_ask_in m.bytes ≡ Some a
     → zero_name a.info ≡ Some name → DriveEffects k m [] [] (closes_for (Some (refusal_cause (ZeroByte name)))) fx → SessionOn k old g Ended g (down m now true fx)
 login-refused-on k m now fx old g a name o tag asks names effects _ (before_login _ s) = (
-      login_failed a [] [] (Some (refusal_cause (ZeroByte name))),
-      login_refused a name m now fx tag asks names effects,
-      once_failed g a [] [] (Some (refusal_cause (ZeroByte name))) (record { answers = tt }),
-    )
+  login_failed a [] [] (Some (refusal_cause (ZeroByte name))),
+  login_refused a name m now fx tag asks names effects,
+  once_failed g a [] [] (Some (refusal_cause (ZeroByte name))) (record { answers = tt }),
+)
 login-refused-on k m now fx old g a name o tag asks names effects _ (while_logging_in _ _ b taken h holds on pdus cuts) = absurd (subst (λ (z : SessionStage). HasLogin z b.info h) o holds)
 login-refused-on k m now fx old g a name o tag asks names effects _ (while_in_session _ b taken h opened cuts) = absurd (let z = o in cc)
 login-refused-on k m now fx old g a name o tag asks names effects _ (once_drained _ b taken h opened) = absurd (let z = o in cc)

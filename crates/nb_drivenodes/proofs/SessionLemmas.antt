@@ -1,24 +1,19 @@
 -- Where the entries of a session lead.
-use Rattle.std.proofs.Common.{◌≡◌, ℕ, ◌==◌, ◌&&◌, ◌||◌, ◌<◌, ◌≤◌, Bool, true, false, not, List, [], ◌∷◌, ◌++◌, take, nat_lt, Option, Some, None, refl, ap, sym, ◌∙◌, subst, arith}
-use Rattle.std.proofs.lemmas.Bool.{lt-ltb, le-ltb, false≢true}
-use Rattle.std.proofs.lemmas.Option.{none-some}
-use Rattle.std.specs.Prelude.{IfSome}
+use Rattle.std.proofs.Common.{◌≡◌, ℕ, ◌==◌, ◌&&◌, ◌||◌, ◌<◌, ◌≤◌, Bool, true, false, not, List, [], ◌∷◌, ◌++◌, nat_lt, refl, ap, sym, ◌∙◌, subst, arith}
+use Rattle.std.proofs.lemmas.Bool.{lt-ltb, le-ltb}
 use Rattle.std.specs.Option.{is_some}
 use Rattle.nb_terms.specs.declared.cause.Cause.{Cause}
-use Rattle.nb_graph.specs.declared.effects.Emit.{Emit}
 use Rattle.nb_graph.specs.declared.effects.Fx.{Fx}
-use Rattle.nb_graph.specs.Effects.{IsDown, IsUp, AreCloses}
 use Rattle.nb_graph.specs.Trace.{Said, NodeEntry, up, down, closed, regain}
 use Rattle.nb_conns.specs.declared.stream_tag.StreamTag.TheVariants as stream
 use Rattle.nb_conns.specs.StreamTags.{stream_tag_number}
-use Rattle.nb_conns.specs.ConnEffects.{ConnWithin}
 use Rattle.nb_conns.specs.Dialogues.{AsksIdly, HandsOnClose}
 use Rattle.nb_drivenodes.specs.declared.session_stage.SessionStage.{SessionStage}
 use Rattle.nb_drivenodes.specs.declared.session_stage.SessionStage.TheVariants.{Unasked, LoggingIn, Open, Drained, Ended}
 use Rattle.nb_drivenodes.specs.declared.iscsi.Iscsi.{Iscsi}
 use Rattle.nb_drivenodes.specs.DriveAsks.{drive_ask_in}
 use Rattle.nb_drivenodes.specs.DriveEffects.{TextCarrier}
-use Rattle.nb_drivenodes.specs.SessionTalks.{SessionTalk, session_unasked, session_cut, session_lives, session_reads, comes_below, session_comes, session_asks, is_quiet_session, is_cut_session, SessionTalks, session_ends, session_rests, SessionTalksTo, HasLogin, IsSessionAt, before_login, while_logging_in, while_in_session, once_drained, once_failed, once_session_cut, IscsiStands, SessionOn, IsUnaskedSession, stage_reads, stage_takes_session, stage_is_ended_session}
+use Rattle.nb_drivenodes.specs.SessionTalks.{SessionTalk, session_unasked, session_cut, session_lives, session_reads, comes_below, is_quiet_session, is_cut_session, SessionTalks, session_ends, session_rests, SessionTalksTo, HasLogin, IsSessionAt, before_login, while_logging_in, while_in_session, once_drained, once_failed, once_session_cut, IscsiStands, SessionOn, IsUnaskedSession, stage_reads, stage_takes_session, stage_is_ended_session}
 
 -- an entry in which nothing comes and nothing is asked for
 pub session-rests : {N L : Type 0} (k : TextCarrier L) (w : SessionStage) (g : List ℕ) (e : NodeEntry N L) → ((d : SessionTalk) → IsSessionAt w g d → is_quiet_session d e ≡ true) → AsksIdly e → SessionOn k w g w g e

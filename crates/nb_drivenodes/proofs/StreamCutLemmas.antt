@@ -1,13 +1,11 @@
 -- What a reader's taking comes to, by the PDUs of the stream.
-use Rattle.std.proofs.Common.{◌≡◌, ℕ, ◌≤◌, ◌<◌, ◌+◌, ◌-◌, leb, append_assoc, Bool, true, false, List, [], ◌∷◌, ◌++◌, length, take, drop, refl, ap, sym, ◌∙◌, subst, append-nil, arith, if◌then◌else◌, Option, Some, None}
+use Rattle.std.proofs.Common.{◌≡◌, ℕ, ◌≤◌, ◌<◌, ◌+◌, ◌-◌, leb, append_assoc, Bool, true, false, List, [], ◌∷◌, ◌++◌, length, take, drop, refl, ap, sym, ◌∙◌, subst, append-nil, arith, if◌then◌else◌, Some, None}
 use Rattle.std.proofs.lemmas.Bool.{false≢true, eqb-true, leb-true, leb-false}
 use Rattle.std.proofs.lemmas.List.{length-append, length-take-le, length-drop, take-append-drop}
 use Rattle.nb_iscsipdu.proofs.StreamLemmas.{refused-kept, more-not_refused}
-use Rattle.nb_iscsipdu.specs.declared.pdus.PduState.{PduState}
 use Rattle.nb_iscsipdu.specs.declared.pdus.PduState.TheVariants.{More, One, Broken}
-use Rattle.nb_iscsipdu.specs.PduTexts.{PduParts}
-use Rattle.nb_iscsipdu.specs.Streams.{Cut, cut, is_refused, is_whole, pdu_of, pdu_len, open_of, whole_in, whole_pdu, state_of, TakesOn, TakesNoMore, TakesAll, StaysOpen}
-use Rattle.nb_drivenodes.specs.StreamCuts.{CutOutcome, cuts_none, cuts_one, cuts_off, CutsOn, CutsTo, outcome_gathered, outcome_is_off, FeedsSo}
+use Rattle.nb_iscsipdu.specs.Streams.{Cut, cut, is_refused, is_whole, pdu_of, pdu_len, open_of, whole_pdu, state_of, TakesOn, TakesNoMore, TakesAll, StaysOpen}
+use Rattle.nb_drivenodes.specs.StreamCuts.{cuts_none, cuts_one, cuts_off, CutsOn, outcome_gathered, outcome_is_off, FeedsSo}
 
 -- eight bytes with which a PDU may begin are not refused by those after them
 late-allowed : (start taken : List ℕ) → is_refused start ≡ false → StaysOpen start taken → 8 < length (start ++ taken) → is_refused (start ++ taken) ≡ false

@@ -1,5 +1,5 @@
 -- What a drive's core comes to, and what goes up of it.
-use Rattle.std.proofs.Common.{◌≡◌, ◌⊎◌, inl, inr, ℕ, ◌==◌, ◌&&◌, ◌||◌, ◌-◌, ◌*◌, nat_lt, ◌+◌, ◌≤◌, Bool, true, false, not, List, [], ◌∷◌, ◌++◌, length, take, drop, fold, Option, Some, None, refl, ap, sym, ◌∙◌, subst, arith, if◌then◌else◌}
+use Rattle.std.proofs.Common.{◌≡◌, ◌⊎◌, inl, inr, ℕ, ◌==◌, ◌&&◌, ◌||◌, ◌*◌, nat_lt, ◌+◌, Bool, true, false, List, [], ◌∷◌, ◌++◌, length, fold, Option, Some, None, refl, ap, sym, ◌∙◌, if◌then◌else◌}
 use Rattle.std.proofs.lemmas.Bool.{false≢true}
 use Rattle.std.specs.Option.{is_some}
 use Rattle.nb_iscsipdu.specs.declared.command.Command.{Command}
@@ -10,9 +10,9 @@ use Rattle.nb_iscsipdu.specs.declared.answer.NopIn.{NopIn}
 use Rattle.nb_iscsipdu.specs.Requests.{nop_pdu}
 use Rattle.nb_iscsipdu.specs.Heads.{opcode}
 use Rattle.nb_iscsipdu.specs.PduTexts.{PduParts}
-use Rattle.nb_iscsipdu.specs.Answers.{AnswerParts, DataInParts, login, scsi, data_in, nop_in, other, answer_read, nop_in_read, scsi_response, login_response, data_in_read}
+use Rattle.nb_iscsipdu.specs.Answers.{login, scsi, data_in, nop_in, other, answer_read, nop_in_read, scsi_response, login_response, data_in_read}
 use Rattle.nb_disk.specs.Histories.{Opened, DiskCall, came, DiskReading, nothing_read, after_call, reading, at_work, capacity_read, fits, completes, with_status, counted, capacity_of}
-use Rattle.nb_disk.specs.DiskAnswers.{DiskAnswer, disk_answer, pdu_answer, data_answer, response_answer, bytes_answer, nop_answer, answered, tested, sized, have_read, no_answer, puts, gives, ends, broken, refused, command_after, commands_put, expected, ended_from, has_ended, data_range}
+use Rattle.nb_disk.specs.DiskAnswers.{disk_answer, pdu_answer, data_answer, response_answer, bytes_answer, nop_answer, answered, tested, sized, have_read, no_answer, puts, gives, ends, broken, refused, command_after, commands_put, expected, ended_from, has_ended, data_range}
 use Rattle.nb_disk.specs.DiskStands.{DiskStands}
 use Rattle.nb_disk.specs.Steps.{Kept, has_work, work_is_over, work_capacity}
 use Rattle.nb_disk.proofs.StandsLemmas.{busy-at}

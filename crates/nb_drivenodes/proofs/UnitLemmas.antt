@@ -20,7 +20,7 @@ use Rattle.nb_drivenodes.specs.declared.unit_stage.UnitStage.TheVariants.{Unaske
 use Rattle.nb_drivenodes.specs.declared.logical_unit.LogicalUnit.{LogicalUnit}
 use Rattle.nb_drivenodes.specs.SessionNotes.{note_in}
 use Rattle.nb_drivenodes.specs.DriveEffects.{TextCarrier}
-use Rattle.nb_drivenodes.specs.UnitTalks.{UnitTalk, unit_unasked, unit_cut, unit_lives, tagged_below, pdu_in, unit_comes, takes_blocks, is_quiet_unit, is_cut_unit, UnitTalks, unit_ends, unit_rests, UnitTalksTo, IsUnitAt, before_asking, while_waiting, while_working, once_over, once_unit_cut, UnitStands, UnitOn, IsUnaskedUnit, stage_is_ended_unit}
+use Rattle.nb_drivenodes.specs.UnitTalks.{UnitTalk, unit_unasked, unit_cut, unit_lives, tagged_below, pdu_in, takes_blocks, is_quiet_unit, is_cut_unit, UnitTalks, unit_ends, unit_rests, UnitTalksTo, IsUnitAt, before_asking, while_waiting, while_working, once_over, once_unit_cut, UnitStands, UnitOn, IsUnaskedUnit, stage_is_ended_unit}
 
 -- an entry that calls nothing
 pub unit-rests : {N L : Type 0} (k : TextCarrier L) (w : UnitStage) (e : NodeEntry N L) → ((d : UnitTalk) → IsUnitAt w d → is_quiet_unit d e ≡ true) → AsksIdly e → UnitOn k w w e

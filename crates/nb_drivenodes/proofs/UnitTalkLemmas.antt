@@ -1,5 +1,5 @@
 -- Where the messages from below and above lead a logical unit.
-use Rattle.std.proofs.Common.{◌≡◌, ℕ, ◌==◌, ◌&&◌, ◌-◌, ◌+◌, ◌<◌, ◌≤◌, Bool, true, false, not, List, [], ◌∷◌, ◌++◌, length, take, drop, nat_le, nat_lt, Option, Some, None, refl, ap, sym, ◌∙◌, subst, append-nil, arith, if◌then◌else◌}
+use Rattle.std.proofs.Common.{◌≡◌, ℕ, ◌==◌, ◌&&◌, ◌-◌, ◌<◌, ◌≤◌, Bool, true, false, not, List, [], ◌∷◌, ◌++◌, length, take, drop, nat_le, nat_lt, Option, Some, None, refl, ap, sym, ◌∙◌, subst, arith, if◌then◌else◌}
 use Rattle.std.proofs.Math.Seq.{take-length}
 use Rattle.std.proofs.lemmas.List.{length-drop}
 use Rattle.std.proofs.lemmas.Bool.{lt-ltb, le-leb, lt-leb}
@@ -26,8 +26,8 @@ use Rattle.nb_drivenodes.specs.SessionNotes.{note_in}
 use Rattle.nb_drivenodes.specs.DriveEffects.{TextCarrier, DriveEffects, OnlyFirst, drive_say, drive_says, sends_says, text_emit}
 use Rattle.nb_drivenodes.specs.SessionTalks.{IsNoEmit}
 use Rattle.nb_drivenodes.specs.UnitAnswers.{unit_opened, first_command, answered_by, AnswersUnit}
-use Rattle.nb_drivenodes.specs.UnitTalks.{unit_waits, unit_works, unit_over, tagged_below, pdu_in, takes_blocks, blocks_says, answered_says, asks_session, worked_on, UnitTalks, unit_begins, unit_starts, unit_takes, unit_lacks, unit_reads, IsUnitAt, before_asking, while_waiting, while_working, once_over, once_unit_cut, UnitOn, session_asked_emit, blocks_emit, answered_emit, UnitDowns, UnitUps, AsksUnit}
-use Rattle.nb_drivenodes.proofs.DriveEffectLemmas.{drive-said-by, drive-goes-by, none-said, none-goes, sends-alone, closes-alone}
+use Rattle.nb_drivenodes.specs.UnitTalks.{unit_waits, unit_works, unit_over, tagged_below, pdu_in, takes_blocks, blocks_says, answered_says, asks_session, worked_on, unit_begins, unit_starts, unit_takes, unit_lacks, unit_reads, IsUnitAt, before_asking, while_waiting, while_working, once_over, once_unit_cut, UnitOn, session_asked_emit, blocks_emit, answered_emit, UnitDowns, UnitUps, AsksUnit}
+use Rattle.nb_drivenodes.proofs.DriveEffectLemmas.{drive-said-by, drive-goes-by, none-said, none-goes, sends-alone}
 use Rattle.nb_drivenodes.proofs.UnitLemmas.{unit-rests, quiet-down-unit, and-off}
 use Rattle.nb_drivenodes.proofs.UnitAnswerLemmas.{ended-after, given-all}
 
@@ -73,7 +73,7 @@ blocks-same rec give bytes same = by (is_some (data_range (length give))) refl
 pub pdu-asks : {N L : Type 0} (k : TextCarrier L) (m : Said) (o : Opened) (calls : List DiskCall) (p : PduParts) (len chap : ℕ) (new : Kept) (a : UnitAnswer) (fx : Fx N L) → pdu_in m.bytes ≡ Some p → drop 48 m.bytes ≡ p.seg → len ≡ length m.bytes
     → AnswersUnit o calls (came m.rec p) new a → AsksUnit k len chap a fx
     → DriveEffects k m (sends_says m.rec (option_map pdu_text (disk_answer o (reading o calls) (came m.rec p)).put)) (blocks_says m.rec (disk_answer o (reading o calls) (came m.rec p)).give ++ answered_says m.rec chap (answered_by o calls (came m.rec p)))
-        (closes_for (disk_answer o (reading o calls) (came m.rec p)).over) fx
+    (closes_for (disk_answer o (reading o calls) (came m.rec p)).over) fx
 pdu-asks k m o calls p len chap new a fx is seg all answers asks = record {
   no_make = asks.no_make;
   downs = downs-said k m a.text fx.downs asks.downs ∙ ap (sends_says m.rec) answers.text;

@@ -1,9 +1,7 @@
 -- What a session has done over its trace (RFC 7143), in terms of its login's promise and of the PDUs of its stream: our own.
-use Rattle.std.specs.Prelude.{◌≡◌, ◌≤◌, ℕ, ◌==◌, ◌&&◌, ◌||◌, Bool, true, false, not, List, [], ◌∷◌, ◌++◌, length, take, map, nat_lt, Option, Some, None, Result, Ok, Err}
+use Rattle.std.specs.Prelude.{◌≡◌, ℕ, ◌==◌, ◌&&◌, ◌||◌, Bool, true, false, not, List, [], ◌∷◌, ◌++◌, take, map, nat_lt, Option, Some, None, Result, Ok, Err}
 use Rattle.std.specs.Option.{is_some}
 use Rattle.nb_terms.specs.declared.cause.Cause.{Cause}
-use Rattle.nb_terms.specs.declared.reason.Reason.{Reason}
-use Rattle.nb_terms.specs.Reasons.{as_cause}
 use Rattle.nb_graph.specs.declared.effects.Emit.{Emit}
 use Rattle.nb_graph.specs.declared.effects.Few.{Few}
 use Rattle.nb_graph.specs.declared.effects.Fx.{Fx}
@@ -133,9 +131,9 @@ pub data SessionTalks {N L : Type 0} (k : TextCarrier L) : SessionTalk → NodeE
   login_answers : (a : DriveAskParts) (taken : List ℕ) (h : List LoginEntry) (p : PduParts) (slot : ℕ) (m : Said) (now : ℕ) (fx : Fx N L)
       → comes_below stream.Received slot m ≡ true → CutsTo taken m.bytes fx.took (cuts_one p)
       → (let h2 = answered_to a.info h (pdu_came m.rec p) in let text = reply_to a.info h (pdu_came m.rec p) in let session = session_opened a.info h2 in
-        DriveEffects k m (sends_says m.rec text) (opens_says m.rec text session) (closes_for (login_fault h2 text session)) fx)
+      DriveEffects k m (sends_says m.rec text) (opens_says m.rec text session) (closes_for (login_fault h2 text session)) fx)
       → SessionTalks k (logging_in a taken h) (up slot m now true fx)
-          (let h2 = answered_to a.info h (pdu_came m.rec p) in login_leads a (taken ++ take fx.took m.bytes) h2 (reply_to a.info h (pdu_came m.rec p)) (session_opened a.info h2))
+      (let h2 = answered_to a.info h (pdu_came m.rec p) in login_leads a (taken ++ take fx.took m.bytes) h2 (reply_to a.info h (pdu_came m.rec p)) (session_opened a.info h2))
   -- bytes with which no PDU begins, and the stream's end: the login is broken
   login_breaks : (a : DriveAskParts) (taken : List ℕ) (h : List LoginEntry) (slot : ℕ) (m : Said) (now : ℕ) (fx : Fx N L)
       → comes_below stream.Received slot m ≡ true → CutsTo taken m.bytes fx.took cuts_off → DriveEffects k m [] [] (closes_for (Some (login_broken m.rec))) fx

@@ -1,5 +1,5 @@
 -- What a call of a drive's core comes to, by all the calls before it: our own.
-use Rattle.std.specs.Prelude.{◌≡◌, ℕ, ◌&&◌, Bool, not, List, [], ◌∷◌, ◌++◌, length, Option, Some, None, if◌then◌else◌}
+use Rattle.std.specs.Prelude.{◌≡◌, ℕ, ◌&&◌, Bool, not, List, [], ◌∷◌, ◌++◌, length, Option, None, if◌then◌else◌}
 use Rattle.std.specs.Option.{option_map, is_some}
 use Rattle.nb_iscsipdu.specs.declared.command.Command.TheVariants.{TestUnitReady}
 use Rattle.nb_iscsipdu.specs.PduTexts.{pdu_text}

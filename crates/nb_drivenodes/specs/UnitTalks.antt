@@ -12,7 +12,7 @@ use Rattle.nb_conns.specs.ConnEffects.{TookAll, closes_for, received_says}
 use Rattle.nb_conns.specs.Dialogues.{AsksIdly, HandsOnClose}
 use Rattle.nb_iscsipdu.specs.PduTexts.{PduParts, pdu_text}
 use Rattle.nb_disk.specs.Histories.{Opened, DiskCall, came, asked, stream_ended, reading, at_work}
-use Rattle.nb_disk.specs.DiskAnswers.{DiskAnswer, disk_answer, has_ended, data_range}
+use Rattle.nb_disk.specs.DiskAnswers.{disk_answer, has_ended, data_range}
 use Rattle.nb_disk.specs.DiskStands.{DiskStands, is_out}
 use Rattle.nb_disk.specs.Steps.{Kept}
 use Rattle.nb_drivenodes.specs.declared.drive_tag.DriveTag.TheVariants as drive
@@ -114,7 +114,7 @@ pub data UnitTalks {N L : Type 0} (k : TextCarrier L) : UnitTalk → NodeEntry N
   -- A PDU of the session: what is sent, which bytes of blocks go up, and how it ends, are what all that came calls for.
   unit_takes : (o : Opened) (chap : ℕ) (calls : List DiskCall) (p : PduParts) (slot : ℕ) (m : Said) (now : ℕ) (fx : Fx N L) → tagged_below (drive_tag_number drive.Pdu) slot m ≡ true → pdu_in m.bytes ≡ Some p → TookAll m fx
       → (let call = came m.rec p in let answer = disk_answer o (reading o calls) call in
-        DriveEffects k m (sends_says m.rec (option_map pdu_text answer.put)) (blocks_says m.rec answer.give ++ answered_says m.rec chap (answered_by o calls call)) (closes_for answer.over) fx)
+      DriveEffects k m (sends_says m.rec (option_map pdu_text answer.put)) (blocks_says m.rec answer.give ++ answered_says m.rec chap (answered_by o calls call)) (closes_for answer.over) fx)
       → UnitTalks k (unit_works o chap calls) (up slot m now true fx) (worked_on o chap (calls ++ came m.rec p ∷ []) (disk_answer o (reading o calls) (came m.rec p)).over)
   -- no further one comes
   unit_lacks : (o : Opened) (chap : ℕ) (calls : List DiskCall) (slot : ℕ) (m : Said) (now : ℕ) (fx : Fx N L) → tagged_below (stream_tag_number stream.End) slot m ≡ true → TookAll m fx

@@ -14,7 +14,10 @@ ghost use Rattle.nb_drivenodes.specs.StreamCuts.{FeedsSo, cuts_one, cuts_off};
 ghost use Rattle.nb_drivenodes.specs.SessionTalks.{IscsiStands, SessionOn, IsUnaskedSession, stage_reads, stage_takes_session, AnsweredBy, stage_by, StartsLogin};
 ghost use Rattle.nb_drivenodes.specs.DriveAsks.{info_of};
 
-use crate::asking::{ABOVE, BELOW, all_of, ask_close, ask_conn, hand_up, joined, pass_down, send, tell_end, tell_open};
+use crate::asking::{
+    ABOVE, BELOW, all_of, ask_close, ask_conn, hand_up, joined, pass_down, send, tell_end,
+    tell_open,
+};
 use crate::drive_ask::DriveAsk;
 use crate::login_answer::{LoginAnswer, answer_to};
 use crate::session_stage::SessionStage;
@@ -107,11 +110,7 @@ impl Iscsi {
     }
 
     /// The next bytes of the stream. More than 4,294,967,295 at once end it as if memory ran out.
-    fn read<N, L: CarriesText>(
-        &mut self,
-        msg: &Msg<'_>,
-        fx: &mut Fx<N, L>,
-    ) -> Result<(), NoMemory>
+    fn read<N, L: CarriesText>(&mut self, msg: &Msg<'_>, fx: &mut Fx<N, L>) -> Result<(), NoMemory>
         requires { IsNothing fx.old }
         ensures leads { (slot now : ℕ) → stage_takes_session self.old.stage stream.Received slot (said msg.now) ≡ true
             → SessionOn L.texts self.old.stage self.old.pdus self.new.stage self.new.pdus (up slot (said msg.now) now (is_ok result) fx.new) }

@@ -1,4 +1,4 @@
-use Rattle.std.proofs.Common.{ap, sym, ◌∙◌}
+use Rattle.std.proofs.Common.{ap, ◌∙◌}
 use Rattle.std.specs.Option.{is_some}
 use Rattle.nb_disk.specs.Histories.{came}
 use Rattle.nb_iscsipdu.specs.PduTexts.{pdu_parts}

@@ -1,4 +1,3 @@
-use Rattle.std.proofs.Common.{refl, subst, sym}
 use Rattle.nb_conns.proofs.DialogueLemmas.{nothing_said}
 use Rattle.nb_graph.specs.Trace.{said}
 use Rattle.nb_drivenodes.proofs.SessionLemmas.{session-rests, quiet-down-session, session-stands-on}

@@ -1,4 +1,4 @@
-use Rattle.std.proofs.Common.{◌≡◌, ◌∙◌, ap, not, sym, length, length-append, arith}
+use Rattle.std.proofs.Common.{◌∙◌, ap, not, sym, length-append}
 use Rattle.std.proofs.lemmas.Bool.{ne_eqb}
 use Rattle.nb_graph.specs.declared.effects.Fx.{Fx}
 use Rattle.nb_graph.specs.Trace.{said}

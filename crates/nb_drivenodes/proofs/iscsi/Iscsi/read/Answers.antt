@@ -20,7 +20,7 @@ pub returns-in-More-clause-leads : goal.returns-in-More-clause-leads
 returns-in-More-clause-leads g c = λ slot now takes.
     let bytes = c.args.msg.now.first.now ++ c.args.msg.now.second.now in
     let fed : FeedsSo c.args.self.now.pdus c.feed-took.new.self bytes c.feed-took.result.0 (outcome_gathered c.feed-took.new.self) =
-        feeds-so c.args.self.now.pdus c.feed-took.new.self bytes c.feed-took.result.0 c.feed-took.ensures.gathers c.feed-took.ensures.within c.feed-took.ensures.stands c.feed-took.ensures.least c.feed-took.ensures.all in
+    feeds-so c.args.self.now.pdus c.feed-took.new.self bytes c.feed-took.result.0 c.feed-took.ensures.gathers c.feed-took.ensures.within c.feed-took.ensures.stands c.feed-took.ensures.least c.feed-took.ensures.all in
     let fx : Fx g.row.N.Denot g.row.L.Denot = record c.args.fx.now { took = c.feed-took.result.0 } in
     let idle = nothing_said c.args.fx.now c.requires in
     waits-on g.L.CarriesText.texts (said c.args.msg.now) slot now fx c.args.self.now.stage c.args.self.now.pdus c.feed-took.new.self takes
@@ -31,7 +31,7 @@ pub returns-in-One-clause-leads : goal.returns-in-One-clause-leads
 returns-in-One-clause-leads g c = λ slot now takes.
     let bytes = c.args.msg.now.first.now ++ c.args.msg.now.second.now in
     let fed : FeedsSo c.args.self.now.pdus c.feed-took.new.self bytes c.feed-took.result.0 (outcome_gathered c.feed-took.new.self) =
-        feeds-so c.args.self.now.pdus c.feed-took.new.self bytes c.feed-took.result.0 c.feed-took.ensures.gathers c.feed-took.ensures.within c.feed-took.ensures.stands c.feed-took.ensures.least c.feed-took.ensures.all in
+    feeds-so c.args.self.now.pdus c.feed-took.new.self bytes c.feed-took.result.0 c.feed-took.ensures.gathers c.feed-took.ensures.within c.feed-took.ensures.stands c.feed-took.ensures.least c.feed-took.ensures.all in
     let is = sym c.in-One.is ∙ c.feed-took.ensures.state in
     c.receive.ensures.leads (said c.args.msg.now) slot now (pdu_of c.feed-took.new.self) c.args.self.now.pdus takes refl (one-whole c.feed-took.new.self is)
     (subst (λ (o : CutOutcome). FeedsSo c.args.self.now.pdus c.feed-took.new.self bytes c.feed-took.result.0 o) (one-one c.feed-took.new.self is) fed)
@@ -43,7 +43,7 @@ pub returns-in-Broken-clause-leads : goal.returns-in-Broken-clause-leads
 returns-in-Broken-clause-leads g c = λ slot now takes.
     let bytes = c.args.msg.now.first.now ++ c.args.msg.now.second.now in
     let fed : FeedsSo c.args.self.now.pdus c.feed-took.new.self bytes c.feed-took.result.0 (outcome_gathered c.feed-took.new.self) =
-        feeds-so c.args.self.now.pdus c.feed-took.new.self bytes c.feed-took.result.0 c.feed-took.ensures.gathers c.feed-took.ensures.within c.feed-took.ensures.stands c.feed-took.ensures.least c.feed-took.ensures.all in
+    feeds-so c.args.self.now.pdus c.feed-took.new.self bytes c.feed-took.result.0 c.feed-took.ensures.gathers c.feed-took.ensures.within c.feed-took.ensures.stands c.feed-took.ensures.least c.feed-took.ensures.all in
     c.finish.ensures.broken (said c.args.msg.now) slot now c.args.self.now.pdus takes refl
     (subst (λ (o : CutOutcome). FeedsSo c.args.self.now.pdus c.feed-took.new.self bytes c.feed-took.result.0 o) (broken-off c.feed-took.new.self (sym c.in-Broken.is ∙ c.feed-took.ensures.state)) fed)
 

@@ -1,4 +1,4 @@
-use Rattle.std.proofs.Common.{◌≡◌, ◌==◌, ◌&&◌, true, false, List, ◌∙◌, ap, sym, refl, arith}
+use Rattle.std.proofs.Common.{◌≡◌, ◌==◌, ◌&&◌, true, false, List, ◌∙◌, ap, sym}
 use Rattle.std.proofs.lemmas.Bool.{ne_eqb, false≢true}
 use Rattle.nb_disk.specs.Histories.{Opened, DiskCall}
 use Rattle.nb_graph.specs.Trace.{said, down}
@@ -13,7 +13,7 @@ pub returns-then-msg-from-clause-leads : goal.returns-then-msg-from-clause-leads
 returns-then-msg-from-clause-leads g c = λ now.
     let m = said c.args.msg.now in
     let none : (d : UnitTalk) → IsUnitAt c.args.self.now.stage d → ((o : Opened) (calls : List DiskCall) → ((m.tag == 13) && takes_blocks o calls m.a m.b) ≡ false) → is_quiet_unit d (down m now true c.args.fx.now) ≡ true =
-        λ d at off. quiet-down-unit c.args.self.now.stage m now c.args.fx.now d (λ e. absurd (false≢true (sym (ap stage_is_working e) ∙ c.requires.works))) (λ kk x o calls e st on. off o calls) at in
+    λ d at off. quiet-down-unit c.args.self.now.stage m now c.args.fx.now d (λ e. absurd (false≢true (sym (ap stage_is_working e) ∙ c.requires.works))) (λ kk x o calls e st on. off o calls) at in
     let idle = nothing_said c.args.fx.now c.requires.nothing in
     elim c.then-msg-from.branch [
       | then-msg-from-via-then-msg-from w ↦ unit-rests g.L.CarriesText.texts _ _ (λ d at. none d at (λ o calls. ap (λ z. z && takes_blocks o calls m.a m.b) (ne_eqb c.args.msg.now.tag 13 (λ t. w.if-msg-from.true (t ∙ sym c.from.ensures))))) idle

@@ -1,4 +1,4 @@
-use Rattle.std.proofs.Common.{◌≡◌, ℕ, true, [], Some, ap, sym, ◌∙◌, subst, refl, arith, if◌then◌else◌}
+use Rattle.std.proofs.Common.{ℕ, true, ap, sym, ◌∙◌, subst, refl, arith, if◌then◌else◌}
 use Rattle.nb_graph.specs.declared.effects.Fx.{Fx}
 use Rattle.nb_graph.specs.Trace.{up}
 use Rattle.nb_conns.specs.ConnEffects.{closes_for}
@@ -14,11 +14,11 @@ use Rattle.nb_drivenodes.proofs.logical_unit.LogicalUnit.finish.Goals as goal
 
 pub returns-in_default : goal.returns-in_default
 returns-in_default g c = record {
-      leads = λ m slot now tag r took. unit-rests g.L.CarriesText.texts _ _
-          (λ d at. quiet-up-unit c.args.self.now.stage slot m now c.args.fx.now d (λ e. off-opened slot m (off-tag 11 slot m (λ t. absurd (let z = tag-of 8 slot m tag in omega (arith, t, z))))) (λ kk x e. absurd (c.in_default.not-Working kk x e)) at) (c.requires.0, c.requires.1, took);
-      within = λ len. nothing-within len c.args.fx.now c.requires.0 c.requires.1;
-      took = refl;
-    }
+  leads = λ m slot now tag r took. unit-rests g.L.CarriesText.texts _ _
+      (λ d at. quiet-up-unit c.args.self.now.stage slot m now c.args.fx.now d (λ e. off-opened slot m (off-tag 11 slot m (λ t. absurd (let z = tag-of 8 slot m tag in omega (arith, t, z))))) (λ kk x e. absurd (c.in_default.not-Working kk x e)) at) (c.requires.0, c.requires.1, took);
+  within = λ len. nothing-within len c.args.fx.now c.requires.0 c.requires.1;
+  took = refl;
+}
 
 pub returns-clause-leads : goal.returns-clause-leads
 returns-clause-leads g c = λ m slot now tag r took.

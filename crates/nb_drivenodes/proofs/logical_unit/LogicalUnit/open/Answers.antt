@@ -1,12 +1,11 @@
-use Rattle.std.proofs.Common.{◌≡◌, ℕ, ◌&&◌, true, [], Some, ap, not, sym, ◌∙◌, subst}
+use Rattle.std.proofs.Common.{ℕ, ◌&&◌, true, [], Some, ap, not, sym, ◌∙◌, subst}
 use Rattle.std.specs.Option.{is_some}
 use Rattle.nb_graph.specs.declared.effects.Fx.{Fx}
 use Rattle.nb_graph.specs.Trace.{up}
-use Rattle.nb_disk.specs.DiskStands.{DiskStands}
 use Rattle.nb_drivenodes.specs.declared.unit_stage.UnitStage.TheVariants.{Working}
 use Rattle.nb_drivenodes.specs.DriveEffects.{DriveEffects, sends_says}
 use Rattle.nb_drivenodes.specs.SessionNotes.{note_in}
-use Rattle.nb_drivenodes.specs.UnitAnswers.{StartsUnit, unit_opened, first_command}
+use Rattle.nb_drivenodes.specs.UnitAnswers.{StartsUnit, unit_opened}
 use Rattle.nb_drivenodes.specs.UnitTalks.{UnitOn, tagged_below}
 use Rattle.nb_drivenodes.proofs.DriveEffectLemmas.{sends-alone}
 use Rattle.nb_drivenodes.proofs.LoginAnswerLemmas.{nothing-emitted}

@@ -1,11 +1,10 @@
-use Rattle.std.proofs.Common.{◌≡◌, ℕ, ◌==◌, ◌&&◌, ◌++◌, ◌∷◌, [], List, Option, Some, Err, true, ap, not, sym, ◌∙◌, refl, subst}
-use Rattle.std.proofs.lemmas.Bool.{ne_eqb}
+use Rattle.std.proofs.Common.{◌≡◌, ℕ, ◌==◌, ◌++◌, ◌∷◌, [], Some, Err, ap, not, sym, ◌∙◌, subst}
 use Rattle.std.specs.Option.{option_map}
 use Rattle.nb_graph.specs.declared.effects.Fx.{Fx}
 use Rattle.nb_conns.proofs.DialogueLemmas.{nothing_said}
 use Rattle.nb_iscsipdu.specs.PduTexts.{pdu_text}
 use Rattle.nb_disk.specs.declared.blocks.ReadRefusal.{ReadRefusal}
-use Rattle.nb_disk.specs.Histories.{Opened, DiskCall, asked, reading}
+use Rattle.nb_disk.specs.Histories.{asked, reading}
 use Rattle.nb_disk.specs.DiskAnswers.{disk_answer}
 use Rattle.nb_disk.specs.DiskStands.{DiskStands, RefusesRead}
 use Rattle.nb_drivenodes.specs.UnitTalks.{takes_blocks}

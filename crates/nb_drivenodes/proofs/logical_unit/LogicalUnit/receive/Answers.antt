@@ -1,4 +1,4 @@
-use Rattle.std.proofs.Common.{◌≡◌, ap, sym, ◌∙◌}
+use Rattle.std.proofs.Common.{sym, ◌∙◌}
 use Rattle.nb_graph.specs.Trace.{said}
 use Rattle.nb_drivenodes.proofs.UnitLemmas.{unit-rests, quiet-up-unit, off-tag, off-opened, off-served}
 use Rattle.nb_drivenodes.proofs.logical_unit.LogicalUnit.receive.Goals as goal

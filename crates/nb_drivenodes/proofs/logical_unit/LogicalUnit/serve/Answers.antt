@@ -1,7 +1,6 @@
-use Rattle.std.proofs.Common.{◌≡◌, ℕ, ◌&&◌, ◌||◌, ◌==◌, true, length, take, drop, nat_le, None, Some, Option, ap, not, sym, ◌∙◌, subst, arith, if◌then◌else◌, refl}
-use Rattle.std.proofs.lemmas.Bool.{le-leb, lt-leb}
+use Rattle.std.proofs.Common.{ℕ, ◌&&◌, ◌||◌, true, length, drop, ap, not, sym, ◌∙◌, subst, arith, refl}
 use Rattle.std.specs.Option.{is_some}
-use Rattle.nb_iscsipdu.specs.PduTexts.{PduParts, pdu_parts}
+use Rattle.nb_iscsipdu.specs.PduTexts.{PduParts}
 use Rattle.nb_disk.specs.Histories.{came}
 use Rattle.nb_drivenodes.specs.UnitAnswers.{AnswersUnit}
 use Rattle.nb_drivenodes.specs.UnitTalks.{UnitOn, tagged_below}
@@ -13,11 +12,11 @@ use Rattle.nb_drivenodes.proofs.logical_unit.LogicalUnit.serve.Goals as goal
 
 pub returns-in_default : goal.returns-in_default
 returns-in_default g c = record {
-      leads = λ m slot now tag r bytes took. unit-rests g.L.CarriesText.texts _ _
-          (λ d at. quiet-up-unit c.args.self.now.stage slot m now c.args.fx.now d (λ e. off-opened slot m (off-tag 11 slot m (λ t. absurd (let z = tag-of 12 slot m tag in omega (arith, t, z))))) (λ kk x e. absurd (c.in_default.not-Working kk x e)) at) (c.requires.blank.0, c.requires.blank.1, took);
-      within = nothing-within _ c.args.fx.now c.requires.blank.0 c.requires.blank.1;
-      took = refl;
-    }
+  leads = λ m slot now tag r bytes took. unit-rests g.L.CarriesText.texts _ _
+      (λ d at. quiet-up-unit c.args.self.now.stage slot m now c.args.fx.now d (λ e. off-opened slot m (off-tag 11 slot m (λ t. absurd (let z = tag-of 12 slot m tag in omega (arith, t, z))))) (λ kk x e. absurd (c.in_default.not-Working kk x e)) at) (c.requires.blank.0, c.requires.blank.1, took);
+  within = nothing-within _ c.args.fx.now c.requires.blank.0 c.requires.blank.1;
+  took = refl;
+}
 
 pub returns-in_default-split_first_chunk-clause-leads : goal.returns-in_default-split_first_chunk-clause-leads
 returns-in_default-split_first_chunk-clause-leads g c = λ m slot now tag r bytes took.
