@@ -4,14 +4,13 @@ ghost use Rattle.std.specs.Prelude.{◌≡◌, true};
 ghost use Rattle.nb_ledger.specs.Flat.{unknown};
 ghost use Rattle.nb_ledger.specs.Ledger.{object_lives, rank};
 
-use crate::recorded::{CHAP, PLAIN, WRONG};
+use crate::recorded::{chap, plain, wrong};
 use crate::{Rack, Taker};
 use nb_conns::ConnAsk;
 use nb_graph::{Graph, Msg, Node, ObjId, Outside, Port};
-use nb_terms::Event;
+use nb_terms::{Cause, Event};
 use nb_wire::Ip4;
 use std::alloc::{AllocError, Global};
-use std::process::Abort;
 use std::test::Fail;
 
 const USER: ObjId = ObjId(1);
@@ -241,72 +240,118 @@ fn blocks(alloc: Global, first: u32, len: u32) -> Result<Vec<u8>, AllocError> {
     Ok(bytes)
 }
 
-/// A recorded session is played: all that is sent is what the initiator sent, and the blocks go up. The stream comes in
-/// pieces of this size.
-fn play(
-    rt: &impl Abort,
-    alloc: Global,
-    record: &str,
-    setting: Setting,
-    size: usize,
-) -> Result<Drive, Fail> {
-    let mut drive = opened(alloc, setting)?;
-    let (mut wanted, mut expected) = (Vec::new(alloc), Vec::new(alloc));
-    let mut lba = 0;
-    for line in record.lines() {
-        let Some((who, digits)) = line.split_at_checked(1) else {
-            return Err(Fail::new("no line"));
-        };
-        let mut pdu = spelled(alloc, digits)?;
-        if who == ">" {
-            if word(pdu.as_slice(), 32) >> 16 == 0x2800 {
-                lba = word(pdu.as_slice(), 34);
-                drive.read(lba, (word(pdu.as_slice(), 38) >> 8) % 65_536);
-            }
-            wanted.extend_from_slice(pdu.as_slice())?;
-            continue;
+/// A recorded session that is played.
+#[derive(Drop)]
+struct Play {
+    drive: Drive,
+    /// What the initiator sent.
+    wanted: Vec<u8>,
+    /// The blocks that the target sent.
+    expected: Vec<u8>,
+    /// The first block of the read that is out.
+    lba: u32,
+}
+
+impl Play {
+    /// The initiator sends this; where it is a read, the user asks for it.
+    fn send(&mut self, pdu: &[u8]) -> Result<(), Fail> {
+        if word(pdu, 32) >> 16 == 0x2800 {
+            self.lba = word(pdu, 34);
+            self.drive.read(self.lba, (word(pdu, 38) >> 8) % 65_536);
         }
-        let len = word(pdu.as_slice(), 4);
-        if word(pdu.as_slice(), 0) >> 24 == 0x25 && len > 8 {
-            let place = word(pdu.as_slice(), 40);
-            let data = blocks(alloc, lba.wrapping_add(place / 512), len)?;
-            pdu.extend_from_slice(data.as_slice())?;
-            expected.extend_from_slice(data.as_slice())?;
-        }
-        drive.give(RECEIVED, pdu.as_slice(), size);
+        self.wanted.extend_from_slice(pdu)?;
+        Ok(())
     }
-    assert_eq!(*rt;
-        drive.tape.sent.as_slice().get(16..),
-        Some(wanted.as_slice()),
-        "{size}"
-    );
-    assert!(*rt; drive.kept().0 == expected.as_slice(), "the blocks, {size}");
+
+    /// The target answers this; the data of a read are its blocks.
+    fn answer(&mut self, alloc: Global, pdu: &[u8], size: usize) -> Result<(), Fail> {
+        let len = word(pdu, 4);
+        if word(pdu, 0) >> 24 != 0x25 || len <= 8 {
+            self.drive.give(RECEIVED, pdu, size);
+            return Ok(());
+        }
+        let first = self.lba.wrapping_add(word(pdu, 40) / 512);
+        let data = blocks(alloc, first, len)?;
+        self.expected.extend_from_slice(data.as_slice())?;
+        let mut whole = Vec::from_slice(alloc, pdu)?;
+        whole.extend_from_slice(data.as_slice())?;
+        self.drive.give(RECEIVED, whole.as_slice(), size);
+        Ok(())
+    }
+
+    /// One of both sends a PDU.
+    fn line(&mut self, alloc: Global, line: &str, size: usize) -> Result<(), Fail> {
+        if let Some(digits) = line.strip_prefix('>') {
+            let pdu = spelled(alloc, digits)?;
+            return self.send(pdu.as_slice());
+        }
+        let digits = line.strip_prefix('<').ok_or("no line")?;
+        let pdu = spelled(alloc, digits)?;
+        self.answer(alloc, pdu.as_slice(), size)
+    }
+
+    /// Whether all that is sent is what the initiator sent, and the blocks have gone up.
+    fn agrees(&self) -> bool {
+        let sent = self.drive.tape.sent.as_slice().get(16..);
+        sent == Some(self.wanted.as_slice()) && self.drive.kept().0 == self.expected.as_slice()
+    }
+}
+
+/// Plays a recorded session, whose stream comes in pieces of this size.
+fn played(alloc: Global, record: &str, setting: Setting, size: usize) -> Result<Drive, Fail> {
+    let mut play = Play {
+        drive: opened(alloc, setting)?,
+        wanted: Vec::new(alloc),
+        expected: Vec::new(alloc),
+        lba: 0,
+    };
+    for line in record.lines() {
+        play.line(alloc, line, size)?;
+    }
+    if !play.agrees() {
+        return Err(Fail::new("another session"));
+    }
+    let Play { drive, .. } = play;
     Ok(drive)
 }
+
+/// A session was read to its end: so many answers brought the size and this kind of CHAP; a read that may not be asked
+/// for sends nothing.
+fn was_read(drive: &mut Drive, chap: u32, count: usize) -> bool {
+    let answers = drive.kept().1;
+    if answers.len() != count || answers.iter().any(|answer| *answer != (2048, chap)) {
+        return false;
+    }
+    let sent = drive.tape.sent.len();
+    for (lba, count) in [(2047, 2), (0, 0), (0, 65), (4_294_967_295, 1)] {
+        drive.read(lba, count);
+    }
+    drive.tape.sent.len() == sent && drive.tape.closed.is_empty()
+}
+
+/// The ports that a unit closes which ends as broken, and those below and above.
+const BROKEN: [(u64, u8); 5] = [(2, 3), (1, 3), (2, 3), (3, 3), (3, 3)];
 
 /// A login and reads with two targets, however the stream is cut; then its end, which breaks the session.
 #[test]
 fn reads_blocks(rt: HostRuntime) -> Result<(), Fail> {
-    for (record, setting, chap, reads) in [(PLAIN, NOBODY, 0, 3), (CHAP, USER_SET, 1, 2)] {
-        for size in [1, 47, 100, 1460, 20_000] {
-            let mut drive = play(&rt, rt.alloc(), record, setting, size)?;
-            let answers = drive.kept().1;
-            assert_eq!(rt; answers.len(), reads + 1, "{size}");
-            for answer in answers {
-                assert_eq!(rt; *answer, (2048, chap), "{size}");
-            }
-            assert!(rt; drive.tape.closed.is_empty(), "it goes on");
-            let sent = drive.tape.sent.len();
-            for (lba, count) in [(2047, 2), (0, 0), (0, 65), (4_294_967_295, 1)] {
-                drive.read(lba, count);
-                assert_eq!(rt; drive.tape.sent.len(), sent, "{lba} {count}");
-            }
-            drive.give(END, b"", 1);
-            assert_eq!(rt;
-                drive.tape.closed.as_slice(),
-                [(2, 3), (1, 3), (2, 3), (3, 3), (3, 3)].as_slice()
-            );
-        }
+    for size in [1, 47, 100, 1460, 20_000] {
+        let mut drive = played(rt.alloc(), plain(), NOBODY, size)?;
+        assert!(rt; was_read(&mut drive, 0, 4), "{size}");
+        drive.give(END, b"", 1);
+        assert_eq!(rt; drive.tape.closed.as_slice(), BROKEN.as_slice());
+    }
+    Ok(())
+}
+
+/// The same with CHAP; then bytes with which no PDU begins.
+#[test]
+fn reads_with_a_secret(rt: HostRuntime) -> Result<(), Fail> {
+    for size in [1, 47, 100, 1460, 20_000] {
+        let mut drive = played(rt.alloc(), chap(), USER_SET, size)?;
+        assert!(rt; was_read(&mut drive, 1, 3), "{size}");
+        drive.give(RECEIVED, b"\x25\x80\x00\x00\x00\x00\x20\x01more", 100);
+        assert_eq!(rt; drive.tape.closed.as_slice(), BROKEN.as_slice());
     }
     Ok(())
 }
@@ -314,13 +359,11 @@ fn reads_blocks(rt: HostRuntime) -> Result<(), Fail> {
 /// A target that refuses the secret: both ports are closed, the one above first.
 #[test]
 fn refused_by_the_target(rt: HostRuntime) -> Result<(), Fail> {
-    for size in [1, 20_000] {
-        let drive = play(&rt, rt.alloc(), WRONG, WRONG_SET, size)?;
-        assert_eq!(rt;
-            drive.tape.closed.as_slice(),
-            [(3, 1), (2, 1), (2, 1), (1, 1), (3, 1)].as_slice()
-        );
-    }
+    let drive = played(rt.alloc(), wrong(), WRONG_SET, 100)?;
+    assert_eq!(rt;
+        drive.tape.closed.as_slice(),
+        [(3, 1), (2, 1), (2, 1), (1, 1), (3, 1)].as_slice()
+    );
     Ok(())
 }
 
@@ -356,20 +399,12 @@ fn refused_name(rt: HostRuntime) -> Result<(), Fail> {
     Ok(())
 }
 
-/// An open session that can't be read on ends by its unit; one that its user closes closes what lies below.
+/// One that its user closes closes what lies below.
 #[test]
-fn broken_and_closed(rt: HostRuntime) -> Result<(), Fail> {
-    let mut drive = play(&rt, rt.alloc(), CHAP, USER_SET, 100)?;
-    drive.give(RECEIVED, b"\x25\x80\x00\x00\x00\x00\x20\x01more", 100);
-    assert_eq!(rt;
-        drive.tape.closed.as_slice(),
-        [(2, 3), (1, 3), (2, 3), (3, 3), (3, 3)].as_slice()
-    );
-    let mut drive = play(&rt, rt.alloc(), CHAP, USER_SET, 100)?;
+fn closed_from_above(rt: HostRuntime) -> Result<(), Fail> {
+    let mut drive = played(rt.alloc(), chap(), USER_SET, 100)?;
     let at = Port { obj: USER, slot: 1 };
-    drive
-        .graph
-        .close(at, &nb_terms::Cause::default(), 0, &mut drive.tape);
+    drive.graph.close(at, &Cause::default(), 0, &mut drive.tape);
     assert_eq!(rt;
         drive.tape.closed.as_slice(),
         [(1, 0), (2, 0), (2, 0), (3, 0), (3, 0)].as_slice()
