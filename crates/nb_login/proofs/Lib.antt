@@ -1,5 +1,6 @@
 pub mod LoginHistoryLemmas
 pub mod LoginStandsLemmas
+pub mod DecisionLemmas
 pub mod LoginEndingLaws
 pub mod LoginEndedLaws
 pub mod ProofLaws

@@ -1,0 +1,24 @@
+use Rattle.std.proofs.Common.{◌∙◌, ap, not, sym, length-append}
+use Rattle.std.proofs.lemmas.Bool.{ne_eqb}
+use Rattle.nb_graph.specs.declared.effects.Fx.{Fx}
+use Rattle.nb_graph.specs.Trace.{said}
+use Rattle.nb_conns.proofs.DialogueLemmas.{nothing_said}
+use Rattle.nb_drivenodes.proofs.DriveEffectLemmas.{passes-alone}
+use Rattle.nb_drivenodes.proofs.SessionLemmas.{session-rests, session-cuts, quiet-down-session}
+use Rattle.nb_drivenodes.proofs.LoginAnswerLemmas.{session-sends-on, nothing-emitted}
+use Rattle.nb_drivenodes.proofs.iscsi.Iscsi.pass.Goals as goal
+
+pub returns-then-msg-from-clause-leads : goal.returns-then-msg-from-clause-leads
+returns-then-msg-from-clause-leads g c = λ now. session-rests g.L.CarriesText.texts _ _ _
+    (λ d at. quiet-down-session c.args.self.now.stage c.args.self.now.pdus (said c.args.msg.now) now c.args.fx.now d (λ e. absurd (let z = e in let y = c.requires.open in cc)) (λ e. ne_eqb c.args.msg.now.tag 7 (λ t. c.if-msg-from.true (t ∙ sym c.from.ensures))) at)
+    (nothing_said c.args.fx.now c.requires.nothing)
+
+pub returns-then-count-clause-leads : goal.returns-then-count-clause-leads
+returns-then-count-clause-leads g c = λ now. session-cuts _ _ _ _ _ _ c.give_up.ensures.ended (λ d at. ap not c.give_up.ensures.err) tt
+
+pub returns-clause-leads : goal.returns-clause-leads
+returns-clause-leads g c = λ now.
+    let idle = nothing_said c.args.fx.now c.requires.nothing in
+    let fx : Fx g.row.N.Denot g.row.L.Denot = record c.args.fx.now { downs = c.pass_down.new.downs } in
+    session-sends-on g.L.CarriesText.texts (said c.args.msg.now) now fx c.args.self.now.stage c.args.self.now.pdus c.requires.open (c.if-msg-from.false ∙ c.from.ensures)
+    (passes-alone g.L.CarriesText.texts (said c.args.msg.now) _ fx (sym (length-append c.args.msg.now.first.now c.args.msg.now.second.now)) idle.0.no_make c.pass_down.ensures (nothing-emitted c.args.fx.now idle.0).1 idle.1)
