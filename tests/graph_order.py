@@ -1,6 +1,10 @@
 """Checks where the GRAPH records of an output stand among the others.
 
-`Order` is a second reading of crates/nb_opens/specs/Graphs.antt, and `Ends` one of Traces.antt beside it.
+`Order` has the events of each kind of open in their order, with what is sent among them, as docs/RECORDS.md has them: no
+clause says that order. It asks more than `Traced` (crates/nb_traced/specs/Outputs.antt), which names no kind and allows any
+number of opens: here one lives at a time. `Ends` is a second reading of `OpensHavePieces` and `EndsAreTheirs`
+(Openings.antt beside it), and asks more too: that an open's objects are made directly before its OPEN, or were made before
+its look-up, and are freed directly before its ENDED.
 """
 
 from __future__ import annotations

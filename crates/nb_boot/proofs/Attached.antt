@@ -13,7 +13,8 @@ abbrev pub run_from : (first mid after : Outside) → Attaches first mid → Run
 run_from first mid after p r = record {
   ins = r.ins;
   outs = r.outs;
-  machine = r.machine;
+  progress = r.progress;
+  came = r.came;
   rest = r.rest;
   closing = r.closing;
   read = r.read;
@@ -21,14 +22,14 @@ run_from first mid after p r = record {
   lost = r.lost;
   passes = Passes-then first mid after [] [] r.read r.written (Attaches-passes first mid p) r.passes;
   spelled = r.spelled;
-  path = r.path;
   follows = r.follows;
-  closes = r.closes;
+  closed = r.closed;
   alone = r.alone;
   shuts = r.shuts;
-  at = r.at;
-  graphs = r.graphs;
+  holdings = r.holdings;
   traced = r.traced;
+  at_end = r.at_end;
+  traced_all = r.traced_all;
   texts = r.texts;
   few = r.few;
   in_turn = turns_from first mid after r.ins r.outs p r.in_turn;
@@ -36,10 +37,10 @@ run_from first mid after p r = record {
 
 over_from : (first mid after : Outside) (p : Attaches first mid) (r : Run mid after) (number : ℕ) → IsOver mid after r number → IsOver first after (run_from first mid after p r) number
 over_from first mid after p r number o =
-    record { ends = o.ends; closed = o.closed; front = o.front; last = o.last; opens = o.opens; made = o.made; none = o.none; all = o.all }
+    record { ends = o.ends; put = o.put; shuts = o.shuts; closing = o.closing; front = o.front; last = o.last; none_live = o.none_live; none_wait = o.none_wait; all = o.all }
 
 pub attached_shows : (s : Status) (first mid after : Outside) → Attaches first mid → Shows s mid after → Shows s first after
-attached_shows status.HandedOff first mid after p (r, o) = (run_from first mid after p r, (over_from first mid after p r 0 o.0, o.1))
+attached_shows status.HandedOff first mid after p (r, o) = (run_from first mid after p r, over_from first mid after p r 0 o)
 attached_shows status.Ended first mid after p (r, o) = (run_from first mid after p r, over_from first mid after p r 3 o)
 attached_shows status.ScriptFailed first mid after p (r, o) = (run_from first mid after p r, over_from first mid after p r 4 o)
 attached_shows status.Unfinished first mid after p (r, o) = (run_from first mid after p r, over_from first mid after p r 5 o)
@@ -50,7 +51,7 @@ attached_shows status.ReadFault first mid after p (r, o) = (
   record {
     between = o.between;
     partial = o.partial;
-    closed = o.closed;
+    closing = o.closing;
     all = o.all;
     rose = rose_later first.read_faults mid.read_faults after.read_faults p.counts.read_count o.rose;
   },

@@ -5,8 +5,8 @@ use Rattle.std.proofs.lemmas.List.{take-append-drop}
 use Rattle.nb_defs.specs.Records.{IsBroken}
 use Rattle.nb_record.specs.Outside.{Outside, Passes, Gave, IsAtEnd}
 use Rattle.nb_record.specs.Held.{BreaksAt}
-use Rattle.nb_engine.specs.Machine.{Machine, Phase, ready, running, waiting, asking, sleeping, reaching, yielded, handing, left, handed_off, stopped}
-use Rattle.nb_boot.specs.Run.{IsBadRest, Ends, was_left, was_handed, was_stopped, ran_out, was_bad, was_full}
+use Rattle.nb_machine.specs.Courses.{Progress, Standing, ready, running, waiting, reaching, yielded, handing, left, handed_off, stopped}
+use Rattle.nb_boot.specs.Shown.{NoneMayCome, EndsWhere, was_left, was_handed, was_stopped, ran_out, was_bad, was_full}
 
 gave_nothing : (old now : Option (List ℕ)) → Gave old now [] → IfSome old (λ rest. rest ≡ []) → IfSome now (λ rest. rest ≡ [])
 gave_nothing old None g e = tt
@@ -17,36 +17,30 @@ gave_nothing (Some x) (Some y) g e = sym g ∙ e
 pub end_stays : (before now : Outside) (written : List ℕ) → Passes before now [] written → IsAtEnd before → IsAtEnd now
 end_stays before now written p e = gave_nothing before.left now.left p.gave e
 
-bad_stays : (phase : Phase) (rest written : List ℕ) (before now : Outside) → Passes before now [] written → IsBadRest phase rest before → IsBadRest phase rest now
+bad_stays : (p : Standing) (rest written : List ℕ) (before now : Outside) → Passes before now [] written → NoneMayCome p rest before → NoneMayCome p rest now
 bad_stays ready rest written before now p (inl b) = inl b
 bad_stays ready rest written before now p (inr (inl b)) = inr (inl b)
 bad_stays ready rest written before now p (inr (inr e)) = inr (inr (e.0, end_stays before now written p e.1))
-bad_stays (waiting w s o) rest written before now p (inl b) = inl b
-bad_stays (waiting w s o) rest written before now p (inr (inl b)) = inr (inl b)
-bad_stays (waiting w s o) rest written before now p (inr (inr e)) = inr (inr (e.0, e.1, end_stays before now written p e.2))
-bad_stays (asking w s o) rest written before now p (inl b) = inl b
-bad_stays (asking w s o) rest written before now p (inr (inl b)) = inr (inl b)
-bad_stays (asking w s o) rest written before now p (inr (inr e)) = inr (inr (e.0, e.1, end_stays before now written p e.2))
-bad_stays (sleeping w s until) rest written before now p (inl b) = inl b
-bad_stays (yielded w s) rest written before now p (inl b) = inl b
-bad_stays (sleeping w s until) rest written before now p (inr (inl b)) = inr (inl b)
-bad_stays (yielded w s) rest written before now p (inr (inl b)) = inr (inl b)
-bad_stays (sleeping w s until) rest written before now p (inr (inr e)) = inr (inr (e.0, e.1, end_stays before now written p e.2))
-bad_stays (yielded w s) rest written before now p (inr (inr e)) = inr (inr (e.0, e.1, end_stays before now written p e.2))
-bad_stays (reaching w s next) rest written before now p b = absurd b
-bad_stays (running w s) rest written before now p b = absurd b
-bad_stays (handing x) rest written before now p b = absurd b
-bad_stays (left cause) rest written before now p b = absurd b
-bad_stays handed_off rest written before now p b = absurd b
-bad_stays stopped rest written before now p b = absurd b
+bad_stays (waiting s w) rest written before now p (inl b) = inl b
+bad_stays (waiting s w) rest written before now p (inr (inl b)) = inr (inl b)
+bad_stays (waiting s w) rest written before now p (inr (inr e)) = inr (inr (e.0, e.1, end_stays before now written p e.2))
+bad_stays (yielded s inner outer) rest written before now p (inl b) = inl b
+bad_stays (yielded s inner outer) rest written before now p (inr (inl b)) = inr (inl b)
+bad_stays (yielded s inner outer) rest written before now p (inr (inr e)) = inr (inr (e.0, e.1, end_stays before now written p e.2))
+bad_stays (reaching s inner outer next) rest written before now p b = absurd b
+bad_stays (running s inner outer) rest written before now p b = absurd b
+bad_stays (handing s more) rest written before now p b = absurd b
+bad_stays (left s outer cause) rest written before now p b = absurd b
+bad_stays (handed_off s) rest written before now p b = absurd b
+bad_stays (stopped s) rest written before now p b = absurd b
 
 -- a run that is over stays over where nothing is read
-pub ends_stay : (m : Machine) (rest written : List ℕ) (before now : Outside) (number : ℕ) → Passes before now [] written → Ends m rest before number → Ends m rest now number
-ends_stay m rest written before now number p (was_left cause h e) = was_left cause h e
-ends_stay m rest written before now number p (was_handed h e) = was_handed h e
-ends_stay m rest written before now number p (was_stopped h e) = was_stopped h e
+pub ends_stay : (m : Progress) (rest written : List ℕ) (before now : Outside) (number : ℕ) → Passes before now [] written → EndsWhere m rest before number → EndsWhere m rest now number
+ends_stay m rest written before now number p (was_left s cause h e) = was_left s cause h e
+ends_stay m rest written before now number p (was_handed s h e) = was_handed s h e
+ends_stay m rest written before now number p (was_stopped s h e) = was_stopped s h e
 ends_stay m rest written before now number p (ran_out h none at_end e) = ran_out h none (end_stays before now written p at_end) e
-ends_stay m rest written before now number p (was_bad few bad e) = was_bad few (bad_stays m.phase rest written before now p bad) e
+ends_stay m rest written before now number p (was_bad few bad e) = was_bad few (bad_stays m.standing rest written before now p bad) e
 ends_stay m rest written before now number p (was_full full h some e) = was_full full h some e
 
 -- bytes that break somewhere begin no record

@@ -11,8 +11,7 @@ use Rattle.nb_machine.specs.Courses.{Standing, ready, running, waiting, reaching
 use Rattle.nb_onecourse.proofs.Nexts.{what_next}
 use Rattle.nb_onecourse.proofs.OneNext.{still_proceeds}
 use Rattle.nb_onecourse.proofs.Ends.{snoc_same, snoc_some}
-use Rattle.nb_boot.specs.Run.{IsOther}
-use Rattle.nb_boot.specs.Shown.{CommandWaits}
+use Rattle.nb_boot.specs.Shown.{CommandWaits, IsOther}
 use Rattle.nb_boot.proofs.Comparing.{ending}
 use Rattle.nb_boot.proofs.Spelled.{AreIn, are_in_then}
 
@@ -72,6 +71,12 @@ proceeds_counted m a m' (finds_no_way n s inner outer next link few got way) = (
 proceeds_counted m a m' (opens_no_more n s inner outer next full) = (refl, tt)
 proceeds_counted m a m' (hands n s r rest) = (refl, tt)
 proceeds_counted m a m' (has_handed n s) = (refl, tt)
+
+pub begins_used : (m : Progress) (r : In) (a : List Out) (m' : Progress) → StepBegins m r a m' → m'.used ≡ m.used + 1
+begins_used m r a m' b = (begins_counted m r a m' b).used
+
+pub proceeds_used : (m : Progress) (a : List Out) (m' : Progress) → Proceeds m a m' → m'.used ≡ m.used
+proceeds_used m a m' v = (proceeds_counted m a m' v).0
 
 -- the records used have spellings
 pub course_in : (ins : List In) (outs : List Out) (m : Progress) → Course ins outs m → AreIn ins

@@ -11,8 +11,7 @@ use Rattle.nb_machine.specs.Courses.{Standing, ready, running, waiting, reaching
 use Rattle.nb_machine.specs.Closings.{Shuts}
 use Rattle.nb_onecourse.specs.Rests.{HasComeToRest, SameCourse}
 use Rattle.nb_onecourse.proofs.OneCourse.{one_course}
-use Rattle.nb_boot.specs.Run.{IsFirst, BeginsWith}
-use Rattle.nb_boot.specs.Shown.{CommandWaits, NoneMayCome, EndsWhere, was_left, was_handed, was_stopped, ran_out, was_bad, was_full, Shown, HasEnded, ShowsCourse}
+use Rattle.nb_boot.specs.Shown.{IsFirst, BeginsWith, CommandWaits, NoneMayCome, EndsWhere, was_left, was_handed, was_stopped, ran_out, was_bad, was_full, Shown, HasEnded, ShowsCourse}
 use Rattle.nb_boot.specs.Determined.{CourseSays, WroteAll, IsDetermined}
 use Rattle.nb_boot.proofs.Completeness.{empty_front, ended_there, gave_told, no_bad_first, some_bytes, no_bad_waiting, no_bad_end}
 use Rattle.nb_boot.proofs.Spelled.{AreIn, are-here}

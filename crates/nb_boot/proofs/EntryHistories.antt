@@ -1,19 +1,17 @@
--- A history that goes on from another, and what it says of the opens of a scene.
-use Rattle.std.proofs.Common.{◌≡◌, inl, inr, ℕ, ◌==◌, Bool, true, false, not, cond, ◌||◌, List, [], ◌∷◌, ◌++◌, refl, sym, ◌∙◌, ap, subst, append_assoc, append-nil, ne_eqb, eq-eqb}
-use Rattle.std.proofs.lemmas.Bool.{cases_eq, true≢false}
+-- A history that goes on from another.
+use Rattle.std.proofs.Common.{◌≡◌, ℕ, Bool, true, false, not, cond, List, [], ◌∷◌, ◌++◌, refl, sym, ◌∙◌, ap, subst, append_assoc, append-nil}
 use Rattle.std.proofs.lemmas.List.Elements.{filter-append}
 use Rattle.std.proofs.lemmas.List.Concat.{flat_map-append}
-use Rattle.nb_defs.specs.Records.{In, Out, step, sent, text, command, result, script, opened, tried, advanced, ended, graph, part, done}
+use Rattle.nb_defs.specs.Records.{In, start, frame, tick, off, Out, step}
 use Rattle.nb_stack.specs.Brings.{Brings}
 use Rattle.nb_stack.proofs.MessageLaws.{message_one}
 use Rattle.nb_opens.specs.Graphs.{is_graph, without_graph}
 use Rattle.nb_laws.specs.Events.{Event, starts, hears, waits, stops, puts, used_by, written_by, put_one, inputs, outputs, EachEvent}
-use Rattle.nb_laws.specs.Histories.{IsRead, client}
-use Rattle.nb_laws.specs.Lists.{Opening, opening_at, openings, is_end_of, open_has_ended, live, time}
+use Rattle.nb_laws.specs.Histories.{IsRead, IsHistory, client}
 use Rattle.nb_openlaws.proofs.UsedEvents.{IsUsed}
-use Rattle.nb_laws.proofs.Tellings.{told, openings_more, over_more, no_or, no_more}
+use Rattle.nb_laws.proofs.Tellings.{told}
+use Rattle.nb_opens.proofs.Plain.{plain_append}
 use Rattle.nb_boot.specs.Entries.{is_of_graph, plain}
-use Rattle.nb_boot.proofs.EntryScenes.{Scene, scene_by, Unlived, LivesAlone, Fact}
 
 -- A HISTORY THAT GOES ON
 
@@ -88,9 +86,6 @@ told_outputs (o ∷ outs) = ap (λ z. o ∷ z) (told_outputs outs)
 pub outputs_append : (a b : List Event) → outputs (a ++ b) ≡ outputs a ++ outputs b
 outputs_append a b = flat_map-append put_one a b
 
-pub inputs_append : (a b : List Event) → inputs (a ++ b) ≡ inputs a ++ inputs b
-inputs_append a b = flat_map-append used_by a b
-
 pub plain_events_append : (a b : List Event) → plain (a ++ b) ≡ plain a ++ plain b
 plain_events_append a b = filter-append (λ e. not (is_of_graph e)) a b
 
@@ -117,91 +112,58 @@ pub each_last : (P : List Event → Event → Type 0) (before xs ys : List Event
 each_last P before [] ys all = subst (λ z. EachEvent P z ys) (sym (append-nil before)) all
 each_last P before (x ∷ xs) ys all = subst (λ z. EachEvent P z ys) (append_assoc before (x ∷ []) xs) (each_last P (before ++ x ∷ []) xs ys all.1)
 
--- THE OPENS OF A SCENE
+-- A RUN'S HISTORY GOES ON
 
--- the history says which opens have begun and which have ended, each once
-pub record AgreesWith (s : Scene) (es : List Event) : Type 0 where
-  pub over : (k : ℕ) → open_has_ended k es ≡ s.over k
-  pub unbegun : (k : ℕ) → s.begun k ≡ false → openings k es ≡ []
-  pub begun : (k : ℕ) → s.begun k ≡ true → (o : Opening) × (openings k es ≡ o ∷ [])
+-- the event that a record used is, which is read, and the records that are written after it
+pub record FirstUsed (es all : List Event) (r : In) (number : ℕ) (outs : List Out) : Type 0 where
+  pub event : Event
+  pub used : IsUsed event
+  pub is_record : used_by event ≡ r ∷ []
+  pub is_step : written_by event ≡ step number
+  pub read : IsRead es event
+  pub goes_on : all ≡ (es ++ event ∷ []) ++ told outs
 
-either_none : (b : Bool) (os : List Opening) → os ≡ [] → cond b [] os ≡ []
-either_none true os e = refl
-either_none false os e = e
+tail_same : (x y : In) (xs ys : List In) → x ∷ xs ≡ y ∷ ys → xs ≡ ys
+tail_same x y xs ys e = cc
 
-pub agrees_unlived : (s : Scene) (es : List Event) (k : ℕ) → AgreesWith s es → Unlived k s → live k es ≡ []
-unfolding live
-agrees_unlived s es k a (inl none) = either_none (open_has_ended k es) (openings k es) (a.unbegun k none)
-agrees_unlived s es k a (inr over) = ap (λ b. cond b [] (openings k es)) (a.over k ∙ over)
+outs_tail : (x y : Out) (xs ys : List Out) → x ∷ xs ≡ y ∷ ys → xs ≡ ys
+outs_tail x y xs ys e = cc
 
-pub agrees_lives : (s : Scene) (es : List Event) (k : ℕ) → AgreesWith s es → LivesAlone k s → (o : Opening) × (live k es ≡ o ∷ [])
-unfolding live
-agrees_lives s es k a l = let b = a.begun k l.begun in (b.0, ap (λ c. cond c [] (openings k es)) (a.over k ∙ l.over) ∙ b.1)
-
-or_cond : (a b c : Bool) → a ≡ c → (a || b) ≡ cond b true c
-or_cond true true c e = refl
-or_cond true false c e = e
-or_cond false true c e = refl
-or_cond false false c e = e
-
--- a record that begins and ends no open
-agrees_kept : (s : Scene) (es : List Event) (e : Event) (t : Scene) → ((k : ℕ) → opening_at k es e ≡ []) → ((k : ℕ) → is_end_of k e ≡ false) → ((k : ℕ) → t.begun k ≡ s.begun k) → ((k : ℕ) → t.over k ≡ s.over k) →
-    AgreesWith s es → AgreesWith t (es ++ e ∷ [])
-agrees_kept s es e t none going begun over a = record {
-  over = λ k. over_more k es e ∙ no_or (open_has_ended k es) _ (going k) ∙ a.over k ∙ sym (over k);
-  unbegun = λ k no. openings_more k es e ∙ no_more (openings k es) _ (none k) ∙ a.unbegun k (sym (begun k) ∙ no);
-  begun = λ k yes. let b = a.begun k (sym (begun k) ∙ yes) in (b.0, openings_more k es e ∙ no_more (openings k es) _ (none k) ∙ b.1);
-}
-
--- a record is used
-pub agrees_used : (s : Scene) (es : List Event) (e : Event) (n : ℕ) → IsUsed e → AgreesWith s es → AgreesWith (scene_by s (step n)) (es ++ e ∷ [])
-agrees_used s es (puts o) n h a = absurd h
-agrees_used s es (starts k x) n h a = agrees_kept s es (starts k x) (scene_by s (step n)) (λ _. refl) (λ _. refl) (λ _. refl) (λ _. refl) a
-agrees_used s es (hears k bytes m) n h a = agrees_kept s es (hears k bytes m) (scene_by s (step n)) (λ _. refl) (λ _. refl) (λ _. refl) (λ _. refl) a
-agrees_used s es (waits k ms) n h a = agrees_kept s es (waits k ms) (scene_by s (step n)) (λ _. refl) (λ _. refl) (λ _. refl) (λ _. refl) a
-agrees_used s es (stops k) n h a = agrees_kept s es (stops k) (scene_by s (step n)) (λ _. refl) (λ _. refl) (λ _. refl) (λ _. refl) a
-
--- OPEN
-agrees_opened : (s : Scene) (es : List Event) (number kind server port own : ℕ) (target : List ℕ) → s.begun number ≡ false → AgreesWith s es →
-    AgreesWith (scene_by s (opened number kind server port own target)) (es ++ puts (opened number kind server port own target) ∷ [])
-agrees_opened s es number kind server port own target fresh a =
-    let o = opened number kind server port own target in
-    let one : Opening = record { kind = kind; server = server; port = port; own = own; target = target; since = time es } in
+first_of : (es : List Event) (e : Event) (x : In) (more : List Event) (r : In) (number : ℕ) (outs : List Out) → IsUsed e → used_by e ≡ x ∷ [] → used_by e ++ inputs more ≡ r ∷ [] → written_by e ∷ outputs more ≡ step number ∷ outs →
+    EachEvent IsRead es (e ∷ more) → FirstUsed es (es ++ e ∷ more) r number outs
+first_of es e x more r number outs used is i o read =
+    let both : x ∷ inputs more ≡ r ∷ [] = ap (λ z. z ++ inputs more) (sym is) ∙ i in
+    let none : inputs more ≡ [] = tail_same x r (inputs more) [] both in
+    let head : x ≡ r = cc in
     record {
-      over = λ k. over_more k es (puts o) ∙ no_or (open_has_ended k es) false refl ∙ a.over k;
-      unbegun = λ k no. elim (cases_eq number k) [
-        | inl e ↦ absurd (true≢false (ap (λ b. cond b true (s.begun k)) (sym (eq-eqb number k e)) ∙ no))
-        | inr n ↦ openings_more k es (puts o) ∙ no_more (openings k es) (opening_at k es (puts o)) (ap (λ b. cond b (one ∷ []) []) (ne_eqb number k n)) ∙ a.unbegun k (ap (λ b. cond b true (s.begun k)) (sym (ne_eqb number k n)) ∙ no)
-      ];
-      begun = λ k yes. elim (cases_eq number k) [
-        | inl e ↦ (one, openings_more k es (puts o) ∙ ap (λ z. z ++ opening_at k es (puts o)) (a.unbegun k (subst (λ z. s.begun z ≡ false) e fresh)) ∙ ap (λ b. cond b (one ∷ []) []) (eq-eqb number k e))
-        | inr n ↦
-            let b = a.begun k (ap (λ c. cond c true (s.begun k)) (sym (ne_eqb number k n)) ∙ yes) in
-            (b.0, openings_more k es (puts o) ∙ no_more (openings k es) (opening_at k es (puts o)) (ap (λ c. cond c (one ∷ []) []) (ne_eqb number k n)) ∙ b.1)
-      ];
+      event = e;
+      used = used;
+      is_record = is ∙ ap (λ z. z ∷ []) head;
+      is_step = cc;
+      read = read.0;
+      goes_on = sym (append_assoc es (e ∷ []) more) ∙ ap (λ z. (es ++ e ∷ []) ++ z) (all_told more none ∙ ap told (outs_tail (written_by e) (step number) (outputs more) outs o));
     }
 
--- a record is written
-pub agrees_put : (s : Scene) (es : List Event) (o : Out) → is_graph o ≡ false → Fact s o → AgreesWith s es → AgreesWith (scene_by s o) (es ++ puts o ∷ [])
-agrees_put s es (graph happens) h fact a = absurd (true≢false h)
-agrees_put s es (opened number kind server port own target) h fact a = agrees_opened s es number kind server port own target fact a
-agrees_put s es (ended number cause) h fact a = record {
-  over = λ k. over_more k es (puts (ended number cause)) ∙ or_cond (open_has_ended k es) (number == k) (s.over k) (a.over k);
-  unbegun = λ k none. openings_more k es (puts (ended number cause)) ∙ no_more (openings k es) _ refl ∙ a.unbegun k none;
-  begun = λ k yes. let b = a.begun k yes in (b.0, openings_more k es (puts (ended number cause)) ∙ no_more (openings k es) _ refl ∙ b.1);
-}
-agrees_put s es (step number) h fact a = agrees_kept s es (puts (step number)) (scene_by s (step number)) (λ _. refl) (λ _. refl) (λ _. refl) (λ _. refl) a
-agrees_put s es (sent bytes) h fact a = agrees_kept s es (puts (sent bytes)) (scene_by s (sent bytes)) (λ _. refl) (λ _. refl) (λ _. refl) (λ _. refl) a
-agrees_put s es (text bytes) h fact a = agrees_kept s es (puts (text bytes)) (scene_by s (text bytes)) (λ _. refl) (λ _. refl) (λ _. refl) (λ _. refl) a
-agrees_put s es (command depth line place expanded words) h fact a = agrees_kept s es (puts (command depth line place expanded words)) (scene_by s (command depth line place expanded words)) (λ _. refl) (λ _. refl) (λ _. refl) (λ _. refl) a
-agrees_put s es (result cause) h fact a = agrees_kept s es (puts (result cause)) (scene_by s (result cause)) (λ _. refl) (λ _. refl) (λ _. refl) (λ _. refl) a
-agrees_put s es (script what depth cause) h fact a = agrees_kept s es (puts (script what depth cause)) (scene_by s (script what depth cause)) (λ _. refl) (λ _. refl) (λ _. refl) (λ _. refl) a
-agrees_put s es (tried number count) h fact a = agrees_kept s es (puts (tried number count)) (scene_by s (tried number count)) (λ _. refl) (λ _. refl) (λ _. refl) (λ _. refl) a
-agrees_put s es (advanced number place) h fact a = agrees_kept s es (puts (advanced number place)) (scene_by s (advanced number place)) (λ _. refl) (λ _. refl) (λ _. refl) (λ _. refl) a
-agrees_put s es (part kind index offset bytes) h fact a = agrees_kept s es (puts (part kind index offset bytes)) (scene_by s (part kind index offset bytes)) (λ _. refl) (λ _. refl) (λ _. refl) (λ _. refl) a
-agrees_put s es (done status) h fact a = agrees_kept s es (puts (done status)) (scene_by s (done status)) (λ _. refl) (λ _. refl) (λ _. refl) (λ _. refl) a
+used_first : (es : List Event) (more : List Event) (r : In) (number : ℕ) (outs : List Out) → inputs more ≡ r ∷ [] → outputs more ≡ step number ∷ outs → EachEvent IsRead es more → FirstUsed es (es ++ more) r number outs
+used_first es [] r number outs i o read = absurd (let no : [] ≡ r ∷ [] = i in cc)
+used_first es (puts z ∷ more) r number outs i o read = absurd (no_step es number z (cc) read.0)
+used_first es (starts k s ∷ more) r number outs i o read = first_of es (starts k s) (start s) more r number outs tt refl i o read
+used_first es (hears k bytes m ∷ more) r number outs i o read = first_of es (hears k bytes m) (frame bytes) more r number outs tt refl i o read
+used_first es (waits k ms ∷ more) r number outs i o read = first_of es (waits k ms) (tick ms) more r number outs tt refl i o read
+used_first es (stops k ∷ more) r number outs i o read = first_of es (stops k) off more r number outs tt refl i o read
 
--- one of the graph changes nothing of that
-pub agrees_graph : (s t : Scene) (es : List Event) → ((k : ℕ) → t.begun k ≡ s.begun k) → ((k : ℕ) → t.over k ≡ s.over k) → AgreesWith s es → AgreesWith t es
-agrees_graph s t es begun over a =
-    record { over = λ k. a.over k ∙ sym (over k); unbegun = λ k no. a.unbegun k (sym (begun k) ∙ no); begun = λ k yes. a.begun k (sym (begun k) ∙ yes) }
+-- it used one more record
+pub used_history : (ins : List In) (outs more : List Out) (es all : List Event) (r : In) (number : ℕ) → IsHistory ins (without_graph outs) es → IsHistory (ins ++ r ∷ []) (without_graph (outs ++ (step number ∷ more))) all →
+    FirstUsed es all r number (without_graph more)
+used_history ins outs more es all r number h hall =
+    let g = goes_on_from [] es all (r ∷ []) (step number ∷ without_graph more) (sym hall.used ∙ ap (λ z. z ++ r ∷ []) h.used)
+    (sym hall.written ∙ plain_append outs (step number ∷ more) ∙ ap (λ z. z ++ step number ∷ without_graph more) h.written) h.read hall.read in
+    subst (λ z. FirstUsed es z r number (without_graph more)) (sym g.all)
+    (used_first es g.more r number (without_graph more) g.inputs_are g.outputs_are (each_last IsRead [] es g.more (subst (λ z. EachEvent IsRead [] z) g.all hall.read)))
+
+-- or wrote more
+pub written_history : (ins : List In) (outs more : List Out) (es all : List Event) → IsHistory ins (without_graph outs) es → IsHistory ins (without_graph (outs ++ more)) all → all ≡ es ++ told (without_graph more)
+written_history ins outs more es all h hall =
+    let g = goes_on_from [] es all [] (without_graph more) (sym hall.used ∙ h.used ∙ sym (append-nil (inputs es)))
+    (sym hall.written ∙ plain_append outs more ∙ ap (λ z. z ++ without_graph more) h.written) h.read hall.read in
+    g.all ∙ ap (λ z. es ++ z) (all_told g.more g.inputs_are ∙ ap told g.outputs_are)

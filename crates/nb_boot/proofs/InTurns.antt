@@ -6,43 +6,22 @@ use Rattle.nb_defs.specs.Records.{In, in_texts, IsPartial, Out, step, out_texts}
 use Rattle.nb_opens.specs.Graphs.{without_graph}
 use Rattle.nb_record.specs.declared.notes.ReadNote.{ReadNote}
 use Rattle.nb_record.specs.Outside.{Outside, Gave, Took, Attaches, IsNoted, NotesRead, AsksPiece, Passes, MOST_READ}
-use Rattle.nb_engine.specs.Machine.{Machine, Phase, Path}
-use Rattle.nb_engine.specs.Machine as lone
-use Rattle.nb_engine.specs.GraphSteps.{IsUnderWay}
-use Rattle.nb_machine.specs.Courses.{Standing}
-use Rattle.nb_carried.specs.Carried.{StandsAs}
-use Rattle.nb_carried.proofs.Runs.{runs_are_courses}
-use Rattle.nb_boot.specs.Run.{IsBetween}
+use Rattle.nb_machine.specs.Courses.{Standing, ready, running, waiting, reaching, yielded, handing, left, handed_off, stopped, Progress, Course}
+use Rattle.nb_boot.specs.Following.{StepGoesOn}
 use Rattle.nb_boot.specs.InTurn.{MayGoOn, EndsStep, IsInTurn, NewReads, OfEachRead, AreInTurn}
 use Rattle.nb_boot.specs.Going.{TookTurn}
 
--- where the machine is between two steps, so is the course
-pub between : (phase : Phase) (p : Standing) → StandsAs phase p → IsBetween phase → MayGoOn p
-between lone.ready p same h = subst MayGoOn (sym same) tt
-between (lone.reaching w s next) p same h = absurd h
-between (lone.running w s) p same h = absurd h
-between (lone.waiting w s o) p (xs, here, same) h = subst MayGoOn (sym same) tt
-between (lone.asking w s o) p (xs, here, same) h = subst MayGoOn (sym same) tt
-between (lone.sleeping w s until) p same h = subst MayGoOn (sym same.1) tt
-between (lone.yielded w s) p same h = subst MayGoOn (sym same) tt
-between (lone.handing rest) p same h = absurd h
-between (lone.left cause) p same h = absurd h
-between lone.handed_off p same h = absurd h
-between lone.stopped p same h = absurd h
-
 -- a step that is under way isn't between two
-pub not_both : (phase : Phase) → IsUnderWay phase → IsBetween phase → ⊥
-not_both lone.ready u b = u
-not_both (lone.reaching w s next) u b = b
-not_both (lone.running w s) u b = b
-not_both (lone.waiting w s o) u b = u
-not_both (lone.asking w s o) u b = u
-not_both (lone.sleeping w s until) u b = u
-not_both (lone.yielded w s) u b = u
-not_both (lone.handing rest) u b = b
-not_both (lone.left cause) u b = b
-not_both lone.handed_off u b = u
-not_both lone.stopped u b = u
+pub not_both : (p : Standing) → StepGoesOn p → MayGoOn p → ⊥
+not_both ready u b = u
+not_both (reaching s inner outer next) u b = b
+not_both (running s inner outer) u b = b
+not_both (waiting s w) u b = u
+not_both (yielded s inner outer) u b = u
+not_both (handing s rest) u b = b
+not_both (left s outer cause) u b = u
+not_both (handed_off s) u b = u
+not_both (stopped s) u b = u
 
 -- what is known of a value that is there
 if_some : {A : Type 0} (P : A → Type 0) (o : Option A) → ((x : A) → o ≡ Some x → P x) → IfSome o P
@@ -121,16 +100,16 @@ none_before [] ys e = refl
 none_before (x ∷ xs) ys e = absurd (omega (arith, ap length e))
 
 -- where a step is under way some of it was put since the read
-pub turn_moves : (first : Outside) (ins : List In) (outs added : List Out) (m m' : Machine) (read : ReadNote) → IsUnderWay m.phase → TookTurn m first ins outs read → TookTurn m' first (ins ++ []) (outs ++ added) read
+pub turn_moves : (first : Outside) (ins : List In) (outs added : List Out) (m m' : Progress) (read : ReadNote) → StepGoesOn m.standing → TookTurn m first ins outs read → TookTurn m' first (ins ++ []) (outs ++ added) read
 turn_moves first ins outs added m m' read way t =
-    let some : t.turn.later ≡ [] → ⊥ = λ e. not_both m.phase way (t.rests e) in
+    let some : t.turn.later ≡ [] → ⊥ = λ e. not_both m.standing way (t.rests e) in
     record {
       turn = one_grows first ins [] outs added read t.turn (λ e. absurd (some e));
       rests = λ e. absurd (some (none_before t.turn.later added e));
     }
 
 -- a record is used, and its STEP comes first
-pub turn_steps : (first : Outside) (ins used : List In) (outs added more : List Out) (number : ℕ) (m m' : Machine) (read : ReadNote) → added ≡ step number ∷ more → TookTurn m first ins outs read →
+pub turn_steps : (first : Outside) (ins used : List In) (outs added more : List Out) (number : ℕ) (m m' : Progress) (read : ReadNote) → added ≡ step number ∷ more → TookTurn m first ins outs read →
     TookTurn m' first (ins ++ used) (outs ++ added) read
 turn_steps first ins used outs added more number m m' read e t = record {
   turn = one_grows first ins used outs added read t.turn (λ _. subst EndsStep (sym e) tt);
@@ -151,11 +130,10 @@ taken_before None (Some y) written taken t e = absurd t
 taken_before (Some x) (Some y) written taken t e = let same : y ≡ taken = cc in (x, refl, sym same ∙ t)
 
 -- a read between two steps, where all that was put was taken
-one_in_turn : (ins : List In) (outs : List Out) (held written : List ℕ) (first before : Outside) (m : Machine) (most : ℕ) → most ≤ MOST_READ →
-    Passes first before (in_texts ins ++ held) written → out_texts outs ≡ written → Path ins (without_graph outs) m → IsBetween m.phase → IsPartial held →
+one_in_turn : (ins : List In) (outs : List Out) (held written : List ℕ) (first before : Outside) (m : Progress) (most : ℕ) → most ≤ MOST_READ →
+    Passes first before (in_texts ins ++ held) written → out_texts outs ≡ written → Course ins (without_graph outs) m → MayGoOn m.standing → IsPartial held →
     (reads : List ReadNote) (n : IsNoted most before reads) → TookTurn m first ins outs (record { left = length n.left; taken = length n.taken; most = most })
-one_in_turn ins outs held written first before m most few p put path rests partial reads n =
-    let (progress, course, c) = runs_are_courses ins (without_graph outs) m path in
+one_in_turn ins outs held written first before m most few p put course rests partial reads n =
     let (gone, output, taken) = taken_before first.taken before.taken written n.taken p.took n.taken_is in
     record {
       turn = record {
@@ -166,9 +144,9 @@ one_in_turn ins outs held written first before m most few p put path rests parti
         later = [];
         outs_are = sym (append-nil outs);
         whole = tt;
-        progress = progress;
+        progress = m;
         course = course;
-        between = between m.phase progress.standing c.standing rests;
+        between = rests;
         held = held;
         partial = partial;
         ahead = n.left;
@@ -183,14 +161,14 @@ one_in_turn ins outs held written first before m most few p put path rests parti
     }
 
 -- one read more, between two steps
-pub turns_on : (ins : List In) (outs : List Out) (held written : List ℕ) (first before now : Outside) (m : Machine) → AsksPiece before now →
-    Passes first before (in_texts ins ++ held) written → out_texts outs ≡ written → Path ins (without_graph outs) m → IsBetween m.phase → IsPartial held →
+pub turns_on : (ins : List In) (outs : List Out) (held written : List ℕ) (first before now : Outside) (m : Progress) → AsksPiece before now →
+    Passes first before (in_texts ins ++ held) written → out_texts outs ≡ written → Course ins (without_graph outs) m → MayGoOn m.standing → IsPartial held →
     OfEachRead (TookTurn m first ins outs) first before → OfEachRead (TookTurn m first ins outs) first now
-turns_on ins outs held written first before now m a p put path rests partial h =
-    reads_on (TookTurn m first ins outs) a.most first before now a.noted (one_in_turn ins outs held written first before m a.most a.few p put path rests partial) h
+turns_on ins outs held written first before now m a p put course rests partial h =
+    reads_on (TookTurn m first ins outs) a.most first before now a.noted (one_in_turn ins outs held written first before m a.most a.few p put course rests partial) h
 
 -- what is known at the end of a run
-pub turns_end : (first before now : Outside) (ins : List In) (outs : List Out) (m : Machine) → now.reads ≡ before.reads → OfEachRead (TookTurn m first ins outs) first before → AreInTurn first now ins outs
+pub turns_end : (first before now : Outside) (ins : List In) (outs : List Out) (m : Progress) → now.reads ≡ before.reads → OfEachRead (TookTurn m first ins outs) first before → AreInTurn first now ins outs
 turns_end first before now ins outs m same h =
     reads_stay (IsInTurn first ins outs) first before now same (reads_weaker (TookTurn m first ins outs) (IsInTurn first ins outs) first before (λ read t. t.turn) h)
 

@@ -1,128 +1,140 @@
--- What a call shows of the engine's machine, it shows of the machine of many opens.
-use Rattle.std.proofs.Common.{ℕ, ◌<◌, List, sym, ◌∙◌, subst}
-use Rattle.nb_defs.specs.Records.{Out}
+-- From a run of the client to what the top call shows.
+use Rattle.std.proofs.Common.{◌≡◌, ◌⊎◌, inl, inr, ℕ, Bool, true, false, cond, List, [], ◌++◌, subst}
+use Rattle.nb_defs.specs.Causes.{is_ok_cause}
+use Rattle.nb_defs.specs.Records.{In, Out}
 use Rattle.nb_record.specs.Outside.{Outside}
 use Rattle.nb_runner.specs.declared.status.Status.{Status}
 use Rattle.nb_runner.specs.declared.status.Status.TheVariants as status
-use Rattle.nb_engine.specs.Machine.{Machine, Phase, shutdown_records}
-use Rattle.nb_engine.specs.Machine as lone
 use Rattle.nb_opens.specs.Graphs.{without_graph}
-use Rattle.nb_machine.specs.Courses.{Standing, Progress, Course}
-use Rattle.nb_carried.specs.Carried.{StandsAs, Carries}
-use Rattle.nb_machine.specs.Closings.{Shuts}
-use Rattle.nb_carried.proofs.Runs.{run_carried}
-use Rattle.nb_boot.specs.Run.{Awaits, IsBadRest, Ends, Closes, Run, IsOver, Says, Shows}
-use Rattle.nb_boot.specs.Run as run
-use Rattle.nb_boot.specs.Shown.{CommandWaits, NoneMayCome, EndsWhere, was_left, was_handed, was_stopped, ran_out, was_bad, was_full, ClosedBy, goes_on, has_ended, Shown, HasEnded, IsSaid, ShowsCourse}
-use Rattle.nb_boot.proofs.InTurns.{between}
-use Rattle.nb_boot.proofs.Places.{lawful_run}
-use Rattle.nb_boot.proofs.Shut.{shuts_by}
-use Rattle.nb_boot.proofs.Stepping.{paths_are_stepped, either_shuts}
-use Rattle.nb_boot.proofs.EntrySteps.{entries_agree}
+use Rattle.nb_machine.specs.States.{State}
+use Rattle.nb_machine.specs.Courses.{Standing, handed_off, stands, Progress, Course}
+use Rattle.nb_laws.specs.Events.{Event}
+use Rattle.nb_laws.specs.HandOff.{HandsOff}
+use Rattle.nb_laws.specs.Histories.{IsHistory}
+use Rattle.nb_laws.proofs.Theirs.{brings_theirs}
+use Rattle.nb_openlaws.specs.Standings.{AgreesStanding}
+use Rattle.nb_lawful.proofs.CourseLaws.{has_one, hands_off, keeps_todays, stands_so}
+use Rattle.nb_traced.specs.Holdings.{Holdings}
+use Rattle.nb_traced.specs.Outputs.{Arrived, Traced}
+use Rattle.nb_traced.proofs.Leading.{has_led}
+use Rattle.nb_traced.proofs.Aside.{others_stand_outside}
+use Rattle.nb_traced.proofs.Following.{opens_have_pieces, numbers_rise, leaves_theirs, rests, ends_are_theirs, commands_leave_none, none_is_left, frames_stand, tries_stand, advances_stand, lowest_are_own, lowest_are_theirs}
+use Rattle.nb_client.specs.Progressing.{ShutsStanding}
+use Rattle.nb_boot.specs.Stepped.{ShutsLive}
+use Rattle.nb_boot.specs.Run.{Run, IsOver, Says, Shows}
+use Rattle.nb_boot.specs.Shown.{EndsWhere, was_left, was_handed, was_stopped, ran_out, was_bad, was_full, SaysOfGraph, LeadsToNone, Shown, HasEnded, HandsTrueFiles, IsSaid, ShowsCourse}
+use Rattle.nb_boot.proofs.EntryArrivals.{shuts_live}
+use Rattle.nb_boot.proofs.EntrySteps.{run_agrees}
+use Rattle.nb_boot.proofs.Following.{follows_course}
 
-waits : (phase : Phase) (p : Standing) → StandsAs phase p → Awaits phase → CommandWaits p
-waits lone.ready p same h = absurd h
-waits (lone.reaching w s next) p same h = absurd h
-waits (lone.running w s) p same h = absurd h
-waits (lone.waiting w s o) p (xs, here, same) h = subst CommandWaits (sym same) tt
-waits (lone.asking w s o) p (xs, here, same) h = subst CommandWaits (sym same) tt
-waits (lone.sleeping w s until) p same h = subst CommandWaits (sym same.1) tt
-waits (lone.yielded w s) p same h = subst CommandWaits (sym same) tt
-waits (lone.handing rest) p same h = absurd h
-waits (lone.left cause) p same h = absurd h
-waits lone.handed_off p same h = absurd h
-waits lone.stopped p same h = absurd h
-
-bad : (phase : Phase) (p : Standing) (rest : List ℕ) (o : Outside) → StandsAs phase p → IsBadRest phase rest o → NoneMayCome p rest o
-bad lone.ready p rest o same h = subst (λ z. NoneMayCome z rest o) (sym same) h
-bad (lone.reaching w s next) p rest o same h = absurd h
-bad (lone.running w s) p rest o same h = absurd h
-bad (lone.waiting w s l) p rest o (xs, here, same) h = subst (λ z. NoneMayCome z rest o) (sym same) h
-bad (lone.asking w s l) p rest o (xs, here, same) h = subst (λ z. NoneMayCome z rest o) (sym same) h
-bad (lone.sleeping w s until) p rest o same h = subst (λ z. NoneMayCome z rest o) (sym same.1) h
-bad (lone.yielded w s) p rest o same h = subst (λ z. NoneMayCome z rest o) (sym same) h
-bad (lone.handing more) p rest o same h = absurd h
-bad (lone.left cause) p rest o same h = absurd h
-bad lone.handed_off p rest o same h = absurd h
-bad lone.stopped p rest o same h = absurd h
-
-ends_same : (m : Machine) (p : Progress) (rest : List ℕ) (o : Outside) (number : ℕ) → Carries m p → Ends m rest o number → EndsWhere p rest o number
-ends_same m p rest o number c (run.was_left cause is of) = let (s, none, same) = subst (λ z. StandsAs z p.standing) is c.standing in was_left s cause same of
-ends_same m p rest o number c (run.was_handed is of) = let (s, none, same) = subst (λ z. StandsAs z p.standing) is c.standing in was_handed s same of
-ends_same m p rest o number c (run.was_stopped is of) = let (s, none, same) = subst (λ z. StandsAs z p.standing) is c.standing in was_stopped s same of
-ends_same m p rest o number c (run.ran_out wait none end of) = ran_out (waits m.phase p.standing c.standing wait) none end of
-ends_same m p rest o number c (run.was_bad few is of) = was_bad (subst (λ (z : ℕ). z < 4294967295) c.used few) (bad m.phase p.standing rest o c.standing is) of
-ends_same m p rest o number c (run.was_full full wait more of) = was_full (sym c.used ∙ full) (waits m.phase p.standing c.standing wait) more of
-
-closed_same : (m : Machine) (p : Progress) (rest : List ℕ) (o : Outside) (closing : List Out) → Carries m p → Shuts p.standing (shutdown_records m.phase) → Closes m rest o closing → ClosedBy p rest o closing
-closed_same m p rest o closing c shut (run.goes_on _ _ _) = goes_on
-closed_same m p rest o closing c shut (run.is_over _ _ _ number ends) = has_ended number (shutdown_records m.phase) (ends_same m p rest o number c ends) shut
-
--- the run, with its course
-abbrev with_course : (before after : Outside) (r : Run before after) (p : Progress) → Course r.ins (without_graph r.outs) p → Carries r.machine p → Shuts p.standing (shutdown_records r.machine.phase) → Shown before after
-with_course before after r p course c shut = record {
-  ins = r.ins;
-  outs = r.outs;
-  progress = p;
-  rest = r.rest;
-  closing = r.closing;
-  read = r.read;
-  written = r.written;
-  lost = r.lost;
-  passes = r.passes;
-  spelled = r.spelled;
-  course = course;
-  closed = closed_same r.machine p r.rest after (without_graph r.closing) c shut r.closes;
-  alone = r.alone;
-  at = r.at;
-  graphs = r.graphs;
-  traced = r.traced;
-  texts = r.texts;
-  few = r.few;
-  in_turn = r.in_turn;
-  history = (lawful_run r.ins (without_graph r.outs) r.machine r.path).0;
-  is_history = (lawful_run r.ins (without_graph r.outs) r.machine r.path).1;
-  is_lawful = (lawful_run r.ins (without_graph r.outs) r.machine r.path).2;
-  stepped = paths_are_stepped r.ins r.outs r.machine r.follows;
-  shuts = either_shuts (lawful_run r.ins (without_graph r.outs) r.machine r.path).0 r.machine.phase r.closing (lawful_run r.ins (without_graph r.outs) r.machine r.path).3 r.shuts;
-  contents = (let t = lawful_run r.ins (without_graph r.outs) r.machine r.path in entries_agree r.ins r.outs r.closing t.0 r.at (paths_are_stepped r.ins r.outs r.machine r.follows) t.1 t.2 r.graphs);
+-- what a traced output says of the graph
+says_of_graph : (outs : List Out) (h : Holdings) (came : List Arrived) → Traced outs h came → SaysOfGraph outs
+says_of_graph outs h came t = record {
+  state = h.state;
+  legal = has_led outs h came t;
+  leaves = leaves_theirs outs h came t;
+  still = rests outs h came t;
+  opens = opens_have_pieces outs h came t;
+  rising = numbers_rise outs h came t;
+  ends = ends_are_theirs outs h came t;
+  commands = commands_leave_none outs h came t;
+  lowest = lowest_are_theirs outs h came t;
+  own = lowest_are_own outs h came t;
+  frames = frames_stand outs h came t;
+  tries = tries_stand outs h came t;
+  advances = advances_stand outs h came t;
+  others = others_stand_outside outs h came t;
 }
 
-ended_same : (before after : Outside) (r : Run before after) (p : Progress) (course : Course r.ins (without_graph r.outs) p) (c : Carries r.machine p) (shut : Shuts p.standing (shutdown_records r.machine.phase)) (number : ℕ) →
-    IsOver before after r number → HasEnded before after (with_course before after r p course c shut) number
-ended_same before after r p course c shut number h = record {
-  ends = ends_same r.machine p r.rest after number c h.ends;
-  put = shutdown_records r.machine.phase;
-  shuts = shut;
-  closing = h.closed;
+leads_to_none : (outs : List Out) (h : Holdings) (came : List Arrived) → Traced outs h came → h.living ≡ [] → h.waits ≡ [] → LeadsToNone outs
+leads_to_none outs h came t living waits = record { state = h.state; led = has_led outs h came t; none = none_is_left outs h came t living waits }
+
+either_shuts : (es : List Event) (p : Standing) (closing : List Out) → AgreesStanding es p → (closing ≡ []) ⊎ ShutsStanding p closing → (closing ≡ []) ⊎ ShutsLive es closing
+either_shuts es p closing a (inl none) = inl none
+either_shuts es p closing a (inr shuts) = inr (shuts_live es p closing a shuts)
+
+-- the history of a run
+abbrev history_of : (before after : Outside) (r : Run before after) → (es : List Event) × IsHistory r.ins (without_graph r.outs) es × ((other : List Event) → IsHistory r.ins (without_graph r.outs) other → other ≡ es)
+history_of before after r = has_one r.ins (without_graph r.outs) r.progress (follows_course r.ins r.outs r.progress r.came r.follows)
+
+abbrev shown_by : (before after : Outside) (r : Run before after) → Shown before after
+shown_by before after r =
+    let course = follows_course r.ins r.outs r.progress r.came r.follows in
+    let es = (history_of before after r).0 in
+    let is = (history_of before after r).1 in
+    record {
+      ins = r.ins;
+      outs = r.outs;
+      progress = r.progress;
+      rest = r.rest;
+      closing = r.closing;
+      read = r.read;
+      written = r.written;
+      lost = r.lost;
+      passes = r.passes;
+      spelled = r.spelled;
+      course = course;
+      closed = r.closed;
+      alone = r.alone;
+      texts = r.texts;
+      few = r.few;
+      traced = says_of_graph (r.outs ++ r.closing) r.at_end r.came r.traced_all;
+      history = es;
+      is_history = is;
+      is_lawful = keeps_todays r.ins (without_graph r.outs) r.progress es course is;
+      in_turn = r.in_turn;
+      stepped = (run_agrees r.ins r.outs r.closing r.progress r.came r.holdings r.at_end es r.follows r.traced r.traced_all is).0;
+      shuts = either_shuts es r.progress.standing r.closing (stands_so r.ins (without_graph r.outs) r.progress es course is).0 r.shuts;
+      contents = (run_agrees r.ins r.outs r.closing r.progress r.came r.holdings r.at_end es r.follows r.traced r.traced_all is).1;
+    }
+
+ended_by : (before after : Outside) (r : Run before after) (number : ℕ) → IsOver before after r number → HasEnded before after (shown_by before after r) number
+ended_by before after r number h = record {
+  ends = h.ends;
+  put = h.put;
+  shuts = h.shuts;
+  closing = h.closing;
   front = h.front;
   last = h.last;
-  opens = h.opens;
-  made = h.made;
-  none = h.none;
+  none = leads_to_none (r.outs ++ r.closing) r.at_end r.came r.traced_all h.none_live h.none_wait;
   all = h.all;
 }
 
-said : (s : Status) (before after : Outside) (r : Run before after) (p : Progress) (course : Course r.ins (without_graph r.outs) p) (c : Carries r.machine p) (shut : Shuts p.standing (shutdown_records r.machine.phase)) →
-    Says s before after r → IsSaid s before after (with_course before after r p course c shut)
-said status.HandedOff before after r p course c shut h =
-    let lawful = lawful_run r.ins (without_graph r.outs) r.machine r.path in
-    (ended_same before after r p course c shut 0 h.0, h.1 lawful.0 lawful.1)
-said status.Ended before after r p course c shut h = ended_same before after r p course c shut 3 h
-said status.ScriptFailed before after r p course c shut h = ended_same before after r p course c shut 4 h
-said status.Unfinished before after r p course c shut h = ended_same before after r p course c shut 5 h
-said status.BadRecord before after r p course c shut h = ended_same before after r p course c shut 6 h
-said status.TooManyRecords before after r p course c shut h = ended_same before after r p course c shut 11 h
-said status.ReadFault before after r p course c shut h =
-    record { between = between r.machine.phase p.standing c.standing h.between; partial = h.partial; closing = h.closed; all = h.all; rose = h.rose }
-said status.WriteFault before after r p course c shut h = h
-said status.NoMemory before after r p course c shut h = h
-said status.AttachFault before after r p course c shut h = h
-said status.BadWords before after r p course c shut h = absurd h
+-- a run of the status zero has handed off
+no_zero : (t : Bool) → ◌≡◌ {A = ℕ} 0 (cond t 3 4) → ⊥
+no_zero true e = cc
+no_zero false e = cc
+
+has_handed_off : (p : Progress) (rest : List ℕ) (o : Outside) → EndsWhere p rest o 0 → (s : State) × (p.standing ≡ handed_off s)
+has_handed_off p rest o (was_left s cause at e) = absurd (no_zero (is_ok_cause cause) e)
+has_handed_off p rest o (was_handed s at e) = (s, at)
+has_handed_off p rest o (was_stopped s at e) = absurd (let no : ◌≡◌ {A = ℕ} 0 5 = e in cc)
+has_handed_off p rest o (ran_out waits none at e) = absurd (let no : ◌≡◌ {A = ℕ} 0 5 = e in cc)
+has_handed_off p rest o (was_bad few bad e) = absurd (let no : ◌≡◌ {A = ℕ} 0 6 = e in cc)
+has_handed_off p rest o (was_full full waits more e) = absurd (let no : ◌≡◌ {A = ℕ} 0 11 = e in cc)
+
+-- what is handed off was brought, and is the servers'
+hands_all : (ins : List In) (outs : List Out) (p : Progress) (es : List Event) (s : State) → p.standing ≡ handed_off s → Course ins outs p → IsHistory ins outs es → HandsOff es outs []
+hands_all ins outs p es s at c h = hands_off ins outs p.used s es (subst (λ z. Course ins outs (stands p.used z)) at c) h
+
+theirs : (before after : Outside) (r : Run before after) → EndsWhere r.progress r.rest after 0 → HandsTrueFiles before after (shown_by before after r)
+theirs before after r e =
+    let (s, at) = has_handed_off r.progress r.rest after e in
+    let t = history_of before after r in
+    (hands_all r.ins (without_graph r.outs) r.progress t.0 s at (follows_course r.ins r.outs r.progress r.came r.follows) t.1, brings_theirs t.0)
+
+said : (s : Status) (before after : Outside) (r : Run before after) → Says s before after r → IsSaid s before after (shown_by before after r)
+said status.HandedOff before after r h = (ended_by before after r 0 h, theirs before after r h.ends)
+said status.Ended before after r h = ended_by before after r 3 h
+said status.ScriptFailed before after r h = ended_by before after r 4 h
+said status.Unfinished before after r h = ended_by before after r 5 h
+said status.BadRecord before after r h = ended_by before after r 6 h
+said status.TooManyRecords before after r h = ended_by before after r 11 h
+said status.ReadFault before after r h = record { between = h.between; partial = h.partial; closing = h.closing; all = h.all; rose = h.rose }
+said status.WriteFault before after r h = h
+said status.NoMemory before after r h = h
+said status.AttachFault before after r h = h
+said status.BadWords before after r h = absurd h
 
 pub shows_course : (s : Status) (before after : Outside) → Shows s before after → ShowsCourse s before after
-shows_course s before after shows =
-    let r = shows.0 in
-    let c = run_carried r.ins (without_graph r.outs) r.machine r.path in
-    let shut = shuts_by r.machine.phase c.progress.standing c.bound c.carries.standing in
-    (with_course before after r c.progress c.course c.carries shut, said s before after r c.progress c.course c.carries shut shows.1)
+shows_course s before after shows = (shown_by before after shows.0, said s before after shows.0 shows.1)

@@ -2,7 +2,7 @@
 use Rattle.std.specs.Prelude.{◌≡◌, ℕ, ◌<◌, List, [], ◌∷◌, length, Some, IsSome}
 use Rattle.nb_defs.specs.Records.{Start, In, start, IsIn, in_texts}
 use Rattle.nb_record.specs.Outside.{Outside, Rose}
-use Rattle.nb_boot.specs.Run.{IsOther}
+use Rattle.nb_boot.specs.Shown.{IsOther}
 use Rattle.nb_runner.specs.declared.status.Status.{Status}
 use Rattle.nb_runner.specs.declared.status.Status.TheVariants as status
 

@@ -1,11 +1,11 @@
 pub mod Words
 pub mod InTurn
+pub mod Stepped
+pub mod Entries
+pub mod Shown
+pub mod Following
 pub mod Run
 pub mod Going
 pub mod Fetch
 pub mod Complete
-pub mod Laws
-pub mod Stepped
-pub mod Entries
-pub mod Shown
 pub mod Determined

@@ -1,10 +1,10 @@
 -- What a call of `netboot` shows of the machine of many opens: records used, records written, and what its status says.
-use Rattle.std.specs.Prelude.{◌≡◌, ℕ, ◌<◌, ◌≤◌, ◌⊎◌, List, [], ◌∷◌, ◌++◌, length}
+use Rattle.std.specs.Prelude.{◌≡◌, ℕ, ◌<◌, ◌≤◌, ◌⊎◌, false, List, [], ◌∷◌, ◌++◌, length}
 use Rattle.nb_terms.specs.declared.cause.Cause.{Cause}
-use Rattle.nb_defs.specs.Records.{In, in_texts, IsPartial, IsBroken, Out, out_texts, done}
+use Rattle.nb_defs.specs.Records.{In, start, frame, tick, off, IsIn, in_text, in_texts, IsPartial, IsBroken, Out, out_texts, done}
+use Rattle.nb_ledger.specs.GraphRun.{GraphState}
 use Rattle.nb_machine.specs.CommandRecords.{status_of}
-use Rattle.nb_opens.specs.Graphs.{Graphs, GraphAt, bare, without_graph}
-use Rattle.nb_opens.specs.Traces.{AreTraced}
+use Rattle.nb_opens.specs.Graphs.{without_graph}
 use Rattle.nb_record.specs.Outside.{Outside, Passes, Rose, IsAtEnd}
 use Rattle.nb_runner.specs.declared.status.Status.{Status}
 use Rattle.nb_runner.specs.declared.status.Status.TheVariants as status
@@ -15,10 +15,35 @@ use Rattle.nb_laws.specs.HandOff.{HandsOff, BringTheirs}
 use Rattle.nb_laws.specs.Lawful.{IsLawful}
 use Rattle.nb_machine.specs.States.{State}
 use Rattle.nb_machine.specs.Closings.{Shuts}
+use Rattle.nb_traced.specs.Entries.{IsOutside}
+use Rattle.nb_traced.specs.Runs.{HasLedTo}
+use Rattle.nb_traced.specs.Openings.{OpensHavePieces, NumbersRise, EndsAreTheirs, CommandsLeaveNone, LeavesTheirs}
+use Rattle.nb_traced.specs.Places.{LowestAreTheirs, LowestAreOwn, FramesStand, TriesStand, AdvancesStand, OthersStandOutside}
 use Rattle.nb_boot.specs.InTurn.{MayGoOn, AreInTurn}
-use Rattle.nb_boot.specs.Run.{IsOther, IsFirst, BeginsWith}
 use Rattle.nb_boot.specs.Stepped.{AreStepped, ShutsLive}
 use Rattle.nb_boot.specs.Entries.{EntriesAgree}
+
+-- a record other than START
+abbrev pub IsOther : In → Type 0
+IsOther (start s) = ⊥
+IsOther (frame bytes) = Unit {0}
+IsOther (tick ms) = Unit {0}
+IsOther off = Unit {0}
+
+-- a START
+abbrev pub IsFirst : In → Type 0
+IsFirst (start s) = Unit {0}
+IsFirst (frame bytes) = ⊥
+IsFirst (tick ms) = ⊥
+IsFirst off = ⊥
+
+-- the bytes begin with a record of this kind
+pub record BeginsWith (bytes : List ℕ) (Kind : In → Type 0) : Type 0 where
+  pub entry : In
+  pub valid : IsIn entry
+  pub kind : Kind entry
+  pub more : List ℕ
+  pub spelled : bytes ≡ in_text entry ++ more
 
 -- the next record is waited for: by a command, or by scripts that had all the commands of a step
 abbrev pub CommandWaits : Standing → Type 0
@@ -66,8 +91,35 @@ pub data ClosedBy (p : Progress) (rest : List ℕ) (o : Outside) : List Out → 
   goes_on : ClosedBy p rest o []
   has_ended : (number : ℕ) (put : List Out) → EndsWhere p rest o number → Shuts p.standing put → ClosedBy p rest o (put ++ done number ∷ [])
 
+-- What the records of an output say of the object graph alone. They are a legal run of it; each OPEN has the objects of its kind, made for it
+-- after the last COMMAND, plugged and alive; each ENDED has the cause of the first close of a port of these, which were freed, and is the only
+-- one of its open; where a COMMAND stands each object that lives is of an open that hasn't ended, and at the end of the output it is, or was made since
+-- the last COMMAND; no entry runs there; each FRAME, TRY and ADVANCE stands within an entry of the lowest object of an open, or a FRAME directly
+-- after a STEP, outside of all; and no other record stands within an entry.
+pub record SaysOfGraph (outs : List Out) : Type 0 where
+  pub state : GraphState
+  pub legal : HasLedTo outs state
+  pub leaves : LeavesTheirs outs
+  pub still : IsOutside outs
+  pub opens : OpensHavePieces outs
+  pub rising : NumbersRise outs
+  pub ends : EndsAreTheirs outs
+  pub commands : CommandsLeaveNone outs
+  pub lowest : LowestAreTheirs outs
+  pub own : LowestAreOwn outs
+  pub frames : FramesStand outs
+  pub tries : TriesStand outs
+  pub advances : AdvancesStand outs
+  pub others : OthersStandOutside outs
+
+-- they have led to where no object lives
+pub record LeadsToNone (outs : List Out) : Type 0 where
+  pub state : GraphState
+  pub led : HasLedTo outs state
+  pub none : (x : ℕ) → state.live x ≡ false
+
 -- The records used are those that the bytes read spell, up to a rest; the records written, without those of the object
--- graph, are the machine's course on them, with what closes it; those of the graph stand among them as `Graphs` has it;
+-- graph, are the machine's course on them, with what closes it; those of the graph stand among them as `SaysOfGraph` has it;
 -- the bytes taken are a prefix of the spelling of all.
 pub record Shown (before after : Outside) : Type 0 where
   pub ins : List In
@@ -84,13 +136,11 @@ pub record Shown (before after : Outside) : Type 0 where
   pub closed : ClosedBy progress rest after (without_graph closing)
   -- records of the graph alone close nothing
   pub alone : without_graph closing ≡ [] → closing ≡ []
-  pub at : GraphAt
-  pub graphs : Graphs (outs ++ closing) at
   pub texts : out_texts (outs ++ closing) ≡ written ++ lost
   -- each record used has a number of 32 bits
   pub few : length ins ≤ 4294967295
   -- what the records of the graph say of it
-  pub traced : AreTraced (outs ++ closing) at
+  pub traced : SaysOfGraph (outs ++ closing)
   -- both lists, without the records of the graph, have one history, and it is lawful
   pub history : List Event
   pub is_history : IsHistory ins (without_graph outs) history
@@ -112,9 +162,7 @@ pub record HasEnded (before after : Outside) (r : Shown before after) (number : 
   pub closing : without_graph r.closing ≡ put ++ done number ∷ []
   pub front : List Out
   pub last : r.closing ≡ front ++ done number ∷ []
-  pub opens : ℕ
-  pub made : ℕ
-  pub none : r.at ≡ bare opens made
+  pub none : LeadsToNone (r.outs ++ r.closing)
   pub all : r.lost ≡ []
 
 -- a read failed between two steps: every whole record read was used, and their whole output was taken

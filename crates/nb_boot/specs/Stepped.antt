@@ -1,14 +1,24 @@
 -- What of the object graph stands first in the step of each record, by the two lists alone.
 use Rattle.std.specs.Prelude.{◌≡◌, ℕ, List, [], ◌∷◌, ◌++◌}
-use Rattle.nb_defs.specs.Records.{In, Out, step}
+use Rattle.nb_defs.specs.Records.{In, Out, step, graph}
+use Rattle.nb_ledger.specs.Flat.{flat}
+use Rattle.nb_ledger.specs.declared.port.Port.{Port}
 use Rattle.nb_ledger.specs.declared.event.Way.{Way}
 use Rattle.nb_ledger.specs.declared.event.Way.TheVariants as way
+use Rattle.nb_ledger.specs.declared.event.GraphEvent.TheVariants.{Entered}
 use Rattle.nb_opens.specs.Graphs.{without_graph}
 use Rattle.nb_tftp.specs.History.{Call}
-use Rattle.nb_engine.specs.GraphSteps.{EntersFirst, ClosesFirst}
+use Rattle.nb_machine.specs.CommandRecords.{stopped_cause}
+use Rattle.nb_network.specs.Takes.{ClosesFirst}
 use Rattle.nb_laws.specs.Events.{Event, starts, hears, waits, stops, puts, used_by, written_by}
 use Rattle.nb_laws.specs.Histories.{IsHistory, IsRead}
 use Rattle.nb_laws.specs.Lists.{Opening, live, call_at}
+
+-- the first of these records says that an object is entered so
+pub record EntersFirst (by : Way) (outs : List Out) : Type 0 where
+  pub port : Port
+  pub more : List Out
+  pub all : outs ≡ graph (flat (Entered port by)) ∷ more
 
 -- Where this comes to an open, the records of a step begin with an entry by this way, whatever comes of it; and where nothing
 -- comes to any, none of them is the graph's.
@@ -22,7 +32,7 @@ NoneLives es = (k : ℕ) → live k es ≡ []
 
 -- where an open lives, these records begin with the first close of the graph's end
 abbrev pub ShutsLive : List Event → List Out → Type 0
-ShutsLive es outs = (k : ℕ) (o : Opening) → live k es ≡ o ∷ [] → ClosesFirst outs
+ShutsLive es outs = (k : ℕ) (o : Opening) → live k es ≡ o ∷ [] → ClosesFirst stopped_cause outs
 
 -- What stands after a STEP, by the events before it: nothing of the graph's in that of START; a datagram or an echo reply that an open receives enters from below, a
 -- time that passes while an open lives enters as a time, and OFF shuts the graph.

@@ -2,16 +2,17 @@ ghost use Rattle.std.specs.Prelude.{◌≡◌, ℕ, List, [], ◌∷◌, ◌++�
 ghost use Rattle.nb_defs.specs.Records.{IsIn, IsPartial, in_texts};
 ghost use Rattle.nb_record.specs.Outside.{Outside};
 ghost use Rattle.nb_record.specs.View.{in_of};
-ghost use Rattle.nb_engine.specs.Machine.{fresh, ready};
-ghost use Rattle.nb_opens.specs.Graphs.{bare};
-ghost use Rattle.nb_boot.specs.Run.{Shows, IsBadRest, IsFirst};
+ghost use Rattle.nb_machine.specs.Courses.{nowhere, ready};
+ghost use Rattle.nb_traced.specs.Holdings.{no_holdings};
+ghost use Rattle.nb_boot.specs.Run.{Shows};
+ghost use Rattle.nb_boot.specs.Shown.{IsFirst, NoneMayCome};
 ghost use Rattle.nb_boot.specs.Going.{Going, Opens, RefusesRun, TellsFirst};
 
 use crate::Status;
 use crate::feeding::{Filled, fill};
 use crate::output::flush;
 use crate::play::use_record;
-use nb_engine::Client;
+use nb_client::Client;
 use nb_record::{Feed, Front, InRec, Line, Log, NoMemory, OutRec};
 use std::alloc::Global;
 
@@ -24,8 +25,8 @@ pub fn is_first(entry: &InRec<'_>) -> bool
 
 /// Ends a run in which no record was used: DONE alone is written.
 fn refuse<L: Line>(log: &mut Log, line: &mut L) -> Status
-    ensures { (rest : List ℕ) (first : Outside) → Going [] rest first (L.outside line.old) log.old fresh (bare 0 0)
-        → IsBadRest ready rest (L.outside line.old) → Shows result first (L.outside line.new) }
+    ensures { (rest : List ℕ) (first : Outside) → Going [] rest first (L.outside line.old) log.old nowhere no_holdings
+        → NoneMayCome ready rest (L.outside line.old) → Shows result first (L.outside line.new) }
 {
     log.put(&OutRec::Done(Status::BadRecord.number()));
     match flush(log, line) {

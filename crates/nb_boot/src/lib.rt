@@ -1,18 +1,16 @@
 // The top call: `netboot` reads records from a line, runs the script of START over them, and writes records.
 // Its contract is the program's theorem: what was read spells the records used, what was written spells the
-// script machine's path and the object graph's run, and every status has its cause. What scripts and commands
-// it runs, nb_engine says; it leaves out `lab`. Begin with `netboot` in top.rt, then `serve`.
+// machine's course and the object graph's run, and every status has its cause. What scripts and commands
+// it runs, nb_client says; it leaves out `lab`. Begin with `netboot` in top.rt, then `serve`.
 #![tactic(auto)]
 
 mod begin;
 mod feeding;
-mod laws;
 mod output;
 mod play;
 mod top;
 mod turn;
 mod words;
 
-pub use laws::one_run;
 pub use nb_runner::Status;
 pub use top::netboot;

@@ -3,16 +3,17 @@ ghost use Rattle.nb_defs.specs.Records.{In, IsIn};
 ghost use Rattle.nb_record.specs.Outside.{Outside};
 ghost use Rattle.nb_record.specs.View.{in_of};
 ghost use Rattle.nb_runner.specs.StatusNumber.{status_number};
-ghost use Rattle.nb_engine.specs.Machine.{Machine};
-ghost use Rattle.nb_engine.specs.Seen.{StandsFor, FitsGraph};
-ghost use Rattle.nb_engine.specs.Turns.{IsBusy, MayUse};
-ghost use Rattle.nb_opens.specs.Graphs.{GraphAt};
-ghost use Rattle.nb_boot.specs.Run.{Ends, Shows};
+ghost use Rattle.nb_machine.specs.Courses.{Progress};
+ghost use Rattle.nb_traced.specs.Holdings.{Holdings};
+ghost use Rattle.nb_client.specs.Snapshots.{FitsOutput, StandsForProgress};
+ghost use Rattle.nb_client.specs.Progressing.{CanUse, IsAtWork};
+ghost use Rattle.nb_boot.specs.Run.{Shows};
+ghost use Rattle.nb_boot.specs.Shown.{EndsWhere};
 ghost use Rattle.nb_boot.specs.Going.{StepsTo, IsEndOf, UsesRecord, Going, IsClosing};
 
 use crate::Status;
 use crate::output::{Flaw, flush, make_room};
-use nb_engine::{Client, Turn};
+use nb_client::{Client, Turn};
 use nb_record::{InRec, Line, Log, NoMemory};
 
 /// How the step of a record ended.
@@ -39,7 +40,7 @@ fn end_of(status: Status) -> StepEnd
 /// Goes on until the step is over, and writes output whenever the log is nearly full.
 #[inline(never)]
 fn go_on<L: Line>(client: &mut Client, log: &mut Log, line: &mut L) -> StepEnd
-    requires { IsBusy client.old.stage }
+    requires { IsAtWork client.old.stage }
     ensures { StepsTo result [] (L.outside line.old) (L.outside line.new) log.old log.new client.old client.new }
 {
     'moves: loop {
@@ -60,7 +61,7 @@ fn go_on<L: Line>(client: &mut Client, log: &mut Log, line: &mut L) -> StepEnd
 #[inline(always)]
 fn take<L: Line>(client: &mut Client, entry: &InRec<'_>, log: &mut Log, line: &mut L) -> StepEnd
     requires valid { IsIn (in_of entry.now) }
-    requires fits { MayUse (in_of entry.now) client.old.stage }
+    requires fits { CanUse (in_of entry.now) client.old.stage }
     requires few { client.old.used < 2 ^ 32 - 1 }
     ensures { StepsTo result (in_of entry.now ∷ []) (L.outside line.old) (L.outside line.new) log.old log.new client.old client.new }
 {
@@ -81,8 +82,8 @@ fn take<L: Line>(client: &mut Client, entry: &InRec<'_>, log: &mut Log, line: &m
 #[inline(never)]
 pub fn finish<L: Line>(client: &mut Client, status: Status, log: &mut Log, line: &mut L) -> Status
     requires { IsClosing status }
-    ensures { (ins : List In) (rest : List ℕ) (first : Outside) (m : Machine) (p : GraphAt) → StandsFor client.old m → FitsGraph client.old p
-        → Going ins rest first (L.outside line.old) log.old m p → Ends m rest (L.outside line.old) (status_number status)
+    ensures { (ins : List In) (rest : List ℕ) (first : Outside) (m : Progress) (p : Holdings) → StandsForProgress client.old m → FitsOutput client.old p
+        → Going ins rest first (L.outside line.old) log.old m p → EndsWhere m rest (L.outside line.old) (status_number status)
         → Shows result first (L.outside line.new) }
 {
     match client.finish(status, log) {
@@ -104,7 +105,7 @@ pub fn use_record<L: Line>(
     line: &mut L,
 ) -> Option<Status>
     requires valid { IsIn (in_of entry.now) }
-    requires fits { MayUse (in_of entry.now) client.old.stage }
+    requires fits { CanUse (in_of entry.now) client.old.stage }
     requires few { client.old.used < 2 ^ 32 - 1 }
     ensures { UsesRecord result (in_of entry.now) (L.outside line.old) (L.outside line.new) log.old log.new client.old client.new }
 {

@@ -81,9 +81,9 @@ pub fn netboot<L: Line>(alloc: Global, words: &[String], line: &mut L) -> Status
     // The records used are those read; those written, without GRAPH, are the machine's course on them; and the status is
     // true of them. Each end, result, frame, try, advance, open and part has its reason in the records so far, as the two
     // lists say alone. At each read no whole record is at hand, and all that was put was taken. The GRAPH records are a legal
-    // run of the object graph, which is empty at DONE. Each open's objects are made before its OPEN, and freed before its
-    // ENDED, whose cause is that of the first close after the OPEN. While it lives, each message that it receives, and each
-    // time, is an entry first in its step, and no other frame is one.
+    // run of the object graph, in which nothing lives at DONE. Each open's objects are made before its OPEN, and freed before
+    // its ENDED, whose cause is that of the first close of a port of theirs. While it lives, each message that it receives,
+    // and each time, is an entry first in its step, and no other frame is one.
     ensures course { AreWords (map string_bytes words.now) → ShowsCourse result (L.outside line.old) (L.outside line.new) }
     // With no fault and memory enough a START and other records end the script, hand off, or wait for one more.
     ensures complete { AreWords (map string_bytes words.now) → Completes result (L.outside line.old) (L.outside line.new) }

@@ -1,7 +1,7 @@
 ghost use Rattle.std.specs.Prelude.{◌≡◌, ◌<◌, ◌-◌, ◌^◌, ℕ, length};
 ghost use Rattle.nb_defs.specs.Records.{IsPartial};
 ghost use Rattle.nb_record.specs.Outside.{Outside};
-ghost use Rattle.nb_engine.specs.Turns.{IsResting};
+ghost use Rattle.nb_client.specs.Progressing.{AwaitsRecord};
 ghost use Rattle.nb_boot.specs.Run.{Shows};
 ghost use Rattle.nb_boot.specs.Going.{Waits, UsesNext, IsEndStatus};
 
@@ -9,7 +9,7 @@ use crate::Status;
 use crate::begin::is_first;
 use crate::feeding::{Filled, refill};
 use crate::play::{finish, use_record};
-use nb_engine::Client;
+use nb_client::Client;
 use nb_record::{Feed, Front, Line, Log};
 
 /// The status of a run whose input ended while the next record is waited for.
@@ -31,7 +31,7 @@ pub fn turn<L: Line>(
     log: &mut Log,
     line: &mut L,
 ) -> Option<Status>
-    requires waits { IsResting client.old.stage }
+    requires waits { AwaitsRecord client.old.stage }
     requires few { client.old.used < 2 ^ 32 - 1 }
     ensures { UsesNext result feed.old.bytes feed.new.bytes (L.outside line.old) (L.outside line.new) log.old log.new client.old client.new }
 {
@@ -59,7 +59,7 @@ pub fn turn<L: Line>(
 
 /// Ends a run of which every record number was given: no byte may follow.
 pub fn last<L: Line>(client: &mut Client, feed: &mut Feed, log: &mut Log, line: &mut L) -> Status
-    requires waits { IsResting client.old.stage }
+    requires waits { AwaitsRecord client.old.stage }
     ensures { (first : Outside) → Waits 4294967295 feed.old.bytes first (L.outside line.old) log.old client.old → Shows result first (L.outside line.new) }
 {
     if !feed.is_empty() {

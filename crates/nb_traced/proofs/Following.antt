@@ -1,21 +1,24 @@
 -- What follows of an output from what each of its records says.
-use Rattle.std.proofs.Common.{◌≡◌, inl, inr, ℕ, false, List, [], ◌∷◌, ◌++◌, refl, sym, ◌∙◌, ap, subst, if◌then◌else◌, le_refl}
+use Rattle.std.proofs.Common.{◌≡◌, inl, inr, ℕ, false, List, [], ◌∷◌, ◌++◌, refl, sym, ◌∙◌, ap, subst, Option, if◌then◌else◌, le_refl}
 use Rattle.std.specs.List.{AllByRecursion}
 use Rattle.std.proofs.lemmas.Bool.{cases_Bool, eq-eqb, false≢true}
 use Rattle.nb_defs.specs.Records.{Out, step, sent, command, opened, tried, advanced, ended}
+use Rattle.nb_ledger.specs.GraphRun.{GraphState}
 use Rattle.nb_frames.specs.Frames.{is_one_of}
-use Rattle.nb_traced.specs.Holdings.{Holdings, serials}
+use Rattle.nb_traced.specs.Holdings.{Holdings, Piece, serials}
 use Rattle.nb_traced.specs.Outputs.{Arrived, Traced}
-use Rattle.nb_traced.specs.Openings.{OpensHavePieces, EndsAreTheirs, CommandsLeaveNone, NumbersRise}
+use Rattle.nb_traced.specs.Openings.{OpensHavePieces, EndsAreTheirs, CommandsLeaveNone, NumbersRise, IsMadeLast, LeavesTheirs}
 use Rattle.nb_traced.specs.LowestObjects.{graph_so_far, graph_by, first_in}
 use Rattle.nb_traced.specs.Entries.{IsOutside}
 use Rattle.nb_traced.specs.Places.{LowestAreTheirs, LowestAreOwn, FramesStand, TriesStand, AdvancesStand}
 use Rattle.nb_traced.proofs.EventLemmas.{all_first, all_last}
 use Rattle.nb_traced.proofs.StateLemmas.{runners}
 use Rattle.nb_traced.proofs.Seeing.{IsNoOpening, lowest_stays, so_far_append}
-use Rattle.nb_traced.proofs.Keeping.{HeldBy, unopened_new}
+use Rattle.nb_traced.proofs.Serials.{at_serial}
+use Rattle.nb_traced.proofs.Leading.{has_led}
+use Rattle.nb_traced.proofs.Keeping.{HeldBy, Waits, unopened_new}
 use Rattle.nb_traced.proofs.Rules.{kept, some_same}
-use Rattle.nb_traced.proofs.Saying.{EachSays, Says, OpensSo, says, says_at, says_after}
+use Rattle.nb_traced.proofs.Saying.{held_living, EachSays, Says, OpensSo, says, says_at, says_after}
 
 at : (outs : List Out) (h : Holdings) (came : List Arrived) → Traced outs h came → (before after : List Out) (o : Out) → outs ≡ before ++ (o ∷ after) → Says before o
 at outs h came t before after o is = says_at [] before after o (subst (EachSays []) is (says outs h came t).each)
@@ -35,6 +38,22 @@ ends_are_theirs outs h came t before after k cause is = at outs h came t before 
 
 pub commands_leave_none : (outs : List Out) (h : Holdings) (came : List Arrived) → Traced outs h came → CommandsLeaveNone outs
 commands_leave_none outs h came t before after depth line place expanded words is = at outs h came t before after (command depth line place expanded words) is
+
+waits_made : (outs : List Out) (s : GraphState) (owner : ℕ → Option ℕ) (ps : List Piece) → AllByRecursion (Waits outs s owner) ps → AllByRecursion (λ p. IsMadeLast outs p.serial) ps
+waits_made outs s owner [] all = tt
+waits_made outs s owner (p ∷ ps) all = (record { kind = p.kind; made = all.0.made }, waits_made outs s owner ps all.1)
+
+pub leaves_theirs : (outs : List Out) (h : Holdings) (came : List Arrived) → Traced outs h came → LeavesTheirs outs
+leaves_theirs outs h came t =
+    let a = kept outs h came t in
+    record {
+      state = h.state;
+      led = has_led outs h came t;
+      theirs = λ x lives. elim (a.held x lives) [
+        | inl e ↦ inl (held_living outs h.state a.owner x h.living a.opens e)
+        | inr e ↦ inr (at_serial (λ y. IsMadeLast outs y) h.waits (waits_made outs h.state a.owner h.waits a.waits) x e)
+      ];
+    }
 
 pub none_is_left : (outs : List Out) (h : Holdings) (came : List Arrived) → Traced outs h came → h.living ≡ [] → h.waits ≡ [] → (x : ℕ) → h.state.live x ≡ false
 none_is_left outs h came t living waits x = elim (cases_Bool (h.state.live x)) [

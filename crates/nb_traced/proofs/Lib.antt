@@ -9,6 +9,7 @@ pub mod Calling
 pub mod Rules
 pub mod Saying
 pub mod Following
+pub mod Aside
 pub mod Entering
 pub mod OneState
 pub mod OnePieces

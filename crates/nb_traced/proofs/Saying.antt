@@ -15,7 +15,7 @@ use Rattle.nb_traced.specs.Holdings.{Holdings, Kin, Piece, lowest_of, serials}
 use Rattle.nb_traced.specs.Pieces.{AreGone, EndsWithin, IsApart, IsCallOn, IsOfOpen, event_records, first_close_of}
 use Rattle.nb_traced.specs.Outputs.{Arrived, Traced, own_serials, at_first, apart, replies, commands, makes, opens, calls, ends, ends_with_all, gives_up}
 use Rattle.nb_traced.specs.Runs.{HasLedTo, LeadsBy}
-use Rattle.nb_traced.specs.Openings.{HasPieces, EndsAs, WasFreed, IsOfLiving, LeavesNone, IsNumberedBelow}
+use Rattle.nb_traced.specs.Openings.{HasPieces, EndsAs, WasFreed, IsNoEnd, GoesOn, IsOfLiving, LeavesNone, IsNumberedBelow}
 use Rattle.nb_traced.specs.LowestObjects.{GraphSoFar, graph_so_far, graph_by, first_in}
 use Rattle.nb_traced.specs.Places.{FrameStands, IsWithinOpen, by_open, by_step}
 use Rattle.nb_traced.proofs.EventLemmas.{event_records_append}
@@ -117,6 +117,25 @@ put_same k g (script what depth cause) h = absurd h
 put_same k g (part kind index offset bytes) h = absurd h
 put_same k g (done status) h = absurd h
 
+put_no_end : (k : ℕ) (o : Out) → IsOfOpen k o → IsNoEnd k o
+put_no_end k (sent bytes) h = tt
+put_no_end k (tried number count) h = tt
+put_no_end k (advanced number place) h = tt
+put_no_end k (graph happens) h = absurd h
+put_no_end k (opened number kind server port own target) h = absurd h
+put_no_end k (ended number cause) h = absurd h
+put_no_end k (step number) h = absurd h
+put_no_end k (text bytes) h = absurd h
+put_no_end k (command depth line place expanded words) h = absurd h
+put_no_end k (result cause) h = absurd h
+put_no_end k (script what depth cause) h = absurd h
+put_no_end k (part kind index offset bytes) h = absurd h
+put_no_end k (done status) h = absurd h
+
+events_go_on : (k : ℕ) (es : List GraphEvent) → GoesOn k (event_records es)
+events_go_on k [] = tt
+events_go_on k (e ∷ es) = (tt, events_go_on k es)
+
 within_then : (k : ℕ) (outs : List Out) (o : Out) → IsWithinOpen k outs → IsOfOpen k o → IsWithinOpen k (outs ++ o ∷ [])
 within_then k outs o w h =
     let same : graph_so_far (outs ++ o ∷ []) ≡ graph_so_far outs = so_far_append outs (o ∷ []) ∙ put_same k (graph_so_far outs) o h in
@@ -124,6 +143,7 @@ within_then k outs o w h =
       pieces = w.pieces;
       since = w.since ++ o ∷ [];
       begun = opened_then outs (o ∷ []) k w.pieces w.since w.begun;
+      goes_on = goes_on_then k outs (o ∷ []) w.goes_on (put_no_end k o h, tt);
       within = record {
         object = w.within.object;
         outer = w.within.outer;
@@ -166,6 +186,7 @@ module _ (outs : List Out) (s0 : GraphState) (owner : ℕ → Option ℕ) (o : K
     pieces = o.pieces;
     since = l.since ++ event_records c.front;
     begun = opened_then outs (event_records c.front) o.number o.pieces l.since l.begun;
+    goes_on = goes_on_then o.number outs (event_records c.front) l.goes_on (events_go_on o.number c.front);
     within = record {
       object = lowest_of (own_serials o);
       outer = (graph_so_far (outs ++ event_records e.init)).running;
@@ -199,7 +220,7 @@ module _ (outs : List Out) (s0 : GraphState) (owner : ℕ → Option ℕ) (o : K
 
 -- WHERE A COMMAND BEGINS
 
-held_living : (outs : List Out) (s : GraphState) (owner : ℕ → Option ℕ) (x : ℕ) (os : List Kin) → AllByRecursion (Lives outs s owner) os → HeldBy x os → IsOfLiving outs x
+pub held_living : (outs : List Out) (s : GraphState) (owner : ℕ → Option ℕ) (x : ℕ) (os : List Kin) → AllByRecursion (Lives outs s owner) os → HeldBy x os → IsOfLiving outs x
 held_living outs s owner x [] a h = absurd h
 held_living outs s owner x (o ∷ os) a (inl e) = record { number = o.number; pieces = o.pieces; since = a.0.since; begun = a.0.begun; is_piece = e; goes_on = a.0.goes_on }
 held_living outs s owner x (o ∷ os) a (inr h) = held_living outs s owner x os a.1 h

@@ -1,6 +1,6 @@
 -- What the records of the graph in an output say of its opens: which objects each has, by which close it ends, and that nothing
 -- is left over where a command begins. Our own.
-use Rattle.std.specs.Prelude.{◌≡◌, ◌<◌, ℕ, Bool, true, List, [], ◌∷◌, ◌++◌, Some}
+use Rattle.std.specs.Prelude.{◌≡◌, ◌⊎◌, ◌<◌, ℕ, Bool, true, List, [], ◌∷◌, ◌++◌, Some}
 use Rattle.std.specs.List.{AllByRecursion}
 use Rattle.nb_terms.specs.declared.cause.Cause.{Cause}
 use Rattle.nb_defs.specs.Records.{Out, step, command, opened, ended, graph}
@@ -130,3 +130,15 @@ pub record LeavesNone (outs : List Out) : Type 0 where
 abbrev pub CommandsLeaveNone : List Out → Type 0
 CommandsLeaveNone outs = (before after : List Out) (depth line place : ℕ) (expanded : Bool) (words : List (List ℕ)) →
     outs ≡ before ++ (command depth line place expanded words ∷ after) → LeavesNone before
+
+-- the object was made in these records, after the last COMMAND of them
+pub record IsMadeLast (outs : List Out) (x : ℕ) : Type 0 where
+  pub kind : ℕ
+  pub made : WasMadeLast outs (record { serial = x; kind = kind })
+
+-- Each object that lives after these records is one of an open that has begun in them and hasn't ended, or was made since the last COMMAND, for the
+-- open that is next.
+pub record LeavesTheirs (outs : List Out) : Type 0 where
+  pub state : GraphState
+  pub led : HasLedTo outs state
+  pub theirs : (x : ℕ) → state.live x ≡ true → IsOfLiving outs x ⊎ IsMadeLast outs x

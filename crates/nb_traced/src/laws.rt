@@ -7,9 +7,9 @@ ghost use Rattle.nb_ledger.specs.GraphRun.{GraphState};
 ghost use Rattle.nb_traced.specs.Entries.{came_to, entries, IsOutside};
 ghost use Rattle.nb_traced.specs.Example.{came_to_both, came_to_two, one_ends, two_pings};
 ghost use Rattle.nb_traced.specs.Holdings.{Holdings, Piece};
-ghost use Rattle.nb_traced.specs.Openings.{CommandsLeaveNone, EndsAreTheirs, HasPieces, NumbersRise, OpensHavePieces};
+ghost use Rattle.nb_traced.specs.Openings.{CommandsLeaveNone, EndsAreTheirs, HasPieces, LeavesTheirs, NumbersRise, OpensHavePieces};
 ghost use Rattle.nb_traced.specs.Outputs.{Arrived, Traced};
-ghost use Rattle.nb_traced.specs.Places.{AdvancesStand, FramesStand, LowestAreOwn, LowestAreTheirs, TriesStand};
+ghost use Rattle.nb_traced.specs.Places.{AdvancesStand, FramesStand, LowestAreOwn, LowestAreTheirs, OthersStandOutside, TriesStand};
 ghost use Rattle.nb_traced.specs.Runs.{HasLedTo};
 
 /// The records of the graph are a legal run, which leads from where no object was made to the state of the holdings.
@@ -49,6 +49,11 @@ pub fn commands_leave_none()
     ensures { (outs : List Out) (h : Holdings) (came : List Arrived) → Traced outs h came → CommandsLeaveNone outs }
 {}
 
+/// So is each object that lives after the output, or it was made since the last COMMAND.
+pub fn objects_are_theirs()
+    ensures { (outs : List Out) (h : Holdings) (came : List Arrived) → Traced outs h came → LeavesTheirs outs }
+{}
+
 /// Where no open lives and nothing waits, no object lives.
 pub fn none_is_left()
     ensures { (outs : List Out) (h : Holdings) (came : List Arrived) → Traced outs h came → h.living ≡ [] → h.waits ≡ []
@@ -70,11 +75,12 @@ pub fn entries_are_theirs()
 {}
 
 /// Each FRAME stands within an entry of the lowest object of an open, or directly after a STEP where no entry runs; each TRY
-/// and each ADVANCE within an entry of the lowest object of its open.
+/// and each ADVANCE within an entry of the lowest object of its open; and no other record stands within an entry.
 pub fn records_stand_within()
     ensures frames { (outs : List Out) (h : Holdings) (came : List Arrived) → Traced outs h came → FramesStand outs }
     ensures tries { (outs : List Out) (h : Holdings) (came : List Arrived) → Traced outs h came → TriesStand outs }
     ensures advances { (outs : List Out) (h : Holdings) (came : List Arrived) → Traced outs h came → AdvancesStand outs }
+    ensures others { (outs : List Out) (h : Holdings) (came : List Arrived) → Traced outs h came → OthersStandOutside outs }
 {}
 
 /// Two pings that live at once are traced, and still where the second ends while the first goes on.

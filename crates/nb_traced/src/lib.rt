@@ -8,6 +8,6 @@ mod laws;
 
 pub use laws::{
     commands_leave_none, ends_are_theirs, entries_are_theirs, graph_runs, lowest_are_theirs,
-    none_is_left, numbers_rise, one_state, opens_have_pieces, pieces_are_one, records_stand_within,
-    two_pings_are_traced,
+    none_is_left, numbers_rise, objects_are_theirs, one_state, opens_have_pieces, pieces_are_one,
+    records_stand_within, two_pings_are_traced,
 };

@@ -1,6 +1,6 @@
 use Rattle.std.proofs.Common.{inl, inr, drop, subst, sym}
 use Rattle.nb_record.specs.View.{in_of}
-use Rattle.nb_boot.specs.Run.{IsOther}
+use Rattle.nb_boot.specs.Shown.{IsOther}
 use Rattle.nb_boot.specs.Going.{Opens, RefusesRun}
 use Rattle.nb_boot.proofs.BadRests.{breaks_broken}
 use Rattle.nb_boot.proofs.Fronts.{front_texts, front_begins}

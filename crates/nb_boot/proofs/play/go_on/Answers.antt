@@ -19,7 +19,7 @@ moves-preserved g c =
     c.moves.invariant.1 (keeps_log (g.L.Line.outside c.moves.line) now c.moves.log c.make_room.new.log c.moves.client c.in-Ok.ensures.ok) in (
       c.in-More.ensures.does.1,
       keeps_then first now now c.args.log.now c.make_room.new.log c.more.new.log c.args.client.now c.moves.client c.more.new.self
-          kept (grow_keeps now c.make_room.new.log c.more.new.log c.moves.client c.more.new.self c.in-More.ensures.does.0),
+          kept (grow_keeps now c.make_room.new.log c.more.new.log c.moves.client c.more.new.self c.in-More.ensures.does.0 c.moves.invariant.0),
     )
 
 pub returns-in-Waiting : goal.returns-in-Waiting
@@ -29,7 +29,7 @@ returns-in-Waiting g c =
     let kept = keeps_then first (g.L.Line.outside c.moves.line) now c.args.log.now c.moves.log c.make_room.new.log c.args.client.now c.moves.client c.moves.client
     c.moves.invariant.1 (keeps_log (g.L.Line.outside c.moves.line) now c.moves.log c.make_room.new.log c.moves.client c.in-Ok.ensures.ok) in (
       waits_rests c.more.new.self.stage c.in-Waiting.ensures.does.1,
-      keeps_leads [] first now c.args.log.now c.make_room.new.log c.more.new.log c.args.client.now c.moves.client c.more.new.self kept c.in-Waiting.ensures.does.0 tt,
+      keeps_leads [] first now c.args.log.now c.make_room.new.log c.more.new.log c.args.client.now c.moves.client c.more.new.self kept c.in-Waiting.ensures.does.0 c.moves.invariant.0 tt,
     )
 
 pub returns-in-Yielded : goal.returns-in-Yielded
@@ -39,7 +39,7 @@ returns-in-Yielded g c =
     let kept = keeps_then first (g.L.Line.outside c.moves.line) now c.args.log.now c.moves.log c.make_room.new.log c.args.client.now c.moves.client c.moves.client
     c.moves.invariant.1 (keeps_log (g.L.Line.outside c.moves.line) now c.moves.log c.make_room.new.log c.moves.client c.in-Ok.ensures.ok) in (
       yields_rests c.more.new.self.stage c.in-Yielded.ensures.does.1,
-      keeps_leads [] first now c.args.log.now c.make_room.new.log c.more.new.log c.args.client.now c.moves.client c.more.new.self kept c.in-Yielded.ensures.does.0 tt,
+      keeps_leads [] first now c.args.log.now c.make_room.new.log c.more.new.log c.args.client.now c.moves.client c.more.new.self kept c.in-Yielded.ensures.does.0 c.moves.invariant.0 tt,
     )
 
 pub returns-in-Over : goal.returns-in-Over
@@ -49,4 +49,4 @@ returns-in-Over g c =
     let kept = keeps_then first (g.L.Line.outside c.moves.line) now c.args.log.now c.moves.log c.make_room.new.log c.args.client.now c.moves.client c.moves.client
     c.moves.invariant.1 (keeps_log (g.L.Line.outside c.moves.line) now c.moves.log c.make_room.new.log c.moves.client c.in-Ok.ensures.ok) in
     over_steps c.end_of.result c.in-Over.status [] first now c.args.log.now c.make_room.new.log c.more.new.log c.args.client.now c.moves.client c.more.new.self
-    kept c.in-Over.ensures.does tt c.end_of.ensures
+    kept c.in-Over.ensures.does c.moves.invariant.0 tt c.end_of.ensures

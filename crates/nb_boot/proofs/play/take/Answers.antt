@@ -18,7 +18,7 @@ returns-in-More g c =
     let kept = keeps_log first now c.args.log.now c.make_room.new.log c.args.client.now c.in-Ok.ensures.ok in
     after_steps c.go_on.result used first now (g.L.Line.outside c.go_on.new.line) c.args.log.now c.step.new.log c.go_on.new.log
     c.args.client.now c.step.new.self c.go_on.new.client
-    (keeps_leads used first now c.args.log.now c.make_room.new.log c.step.new.log c.args.client.now c.args.client.now c.step.new.self kept c.in-More.ensures.0 (omega (arith, c.requires.few)))
+    (keeps_leads used first now c.args.log.now c.make_room.new.log c.step.new.log c.args.client.now c.args.client.now c.step.new.self kept c.in-More.ensures.0 tt (omega (arith, c.requires.few)))
     c.go_on.ensures
 
 pub returns-in-Waiting : goal.returns-in-Waiting
@@ -28,7 +28,7 @@ returns-in-Waiting g c =
     let now = g.L.Line.outside c.make_room.new.line in
     let kept = keeps_log first now c.args.log.now c.make_room.new.log c.args.client.now c.in-Ok.ensures.ok in (
       waits_rests c.step.new.self.stage c.in-Waiting.ensures.1,
-      keeps_leads used first now c.args.log.now c.make_room.new.log c.step.new.log c.args.client.now c.args.client.now c.step.new.self kept c.in-Waiting.ensures.0 (omega (arith, c.requires.few)),
+      keeps_leads used first now c.args.log.now c.make_room.new.log c.step.new.log c.args.client.now c.args.client.now c.step.new.self kept c.in-Waiting.ensures.0 tt (omega (arith, c.requires.few)),
     )
 
 pub returns-in-Yielded : goal.returns-in-Yielded
@@ -38,7 +38,7 @@ returns-in-Yielded g c =
     let now = g.L.Line.outside c.make_room.new.line in
     let kept = keeps_log first now c.args.log.now c.make_room.new.log c.args.client.now c.in-Ok.ensures.ok in (
       yields_rests c.step.new.self.stage c.in-Yielded.ensures.1,
-      keeps_leads used first now c.args.log.now c.make_room.new.log c.step.new.log c.args.client.now c.args.client.now c.step.new.self kept c.in-Yielded.ensures.0 (omega (arith, c.requires.few)),
+      keeps_leads used first now c.args.log.now c.make_room.new.log c.step.new.log c.args.client.now c.args.client.now c.step.new.self kept c.in-Yielded.ensures.0 tt (omega (arith, c.requires.few)),
     )
 
 pub returns-in-Over : goal.returns-in-Over
@@ -48,4 +48,4 @@ returns-in-Over g c =
     let now = g.L.Line.outside c.make_room.new.line in
     let kept = keeps_log first now c.args.log.now c.make_room.new.log c.args.client.now c.in-Ok.ensures.ok in
     over_steps c.end_of.result c.in-Over.status used first now c.args.log.now c.make_room.new.log c.step.new.log c.args.client.now c.args.client.now c.step.new.self
-    kept c.in-Over.ensures (omega (arith, c.requires.few)) c.end_of.ensures
+    kept c.in-Over.ensures tt (omega (arith, c.requires.few)) c.end_of.ensures

@@ -11,8 +11,8 @@ finish-requires g c = end_closes c.in-Over.status c.in-Over.ensures.0
 pub returns-in-Over : goal.returns-in-Over
 returns-in-Over g c = λ ins rest first r.
     let d = c.in-Over.ensures.2 ins rest first r in
-    c.finish.ensures (ins ++ in_of c.args.entry.now ∷ []) rest first d.machine d.at d.stands d.fits d.going
-    (over_ends c.in-Over.status c.take.new.client d.machine rest (g.L.Line.outside c.take.new.line) d.stands c.in-Over.ensures.1)
+    c.finish.ensures (ins ++ in_of c.args.entry.now ∷ []) rest first d.progress d.holdings d.stands d.fits d.going
+    (over_ends c.in-Over.status c.take.new.client d.progress rest (g.L.Line.outside c.take.new.line) d.stands c.in-Over.ensures.1)
 
 pub returns-in-Cut : goal.returns-in-Cut
 returns-in-Cut g c =

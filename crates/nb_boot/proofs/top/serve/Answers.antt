@@ -1,6 +1,6 @@
 use Rattle.std.proofs.Common.{◌≡◌, [], arith, subst, sym}
-use Rattle.nb_opens.specs.Graphs.{bare}
-use Rattle.nb_engine.specs.Machine.{fresh}
+use Rattle.nb_traced.specs.Holdings.{no_holdings}
+use Rattle.nb_machine.specs.Courses.{nowhere}
 use Rattle.nb_boot.specs.Going.{Going, Waits}
 use Rattle.nb_boot.proofs.Goings.{going_fresh}
 use Rattle.nb_boot.proofs.Waiting.{waits_counts}
@@ -9,13 +9,13 @@ use Rattle.nb_boot.proofs.top.serve.Goals as goal
 pub returns-in-Err : goal.returns-in-Err
 returns-in-Err g c =
     let first = g.L.Line.outside c.args.line.now in
-    let going = subst (λ xs. Going [] xs first first c.args.log.now fresh (bare 0 0)) (sym c.requires.empty) (going_fresh first c.args.log.now c.requires.no_output) in
+    let going = subst (λ xs. Going [] xs first first c.args.log.now nowhere no_holdings) (sym c.requires.empty) (going_fresh first c.args.log.now c.requires.no_output) in
     c.in-Err.ensures.err first going
 
 pub records-init : goal.records-init
 records-init g c =
     let first = g.L.Line.outside c.args.line.now in
-    let going = subst (λ xs. Going [] xs first first c.args.log.now fresh (bare 0 0)) (sym c.requires.empty) (going_fresh first c.args.log.now c.requires.no_output) in
+    let going = subst (λ xs. Going [] xs first first c.args.log.now nowhere no_holdings) (sym c.requires.empty) (going_fresh first c.args.log.now c.requires.no_output) in
     let opened = c.in-Ok.ensures.ok in
     (omega arith, opened.0, opened.1 first going)
 

@@ -12,7 +12,7 @@ pub returns-then-not-is_empty : goal.returns-then-not-is_empty
 returns-then-not-is_empty g c = λ first w.
     let held = c.args.feed.now.bytes in
     let now = g.L.Line.outside c.args.line.now in
-    c.finish.ensures w.ins held first w.goes.machine w.goes.at w.goes.stands w.goes.fits w.goes.going
+    c.finish.ensures w.ins held first w.goes.progress w.goes.holdings w.goes.stands w.goes.fits w.goes.going
     (waits_full held first now c.args.log.now c.args.client.now w c.requires.waits (some_held held c.is_empty.result c.is_empty.ensures c.if-not-is_empty.true))
 
 pub refill-requires : goal.refill-requires
@@ -26,7 +26,7 @@ returns-in-More g c = λ first w.
     let held = c.refill.new.feed.bytes in
     let now = g.L.Line.outside c.refill.new.line in
     let v = waits_filled 4294967295 c.args.feed.now.bytes held first (g.L.Line.outside c.args.line.now) now c.args.log.now c.refill.new.log c.args.client.now c.in-More.ensures.fills c.requires.waits w in
-    c.finish-in-More.ensures v.ins held first v.goes.machine v.goes.at v.goes.stands v.goes.fits v.goes.going
+    c.finish-in-More.ensures v.ins held first v.goes.progress v.goes.holdings v.goes.stands v.goes.fits v.goes.going
     (waits_full held first now c.refill.new.log c.args.client.now v c.requires.waits (omega (arith, c.in-More.ensures.grows refl)))
 
 pub returns-in-Ended : goal.returns-in-Ended
@@ -36,14 +36,14 @@ returns-in-Ended g c = λ first w.
     let f = c.in-Ended.ensures.fills in
     let none : held ≡ [] = c.in-Ended.ensures.stays refl ∙ nothing_held c.args.feed.now.bytes c.is_empty.result c.is_empty.ensures c.if-not-is_empty.false in
     let v = waits_filled 4294967295 c.args.feed.now.bytes held first (g.L.Line.outside c.args.line.now) now c.args.log.now c.refill.new.log c.args.client.now f.0 c.requires.waits w in
-    c.finish-in-Ended.ensures v.ins held first v.goes.machine v.goes.at v.goes.stands v.goes.fits v.goes.going
+    c.finish-in-Ended.ensures v.ins held first v.goes.progress v.goes.holdings v.goes.stands v.goes.fits v.goes.going
     (waits_out 4294967295 held first now c.refill.new.log c.args.client.now v c.requires.waits none f.2)
 
 pub returns-in-Fault : goal.returns-in-Fault
 returns-in-Fault g c = λ first w.
-    c.in-Fault.ensures.fills w.ins first w.goes.machine w.goes.at (stands_between c.args.client.now w.goes.machine w.goes.stands c.requires.waits) w.goes.going
+    c.in-Fault.ensures.fills w.ins first w.goes.progress w.goes.holdings (stands_between c.args.client.now w.goes.progress w.goes.stands c.requires.waits) w.goes.going
 
 pub returns-in-Cut : goal.returns-in-Cut
 returns-in-Cut g c = λ first w.
     let P : Status → Type 0 = λ s. Shows s first (g.L.Line.outside c.refill.new.line) in
-    subst P (sym c.status.ensures) (c.in-Cut.ensures.fills w.ins first w.goes.machine w.goes.at (stands_between c.args.client.now w.goes.machine w.goes.stands c.requires.waits) w.goes.going)
+    subst P (sym c.status.ensures) (c.in-Cut.ensures.fills w.ins first w.goes.progress w.goes.holdings (stands_between c.args.client.now w.goes.progress w.goes.stands c.requires.waits) w.goes.going)

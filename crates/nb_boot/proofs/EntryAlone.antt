@@ -1,0 +1,75 @@
+-- By the laws one open lives at most, and none where a step goes on.
+use Rattle.std.proofs.Common.{◌≡◌, ℕ, true, false, List, [], ◌∷◌, ◌++◌, Option, Some, None, sym, ◌∙◌, ap, subst, append_assoc, append-nil}
+use Rattle.nb_terms.specs.declared.cause.Cause.{Cause}
+use Rattle.nb_defs.specs.Records.{In, Out}
+use Rattle.nb_machine.specs.Courses.{Standing, ready, running, waiting, reaching, yielded, handing, left, handed_off, stopped, Progress, Course}
+use Rattle.nb_laws.specs.Events.{Event, EachEvent}
+use Rattle.nb_laws.specs.Histories.{IsRead, IsHistory}
+use Rattle.nb_laws.specs.Lists.{Opening, live, came_ok}
+use Rattle.nb_laws.specs.Frames.{WritesSo}
+use Rattle.nb_laws.specs.Progress.{StepsSo}
+use Rattle.nb_lawful.specs.CommandOpens.{CommandOpen, command_open, over_of}
+use Rattle.nb_openlaws.specs.OpenEndings.{OpensEndSo}
+use Rattle.nb_lawful.specs.Results.{CommandsSo}
+use Rattle.nb_lawful.specs.ScriptAgreement.{ScriptsAgree}
+use Rattle.nb_lawful.proofs.Awaited.{its}
+use Rattle.nb_lawful.proofs.Solitude.{IsOver, IsSettled, Solitude, none_lives}
+use Rattle.nb_lawful.proofs.Alone.{solitude_first, solitude_then}
+use Rattle.nb_lawful.proofs.Todays.{todays_laws}
+use Rattle.nb_lawful.proofs.CourseLaws.{keeps_laws}
+use Rattle.nb_boot.specs.Stepped.{NoneLives}
+use Rattle.nb_boot.specs.Following.{StepGoesOn}
+
+-- what is known of each event
+pub record Known (before : List Event) (e : Event) : Type 0 where
+  pub read : IsRead before e
+  pub written : WritesSo before e
+  pub steps : StepsSo before e
+  pub commands : CommandsSo before e
+  pub ends : OpensEndSo before e
+
+all_known : (before es : List Event) → EachEvent IsRead before es → EachEvent WritesSo before es → EachEvent StepsSo before es → EachEvent CommandsSo before es → EachEvent OpensEndSo before es → EachEvent Known before es
+all_known before [] r w s c e = tt
+all_known before (x ∷ es) r w s c e = (record { read = r.0; written = w.0; steps = s.0; commands = c.0; ends = e.0 }, all_known (before ++ x ∷ []) es r.1 w.1 s.1 c.1 e.1)
+
+pub course_known : (ins : List In) (outs : List Out) (p : Progress) (es : List Event) → Course ins outs p → IsHistory ins outs es → EachEvent Known [] es
+course_known ins outs p es c h =
+    let k = keeps_laws ins outs p es c h in
+    all_known [] es h.read (todays_laws es k).writes k.steps k.commands k.ends
+
+pub alone_then : (before : List Event) (e : Event) → Known before e → Solitude before → Solitude (before ++ e ∷ [])
+alone_then before e k a = solitude_then before e k.steps k.commands k.ends a
+
+alone_after : (before es : List Event) → EachEvent Known before es → Solitude before → Solitude (before ++ es)
+alone_after before [] k a = subst Solitude (sym (append-nil before)) a
+alone_after before (e ∷ es) k a = subst Solitude (append_assoc before (e ∷ []) es) (alone_after (before ++ e ∷ []) es k.1 (alone_then before e k.0 a))
+
+pub course_alone : (ins : List In) (outs : List Out) (p : Progress) (es : List Event) → Course ins outs p → IsHistory ins outs es → Solitude es
+course_alone ins outs p es c h = alone_after [] es (course_known ins outs p es c h) solitude_first
+
+its_own : (j k : ℕ) → its j None ≡ its k None → j ≡ k
+its_own j k e = let same : record { number = j; over = None } ≡ record { number = k; over = None } = cc in ap (λ (o : CommandOpen). o.number) same
+
+-- two that live are one
+pub one_lives : (es : List Event) (j k : ℕ) (o q : Opening) → Solitude es → live j es ≡ o ∷ [] → live k es ≡ q ∷ [] → j ≡ k
+one_lives es j k o q a lj lk = its_own j k (sym (a.lives j o lj) ∙ a.lives k q lk)
+
+settled_ok : (last : Option CommandOpen) → came_ok (over_of last) ≡ true → IsSettled last
+settled_ok None e = tt
+settled_ok (Some o) e = over_ok o.over e
+  where
+    over_ok : (over : Option Cause) → came_ok over ≡ true → IsOver over
+    over_ok None e = absurd (let no : false ≡ true = e in cc)
+    over_ok (Some cause) e = tt
+
+-- where a step goes on none lives
+pub none_where_on : (es : List Event) (outs : List Out) (p : Standing) → Solitude es → ScriptsAgree es outs p → StepGoesOn p → NoneLives es
+none_where_on es outs ready a s on = absurd on
+none_where_on es outs (running x inner outer) a s on = none_lives es a (a.idle s.1.is_open)
+none_where_on es outs (waiting x w) a s on = absurd on
+none_where_on es outs (reaching x inner outer next) a s on = none_lives es a (settled_ok (command_open es) s.3.finds.ended)
+none_where_on es outs (yielded x inner outer) a s on = absurd on
+none_where_on es outs (handing x rest) a s on = none_lives es a (a.idle s.1)
+none_where_on es outs (left x outer cause) a s on = absurd on
+none_where_on es outs (handed_off x) a s on = absurd on
+none_where_on es outs (stopped x) a s on = absurd on

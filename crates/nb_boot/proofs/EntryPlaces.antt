@@ -1,0 +1,185 @@
+-- Each frame and each try that is written stands where the graph says: within an entry of its open's lowest object, or as a reply.
+use Rattle.std.proofs.Common.{◌≡◌, ◌⊎◌, inl, inr, ℕ, ◌<◌, false, not, cond, List, [], ◌∷◌, ◌++◌, length, refl, sym, ◌∙◌, ap, subst, append_assoc, append-nil, arith}
+use Rattle.std.proofs.lemmas.Bool.{true≢false}
+use Rattle.nb_terms.specs.declared.event.Event.{Event as GraphRecord}
+use Rattle.nb_defs.specs.Records.{Out, step, sent, text, command, result, script, opened, tried, advanced, ended, graph, part, done}
+use Rattle.nb_stack.specs.Brings.{Brought}
+use Rattle.nb_stack.specs.Takes.{reply_of}
+use Rattle.nb_tftp.specs.History.{Call}
+use Rattle.nb_opens.specs.Graphs.{is_graph, without_graph}
+use Rattle.nb_laws.specs.Events.{Event, hears, puts, outputs, EachEvent}
+use Rattle.nb_laws.specs.Histories.{client}
+use Rattle.nb_laws.specs.Lists.{Opening, live, call_at}
+use Rattle.nb_laws.specs.Frames.{IsPut, IsDue, by_call, by_opening, stays_due}
+use Rattle.nb_laws.specs.Frames as frames
+use Rattle.nb_laws.proofs.Tellings.{told}
+use Rattle.nb_lawful.proofs.Solitude.{Solitude}
+use Rattle.nb_openlaws.proofs.UsedEvents.{IsUsed}
+use Rattle.nb_traced.specs.Entries.{IsWithin, IsOutside}
+use Rattle.nb_traced.specs.Places.{FrameStands, FramesStand, TriesStand, by_open, by_step}
+use Rattle.nb_boot.specs.Stepped.{NoneLives}
+use Rattle.nb_boot.specs.Entries.{Leaves, by_entry, by_reply, plain, LeavesSo}
+use Rattle.nb_boot.proofs.EntryAlone.{Known, alone_then, one_lives}
+use Rattle.nb_boot.proofs.EntryComings.{HaveNoGraph}
+use Rattle.nb_boot.proofs.EntryHistories.{outputs_append, plain_events_append}
+use Rattle.nb_boot.proofs.EntryOpens.{lives_within}
+
+-- THE LAST EVENT
+
+pub record SameLast (a b : List Event) (x y : Event) : Type 0 where
+  pub front : a ≡ b
+  pub last : x ≡ y
+
+not_empty : (b : List Event) (y : Event) → [] ≡ b ++ y ∷ [] → ⊥
+not_empty [] y e = absurd (cc)
+not_empty (z ∷ b) y e = absurd (cc)
+
+tails : (x y : Event) (xs ys : List Event) → x ∷ xs ≡ y ∷ ys → xs ≡ ys
+tails x y xs ys e = cc
+
+pub same_last : (a b : List Event) (x y : Event) → a ++ x ∷ [] ≡ b ++ y ∷ [] → SameLast a b x y
+same_last [] [] x y e = record { front = refl; last = cc }
+same_last [] (z ∷ b) x y e = absurd (not_empty b y (tails x z [] (b ++ y ∷ []) e))
+same_last (z ∷ a) [] x y e = absurd (not_empty a x (sym (tails z y (a ++ x ∷ []) [] e)))
+same_last (z ∷ a) (w ∷ b) x y e =
+    let rest = same_last a b x y (tails z w (a ++ x ∷ []) (b ++ y ∷ []) e) in
+    let heads : z ≡ w = cc in
+    record { front = ap (λ v. v ∷ a) heads ∙ ap (λ v. w ∷ v) rest.front; last = rest.last }
+
+-- the same of records
+no_out : (b : List Out) (y : Out) → [] ≡ b ++ y ∷ [] → ⊥
+no_out [] y e = absurd (cc)
+no_out (z ∷ b) y e = absurd (cc)
+
+out_tails : (x y : Out) (xs ys : List Out) → x ∷ xs ≡ y ∷ ys → xs ≡ ys
+out_tails x y xs ys e = cc
+
+pub last_out : (a b : List Out) (x y : Out) → a ++ x ∷ [] ≡ b ++ y ∷ [] → x ≡ y
+last_out [] [] x y e = cc
+last_out [] (z ∷ b) x y e = absurd (no_out b y (out_tails x z [] (b ++ y ∷ []) e))
+last_out (z ∷ a) [] x y e = absurd (no_out a x (sym (out_tails z y (a ++ x ∷ []) [] e)))
+last_out (z ∷ a) (w ∷ b) x y e = last_out a b x y (out_tails z w (a ++ x ∷ []) (b ++ y ∷ []) e)
+
+-- what is due in the step of a record has come with it
+pub due_at : (k : ℕ) (es before : List Event) (e : Event) → IsUsed e → IsDue k es → es ≡ before ++ e ∷ [] → (call : Call) × (call_at k before e ≡ call ∷ [])
+due_at k es before e used (by_call b x call is) at =
+    let l = same_last b before x e at in (call, subst (λ z. call_at k z e ≡ call ∷ []) l.front (subst (λ z. call_at k b z ≡ call ∷ []) l.last is))
+due_at k es before e used (by_opening b kind server port own target) at =
+    let l = same_last b before (puts (opened k kind server port own target)) e at in absurd (subst IsUsed (sym l.last) used)
+due_at k es before e used (stays_due b o due) at = let l = same_last b before (puts o) e at in absurd (subst IsUsed (sym l.last) used)
+
+-- WHERE A RECORD STANDS
+
+-- a reply to this frame has no bytes, or no open lives
+abbrev pub RepliesNothing : List Event → Type 0
+RepliesNothing es = (b : List Event) (n : ℕ) (taken : List ℕ) (m : Brought) → es ≡ b ++ hears n taken m ∷ [] → (reply_of (client b) m ≡ []) ⊎ NoneLives es
+
+-- One open lives at most. Where a FRAME stands directly after a STEP, nothing is due of an open that lives; and what stands here is no reply, unless
+-- none of the graph's records follows.
+pub record Context (w : List Event) (more : List Out) : Type 0 where
+  pub alone : Solitude (plain w)
+  pub due : (bytes : List ℕ) (rest : List Out) → more ≡ sent bytes ∷ rest → (earlier : List Out) (n : ℕ) → outputs w ≡ earlier ++ step n ∷ [] → (k : ℕ) → IsDue k (plain w) → live k (plain w) ≡ []
+  pub silent : RepliesNothing (plain w) ⊎ (HaveNoGraph more × IsOutside (outputs w))
+
+one_open : (o : Opening) (os : List Opening) → os ≡ [] → os ≡ o ∷ [] → ⊥
+one_open o os none one = let no : [] ≡ o ∷ [] = sym none ∙ one in absurd (cc)
+
+some_bytes : (bytes : List ℕ) → 0 < length bytes → bytes ≡ [] → ⊥
+some_bytes bytes some none = omega (arith, some, ap length none)
+
+not_outside : (k : ℕ) (outs : List Out) → IsWithin k outs → IsOutside outs → ⊥
+not_outside k outs within none = let no : [] ≡ within.object ∷ within.outer = sym none ∙ within.runs in absurd (cc)
+
+frame_leaves : (w : List Event) (bytes : List ℕ) (more : List Out) → Context w (sent bytes ∷ more) → FrameStands (outputs w) → IsPut (plain w) bytes → Leaves (outputs w) (plain w) bytes
+frame_leaves w bytes more c (by_step earlier n at outside) (frames.by_reply b i taken m last is some) = by_reply outside (record { before = b; number = i; taken = taken; message = m; last = last; reply = is })
+frame_leaves w bytes more c (by_step earlier n at outside) (frames.by_open k leaving due) = absurd (one_open leaving.opening (live k (plain w)) (c.due bytes more refl earlier n at k due) leaving.lives)
+frame_leaves w bytes more c (by_open j within) (frames.by_open k leaving due) =
+    let l = lives_within j w c.alone within in
+    by_entry k (subst (λ z. IsWithin z (outputs w)) (one_lives (plain w) j k l.0 leaving.opening c.alone l.1 leaving.lives) within.within) leaving
+frame_leaves w bytes more c (by_open j within) (frames.by_reply b i taken m last is some) = elim c.silent [
+  | inl quiet ↦ elim (quiet b i taken m last) [
+    | inl none ↦ absurd (some_bytes bytes some (is ∙ none))
+    | inr nobody ↦ let l = lives_within j w c.alone within in absurd (one_open l.0 (live j (plain w)) (nobody j) l.1)
+  ]
+  | inr plainly ↦ absurd (not_outside j (outputs w) within.within plainly.1)
+]
+
+-- RECORDS AFTER OTHERS
+
+-- a record of the graph, a STEP, or another
+data KindOf : Out → Type 0 where
+  of_graph : (h : GraphRecord) → KindOf (graph h)
+  of_step : (n : ℕ) → KindOf (step n)
+  of_others : (o : Out) → is_graph o ≡ false → ((n : ℕ) → o ≡ step n → ⊥) → KindOf o
+
+kind_of : (o : Out) → KindOf o
+kind_of (graph h) = of_graph h
+kind_of (step n) = of_step n
+kind_of (sent bytes) = of_others (sent bytes) refl (λ n e. let no : sent bytes ≡ step n = e in cc)
+kind_of (text bytes) = of_others (text bytes) refl (λ n e. let no : text bytes ≡ step n = e in cc)
+kind_of (command depth line place expanded words) = of_others (command depth line place expanded words) refl (λ n e. let no : command depth line place expanded words ≡ step n = e in cc)
+kind_of (result cause) = of_others (result cause) refl (λ n e. let no : result cause ≡ step n = e in cc)
+kind_of (script what depth cause) = of_others (script what depth cause) refl (λ n e. let no : script what depth cause ≡ step n = e in cc)
+kind_of (opened number kind server port own target) = of_others (opened number kind server port own target) refl (λ n e. let no : opened number kind server port own target ≡ step n = e in cc)
+kind_of (tried number count) = of_others (tried number count) refl (λ n e. let no : tried number count ≡ step n = e in cc)
+kind_of (advanced number place) = of_others (advanced number place) refl (λ n e. let no : advanced number place ≡ step n = e in cc)
+kind_of (ended number cause) = of_others (ended number cause) refl (λ n e. let no : ended number cause ≡ step n = e in cc)
+kind_of (part kind index offset bytes) = of_others (part kind index offset bytes) refl (λ n e. let no : part kind index offset bytes ≡ step n = e in cc)
+kind_of (done status) = of_others (done status) refl (λ n e. let no : done status ≡ step n = e in cc)
+
+told_put : (o : Out) (more : List Out) → is_graph o ≡ false → told (without_graph (o ∷ more)) ≡ puts o ∷ told (without_graph more)
+told_put o more plainly = ap (λ b. told (cond (not b) (o ∷ without_graph more) (without_graph more))) plainly
+
+plain_put : (w : List Event) (o : Out) → is_graph o ≡ false → plain (w ++ puts o ∷ []) ≡ plain w ++ puts o ∷ []
+plain_put w o plainly = plain_events_append w (puts o ∷ []) ∙ ap (λ b. plain w ++ cond (not b) (puts o ∷ []) []) plainly
+
+plain_graph : (w : List Event) (h : GraphRecord) → plain (w ++ puts (graph h) ∷ []) ≡ plain w
+plain_graph w h = plain_events_append w (puts (graph h) ∷ []) ∙ append-nil (plain w)
+
+put_context : (w : List Event) (o : Out) (more : List Out) → is_graph o ≡ false → ((n : ℕ) → o ≡ step n → ⊥) → Known (plain w) (puts o) → Context w (o ∷ more) → Context (w ++ puts o ∷ []) more
+put_context w o more plainly other known c = record {
+  alone = subst Solitude (sym (plain_put w o plainly)) (alone_then (plain w) (puts o) known c.alone);
+  due = λ bytes rest is earlier n at k due. absurd (other n (last_out (outputs w) earlier o (step n) (sym (outputs_append w (puts o ∷ [])) ∙ at)));
+  silent = inl (λ b n taken m e.
+      let l = same_last (plain w) b (puts o) (hears n taken m) (sym (plain_put w o plainly) ∙ e) in
+      let no : puts o ≡ hears n taken m = l.last in absurd (cc));
+}
+
+graph_context : (w : List Event) (h : GraphRecord) (more : List Out) → Context w (graph h ∷ more) → Context (w ++ puts (graph h) ∷ []) more
+graph_context w h more c = record {
+  alone = subst Solitude (sym (plain_graph w h)) c.alone;
+  due = λ bytes rest is earlier n at k due.
+      let no : graph h ≡ step n = last_out (outputs w) earlier (graph h) (step n) (sym (outputs_append w (puts (graph h) ∷ [])) ∙ at) in absurd (cc);
+  silent = quiet_next c.silent;
+}
+  where
+    quiet_next : RepliesNothing (plain w) ⊎ (HaveNoGraph (graph h ∷ more) × IsOutside (outputs w)) → RepliesNothing (plain (w ++ puts (graph h) ∷ [])) ⊎ (HaveNoGraph more × IsOutside (outputs (w ++ puts (graph h) ∷ [])))
+    quiet_next (inl nothing) = inl (subst RepliesNothing (sym (plain_graph w h)) nothing)
+    quiet_next (inr plainly) = absurd (true≢false plainly.0.0)
+
+-- a whole output, of which each FRAME and each TRY has its place
+module _ (all : List Out) (framed : FramesStand all) (tried_so : TriesStand all) where
+  leaves_so : (w : List Event) (o : Out) (more later : List Out) → all ≡ outputs w ++ (o ∷ (more ++ later)) → Known (plain w) (puts o) → Context w (o ∷ more) → LeavesSo w (puts o)
+  leaves_so w (sent bytes) more later at known c = frame_leaves w bytes more c (framed (outputs w) (more ++ later) bytes at) known.written
+  leaves_so w (tried k count) more later at known c = (tried_so (outputs w) (more ++ later) k count at).within
+  leaves_so w (step number) more later at known c = tt
+  leaves_so w _ more later at known c = tt
+
+  next_at : (w : List Event) (o : Out) (rest : List Out) → all ≡ outputs w ++ (o ∷ rest) → all ≡ outputs (w ++ puts o ∷ []) ++ rest
+  next_at w o rest at = at ∙ sym (append_assoc (outputs w) (o ∷ []) rest) ∙ ap (λ z. z ++ rest) (sym (outputs_append w (puts o ∷ [])))
+
+  one_told : (w : List Event) (o : Out) (more later : List Out) → KindOf o → all ≡ outputs w ++ (o ∷ (more ++ later)) → EachEvent Known (plain w) (told (without_graph (o ∷ more))) → Context w (o ∷ more) →
+      ((v : List Event) → all ≡ outputs v ++ (more ++ later) → EachEvent Known (plain v) (told (without_graph more)) → Context v more → EachEvent LeavesSo v (told more)) → EachEvent LeavesSo w (told (o ∷ more))
+  one_told w o more later (of_graph h) at known c next =
+      (tt, next (w ++ puts (graph h) ∷ []) (next_at w (graph h) (more ++ later) at) (subst (λ z. EachEvent Known z (told (without_graph more))) (sym (plain_graph w h)) known) (graph_context w h more c))
+  one_told w o more later (of_step n) at known c next = absurd known.0.read
+  one_told w o more later (of_others _ plainly other) at known c next =
+      let here = subst (λ z. EachEvent Known (plain w) z) (told_put o more plainly) known in (
+        leaves_so w o more later at here.0 c,
+        next (w ++ puts o ∷ []) (next_at w o (more ++ later) at) (subst (λ z. EachEvent Known z (told (without_graph more))) (sym (plain_put w o plainly)) here.1) (put_context w o more plainly other here.0 c),
+      )
+
+  -- each of these records stands so
+  pub all_told_so : (w : List Event) (more later : List Out) → all ≡ outputs w ++ (more ++ later) → EachEvent Known (plain w) (told (without_graph more)) → Context w more → EachEvent LeavesSo w (told more)
+  all_told_so w [] later at known c = tt
+  all_told_so w (o ∷ more) later at known c = one_told w o more later (kind_of o) at known c (λ v a k d. all_told_so v more later a k d)

@@ -1,0 +1,125 @@
+-- The open that is next makes a move, or no more may be made.
+use Rattle.std.proofs.Common.{◌≡◌, ℕ, ◌+◌, ◌*◌, ◌<◌, ◌≤◌, List, [], ◌∷◌, ◌++◌, refl, sym, ◌∙◌, ap, subst, append-nil, append_assoc, arith, sum_by}
+use Rattle.nb_terms.specs.declared.cause.Cause.{Cause}
+use Rattle.nb_defs.specs.Records.{Out, result}
+use Rattle.nb_machine.specs.Courses.{opens_onward, finds_no_way, opens_no_more, reaching, running, stands, waiting}
+use Rattle.nb_machine.specs.Effects.{full_opens}
+use Rattle.nb_machine.specs.Lives.{Live}
+use Rattle.nb_machine.specs.Running.{Running, with_result}
+use Rattle.nb_network.specs.Many.{lease_count}
+use Rattle.nb_opens.specs.Graphs.{without_graph}
+use Rattle.nb_opens.proofs.Plain.{plain_behind}
+use Rattle.nb_record.specs.Logged.{Logged}
+use Rattle.nb_runner.specs.CommandWords.{onward_of}
+use Rattle.nb_runner.specs.Steps.{moves_in}
+use Rattle.nb_runner.specs.declared.errand.Onward.{Onward}
+use Rattle.nb_runner.specs.declared.errand.Onward.TheVariants as onward
+use Rattle.nb_runner.specs.declared.world.World.{World}
+use Rattle.nb_traced.specs.Outputs.{Traced, apart}
+use Rattle.nb_traced.specs.Pieces.{event_records}
+use Rattle.nb_client.specs.Asked.{job_asked, live_asked}
+use Rattle.nb_client.specs.Openings.{IsOpenedIn, OpensNext, asked_onward, opens_it, opens_none, sets_out, turns_back}
+use Rattle.nb_client.specs.Progressing.{LeadsTo, TracesTo, most_moves}
+use Rattle.nb_client.specs.Snapshots.{Snapshot, at_running, snapshot, state_of_world}
+use Rattle.nb_client.specs.Soundness.{IsSound}
+use Rattle.nb_client.specs.Turning.{MovesOn}
+use Rattle.nb_client.specs.declared.pending.Next.{Next}
+use Rattle.nb_client.specs.declared.site.Site.{Site}
+use Rattle.nb_client.specs.declared.stage.Stage.TheVariants as stage
+use Rattle.nb_client.proofs.Moves.{one_move}
+use Rattle.nb_client.proofs.Standing.{stands_at}
+
+leads_next : (n : ℕ) (w : World) (live : List Live) (s : Running) (x : Onward) (put : List Out) (after : Snapshot) → w.opens < 16384 →
+    IsOpenedIn (state_of_world w live) (live_asked (state_of_world w live) (asked_onward x)) (job_asked (asked_onward x)) s n put after →
+    LeadsTo [] (stands n (reaching (state_of_world w live) s [] (onward_of x))) put after
+leads_next n w live s (onward.File wanted) put after few (sets_out link more to dev first stood) = record {
+  progress = stands n (waiting _ _);
+  steps = one_move _ _ _ (opens_onward n (state_of_world w live) s [] (onward_of (onward.File wanted)) link more few dev first);
+  stands = stood;
+}
+leads_next n w live s (onward.File wanted) put after few (turns_back link to dev first stood) = record {
+  progress = stands n (running _ _ []);
+  steps = one_move _ _ _ (finds_no_way n (state_of_world w live) s [] (onward_of (onward.File wanted)) link few dev first);
+  stands = stood;
+}
+leads_next n w live s (onward.Echo server) put after few (sets_out link more to dev first stood) = record {
+  progress = stands n (waiting _ _);
+  steps = one_move _ _ _ (opens_onward n (state_of_world w live) s [] (onward_of (onward.Echo server)) link more few dev first);
+  stands = stood;
+}
+leads_next n w live s (onward.Echo server) put after few (turns_back link to dev first stood) = record {
+  progress = stands n (running _ _ []);
+  steps = one_move _ _ _ (finds_no_way n (state_of_world w live) s [] (onward_of (onward.Echo server)) link few dev first);
+  stands = stood;
+}
+
+with_result_near : (s : Running) (cause : Cause) → moves_in (with_result s cause) < moves_in s + 1
+with_result_near s cause = omega arith
+
+pub next_goes : {old new : Logged} (s : Running) (k : Next) (before : Site) (after : Snapshot) → IsSound before.used before.world before.opens (stage.Reaching s k) →
+    OpensNext s k before after old new → MovesOn (snapshot before.used before.world before.opens (stage.Reaching s k)) after old new
+next_goes {old} {new} s k before after sound (opens_it few o) = record {
+  goes = record {
+    advances = λ p is_for.
+        let at = stands_at (snapshot before.used before.world before.opens (stage.Reaching s k)) p is_for in
+        record {
+          added = o.rest;
+          came = [];
+          puts = o.puts;
+          leads = subst (λ y. LeadsTo [] y (without_graph o.rest) after) (sym at.2)
+              (leads_next before.used before.world at.0 s k.onward (without_graph o.rest) after few (o.opens at.0 at.1));
+          begins = refl;
+          traces = λ outs h so_far t fits. subst (λ y. TracesTo after (outs ++ o.rest) y) (sym (append-nil so_far)) (o.traces outs h so_far t fits);
+        };
+    sound = o.sound;
+    under_way = o.under_way;
+  };
+  nearer = λ at_work.
+      let same = o.same_script at_work in
+      subst (λ st. most_moves st after < moves_in s + 1) (sym same.1) (with_result_near s same.0);
+}
+next_goes {old} {new} s k before after sound (opens_none now full used world is lets) =
+    let s' = with_result s full_opens in
+    let w = before.world in
+    let then_at = snapshot before.used w now.opens (stage.Running s') in
+    let same : after ≡ then_at = is ∙ (ap (λ n. snapshot n now.world now.opens (stage.Running s')) used ∙ ap (λ v. snapshot before.used v now.opens (stage.Running s')) world) in
+    let freed = event_records lets.events in
+    let records = freed ++ (result full_opens ∷ []) in
+    let plain : without_graph records ≡ result full_opens ∷ [] = plain_behind lets.events (result full_opens ∷ []) in
+    subst (λ y. MovesOn (snapshot before.used w before.opens (stage.Reaching s k)) y old new) (sym same) (record {
+      goes = record {
+        advances = λ p is_for.
+            let at = stands_at (snapshot before.used w before.opens (stage.Reaching s k)) p is_for in
+            let live = at.0 in
+            record {
+              added = records;
+              came = [];
+              puts = lets.puts;
+              leads = subst (λ y. LeadsTo [] y (without_graph records) then_at) (sym at.2)
+                  (subst (λ xs. LeadsTo [] (stands before.used (reaching (state_of_world w live) s [] (onward_of k.onward))) xs then_at) (sym plain) (record {
+                    progress = stands before.used (running (state_of_world w live) s' []);
+                    steps = one_move _ _ _ (opens_no_more before.used (state_of_world w live) s [] (onward_of k.onward) full);
+                    stands = at_running before.used w now.opens s' live (lets.state w.net w.time (state_of_world w live) (record { devices = refl; time = refl; live = at.1 })).live;
+                  }));
+              begins = refl;
+              traces = λ outs h so_far t fits.
+                  let on = lets.traces outs h so_far t fits in
+                  record {
+                    holdings = on.after;
+                    traced = subst (λ xs. Traced xs on.after (so_far ++ [])) (append_assoc outs freed (result full_opens ∷ [])) (apart (outs ++ freed) (result full_opens ∷ []) on.after (so_far ++ []) on.traced (tt, tt));
+                    fits = on.fits;
+                  };
+            };
+        sound = record {
+          time = sound.time;
+          opens = lets.sound;
+          serials = subst (λ x. x ≤ 3 * w.opens) (sym lets.serials) sound.serials;
+          leases = subst (λ xs. sum_by (λ x. lease_count x.kind) xs ≡ 0) (sym lets.same_list) sound.leases;
+          well = tt;
+          short = sound.short;
+          linked = sound.linked;
+        };
+        under_way = tt;
+      };
+      nearer = λ x. with_result_near s full_opens;
+    })

@@ -1,0 +1,11 @@
+-- What holds of a call that succeeds.
+use Rattle.std.proofs.Common.{Result, Ok, Err, IfOk, OnOk}
+
+pub if_ok : {A E : Type 0} {P Q : A → Type 0} (r : Result A E) → ((x : A) → P x → Q x) → IfOk r P → IfOk r Q
+if_ok (Ok x) f p = f x p
+if_ok (Err e) f p = tt
+
+-- of one that ensures several facts
+pub if_ok_so : {A E B C D : Type 0} {P Q : A → Type 0} (r : Result A E) → (B → C → D → (x : A) → P x → Q x) → OnOk r B → OnOk r C → OnOk r D → IfOk r P → IfOk r Q
+if_ok_so (Ok x) f b c d p = f b c d x p
+if_ok_so (Err e) f b c d p = tt

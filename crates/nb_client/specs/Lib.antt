@@ -1,0 +1,10 @@
+pub mod Asked
+pub mod Snapshots
+pub mod Progressing
+pub mod Soundness
+pub mod Turning
+pub mod Serving
+pub mod Beginnings
+pub mod Concluding
+pub mod Closings
+pub mod Openings

@@ -1,0 +1,107 @@
+-- What holds of a client between two calls, by where its run stands.
+use Rattle.std.specs.Prelude.{◌≡◌, ◌≤◌, ◌*◌, ℕ, Bool, true, false, [], Option, Some, None}
+use Rattle.nb_record.specs.Logged.{Logged}
+use Rattle.nb_runner.specs.declared.world.World.{World}
+use Rattle.nb_runner.specs.declared.query.Query.TheVariants as query
+use Rattle.nb_runner.specs.CommandWords.{FitsFile, FitsOnward}
+use Rattle.nb_runner.specs.Handings.{AreShort, IsAt}
+use Rattle.nb_runner.specs.Intents.{CanAsk}
+use Rattle.nb_runner.specs.World.{IsLinked}
+use Rattle.nb_chains.specs.declared.chain.Chain.{Chain}
+use Rattle.nb_chains.specs.declared.kind.ChainKind.{ChainKind}
+use Rattle.nb_network.specs.Many.{AreSound, HasLeaseOnlyOf, IsNewestBut, Many, WaitsBeside}
+use Rattle.nb_client.specs.Asked.{beside_kind, onward_kind}
+use Rattle.nb_client.specs.Snapshots.{Snapshot, snapshot}
+use Rattle.nb_client.specs.declared.asked.Asked.{Asked}
+use Rattle.nb_client.specs.declared.asked.Asked.TheVariants.{File, Query as Exchange}
+use Rattle.nb_client.specs.declared.pending.Pending.{Pending}
+use Rattle.nb_client.specs.declared.pending.Expected.TheVariants.{Open, Moment}
+use Rattle.nb_client.specs.declared.site.Site.{Site}
+use Rattle.nb_client.specs.declared.stage.Stage.{Stage}
+use Rattle.nb_client.specs.declared.stage.Stage.TheVariants as stage
+
+-- a client that works here, whose run stands so
+abbrev pub snapshot_at : Site → Stage → Snapshot
+snapshot_at c st = snapshot c.used c.world c.opens st
+
+-- the open that a command waits for
+abbrev pub awaited_at : Stage → Option ℕ
+awaited_at stage.Ready = None
+awaited_at (stage.Running s) = None
+awaited_at (stage.Waiting s (Open p)) = Some p.number
+awaited_at (stage.Waiting s (Moment time)) = None
+awaited_at (stage.Reaching s k) = None
+awaited_at (stage.Yielded s) = None
+awaited_at (stage.HandingOff h) = None
+awaited_at (stage.Left cause) = None
+awaited_at stage.HandedOff = None
+awaited_at stage.Stopped = None
+
+-- what is asked for may be
+abbrev pub FitsAsked : Asked → Type 0
+FitsAsked (File w) = FitsFile w.file
+FitsAsked (Exchange q) = CanAsk q
+
+-- an object waits beside the look-up of a server's name, and beside nothing else
+abbrev pub IsBacked : Asked → Option Chain → Type 0
+IsBacked (File w) waits = waits ≡ None
+IsBacked (Exchange query.Lease) waits = waits ≡ None
+IsBacked (Exchange (query.Echo server)) waits = waits ≡ None
+IsBacked (Exchange (query.Address setting name by)) waits = waits ≡ None
+IsBacked (Exchange (query.Host errand name by)) waits = (c : Chain) × (waits ≡ Some c)
+
+-- What waits beside an open waits on, and is the newest but for those of the open that is awaited.
+pub record HasWaiting (kind : ChainKind) (waits : Option Chain) (awaited : Option ℕ) (m : Many) : Type 0 where
+  pub beside : (c : Chain) → waits ≡ Some c → WaitsBeside kind c m
+  pub newest : (c : Chain) → waits ≡ Some c → IsNewestBut awaited c m
+
+-- What a command has asked for fits, and what waits beside its open, where this is awaited still.
+pub record IsPendingWell (p : Pending) (awaited : Option ℕ) (m : Many) : Type 0 where
+  pub fits : FitsAsked p.asked
+  pub backed : IsBacked p.asked p.waits
+  pub waiting : HasWaiting (beside_kind p.asked) p.waits awaited m
+
+-- what holds by where the run stands
+abbrev pub StandsWell : Stage → World → Many → Type 0
+StandsWell stage.Ready w m = (m.list ≡ []) × (w.opens ≡ 0)
+StandsWell (stage.Running s) w m = Unit {0}
+StandsWell (stage.Waiting s (Open p)) w m = IsPendingWell p (Some p.number) m
+StandsWell (stage.Waiting s (Moment time)) w m = Unit {0}
+StandsWell (stage.Reaching s k) w m = FitsOnward k.onward × HasWaiting (onward_kind k.onward) (Some k.waits) None m
+StandsWell (stage.Yielded s) w m = Unit {0}
+StandsWell (stage.HandingOff h) w m = IsAt w.state.images h × (m.list ≡ [])
+StandsWell (stage.Left cause) w m = Unit {0}
+StandsWell stage.HandedOff w m = m.list ≡ []
+StandsWell stage.Stopped w m = m.list ≡ []
+
+-- What holds of a client that has not run out of memory.
+pub record IsSound (used : ℕ) (w : World) (m : Many) (st : Stage) : Type 0 where
+  pub time : w.time ≤ 60000 * used
+  pub opens : AreSound w.w w.opens w.net m
+  pub serials : m.graph.book.made ≤ 3 * w.opens
+  pub leases : HasLeaseOnlyOf (awaited_at st) m
+  pub well : StandsWell st w m
+  pub short : AreShort w.state.images.images
+  pub linked : IsLinked w
+
+-- or it has, and does nothing more
+abbrev pub IsUsable : (lost : Bool) → Snapshot → Type 0
+IsUsable true c = c.stage ≡ stage.Stopped
+IsUsable false c = IsSound c.used c.world c.many c.stage
+
+-- START was used
+abbrev pub IsUnderWay : Stage → Type 0
+IsUnderWay stage.Ready = ⊥
+IsUnderWay (stage.Running s) = Unit {0}
+IsUnderWay (stage.Waiting s e) = Unit {0}
+IsUnderWay (stage.Reaching s k) = Unit {0}
+IsUnderWay (stage.Yielded s) = Unit {0}
+IsUnderWay (stage.HandingOff h) = Unit {0}
+IsUnderWay (stage.Left cause) = Unit {0}
+IsUnderWay stage.HandedOff = Unit {0}
+IsUnderWay stage.Stopped = Unit {0}
+
+-- a log without records, which has not run short
+pub record IsClean (l : Logged) : Type 0 where
+  pub empty : l.bytes ≡ []
+  pub whole : l.is_short ≡ false

@@ -1,0 +1,141 @@
+ghost use Rattle.std.specs.Prelude.{◌≡◌, ◌-◌, ◌<◌, ◌^◌, [], ◌∷◌, IfOk, OnErr};
+ghost use Rattle.nb_defs.specs.Records.{IsIn, In};
+ghost use Rattle.nb_record.specs.Logged.{Logged};
+ghost use Rattle.nb_record.specs.View.{in_of};
+ghost use Rattle.nb_client.specs.Serving.{WaitsOrEnds, IsSoundAfter, WakesBy};
+ghost use Rattle.nb_client.specs.Soundness.{IsSound, snapshot_at};
+ghost use Rattle.nb_client.specs.Turning.{GoesOnBy, IsServed};
+ghost use Rattle.nb_client.specs.declared.pending.Expected.TheVariants as expected;
+ghost use Rattle.nb_client.specs.declared.stage.Stage.TheVariants as stage;
+
+use crate::site::{Site, lent_log};
+use crate::{Expected, KeptPending, Stage};
+use nb_network::HasEnded;
+use nb_record::{InRec, Log, NoMemory};
+use nb_runner::RunningScript;
+use nb_teller::put_result;
+use nb_terms::Plain;
+
+impl Site {
+    /// A record is used while the script's command waits: for the end of an open, or a time.
+    #[inline(always)]
+    pub(crate) fn wait_on(
+        &mut self,
+        script: RunningScript,
+        expected: Expected,
+        entry: &InRec<'_>,
+        log: &mut Log,
+    ) -> Result<Stage, NoMemory>
+        requires valid { IsIn (in_of entry.now) }
+        requires served { IsServed (in_of entry.now) }
+        requires few { self.old.used < 2 ^ 32 - 1 }
+        requires sound { IsSound self.old.used self.old.world self.old.opens (stage.Waiting script expected) }
+        ensures goes { IfOk result (λ st. GoesOnBy (in_of entry.now ∷ []) (snapshot_at self.old (stage.Waiting script expected))
+            (snapshot_at self.new st) log.old log.new) }
+        ensures nothing { OnErr result (log.new ≡ log.old) }
+    {
+        match expected {
+            Expected::Open(pending) => self.wait_for_end(script, pending, entry, log),
+            Expected::Moment(until) => self.sleep_on(script, until, entry, log),
+        }
+    }
+
+    /// A record is used while the script's command waits for the end of an open.
+    #[inline(always)]
+    fn wait_for_end(
+        &mut self,
+        script: RunningScript,
+        pending: KeptPending,
+        entry: &InRec<'_>,
+        log: &mut Log,
+    ) -> Result<Stage, NoMemory>
+        requires valid { IsIn (in_of entry.now) }
+        requires served { IsServed (in_of entry.now) }
+        requires few { self.old.used < 2 ^ 32 - 1 }
+        requires sound { IsSound self.old.used self.old.world self.old.opens (stage.Waiting script (expected.Open pending)) }
+        ensures goes { IfOk result (λ st. GoesOnBy (in_of entry.now ∷ []) (snapshot_at self.old (stage.Waiting script (expected.Open pending)))
+            (snapshot_at self.new st) log.old log.new) }
+        ensures nothing { OnErr result (log.new ≡ log.old) }
+    {
+        let mut out = lent_log(self.alloc, self.gathered.take())?;
+        let awaited = Some(pending.get().number);
+        let ended = self.serve(entry, awaited, &mut out)?;
+        let stage = self.answer(script, pending, ended, &mut out)?;
+        self.put_gathered(out, log)?;
+        Ok(stage)
+    }
+
+    /// The command waits on, or what it waits for has ended.
+    #[inline(always)]
+    fn answer(
+        &mut self,
+        mut script: RunningScript,
+        pending: KeptPending,
+        ended: Option<HasEnded>,
+        out: &mut Log,
+    ) -> Result<Stage, NoMemory>
+        requires { IsSoundAfter ended self.old script pending }
+        ensures { IfOk result (λ st. WaitsOrEnds ended pending script self.old (snapshot_at self.new st) out.old out.new) }
+    {
+        script.begin_step();
+        match ended {
+            None => Ok(Stage::Waiting(script, Expected::Open(pending))),
+            Some(ended) => self.conclude(script, pending.into_inner(), ended, out),
+        }
+    }
+
+    /// A record is used while the script's command waits for a time.
+    #[inline(never)]
+    fn sleep_on(
+        &mut self,
+        script: RunningScript,
+        until: u64,
+        entry: &InRec<'_>,
+        log: &mut Log,
+    ) -> Result<Stage, NoMemory>
+        requires valid { IsIn (in_of entry.now) }
+        requires served { IsServed (in_of entry.now) }
+        requires few { self.old.used < 2 ^ 32 - 1 }
+        requires sound { IsSound self.old.used self.old.world self.old.opens (stage.Waiting script (expected.Moment until)) }
+        ensures goes { IfOk result (λ st. GoesOnBy (in_of entry.now ∷ []) (snapshot_at self.old (stage.Waiting script (expected.Moment until)))
+            (snapshot_at self.new st) log.old log.new) }
+        ensures nothing { OnErr result (log.new ≡ log.old) }
+    {
+        self.serve(entry, None, log)?;
+        Ok(wake(script, until, self.world.time, log))
+    }
+
+    /// A record is used, and the script goes on, which had all the commands of a step.
+    #[inline(never)]
+    pub(crate) fn resume(
+        &mut self,
+        mut script: RunningScript,
+        entry: &InRec<'_>,
+        log: &mut Log,
+    ) -> Result<Stage, NoMemory>
+        requires valid { IsIn (in_of entry.now) }
+        requires served { IsServed (in_of entry.now) }
+        requires few { self.old.used < 2 ^ 32 - 1 }
+        requires sound { IsSound self.old.used self.old.world self.old.opens (stage.Yielded script) }
+        ensures goes { IfOk result (λ st. GoesOnBy (in_of entry.now ∷ []) (snapshot_at self.old (stage.Yielded script))
+            (snapshot_at self.new st) log.old log.new) }
+        ensures nothing { OnErr result (log.new ≡ log.old) }
+    {
+        self.serve(entry, None, log)?;
+        script.begin_step();
+        Ok(Stage::Running(script))
+    }
+}
+
+/// The command waits on, or its time has come.
+fn wake(mut script: RunningScript, until: u64, now: u64, log: &mut Log) -> Stage
+    ensures { WakesBy until now script result log.old log.new }
+{
+    script.begin_step();
+    if now < until {
+        return Stage::Waiting(script, Expected::Moment(until));
+    }
+    put_result(Plain::Ok.cause(), log);
+    script.end_with(Plain::Ok.cause());
+    Stage::Running(script)
+}

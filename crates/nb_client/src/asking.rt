@@ -1,0 +1,169 @@
+ghost use Rattle.std.specs.Prelude.{◌≡◌, ◌<◌, [], ◌∷◌, Ok, Some, IfOk, OnOk, OnErr};
+ghost use Rattle.nb_command.specs.Planning.{planned};
+ghost use Rattle.nb_defs.specs.Records as defs;
+ghost use Rattle.nb_machine.specs.Running.{with_result};
+ghost use Rattle.nb_machine.specs.Effects.{fetch, full_opens, words_effect, words_table, words_up};
+ghost use Rattle.nb_runner.specs.CommandWords.{IsForInquiry};
+ghost use Rattle.nb_runner.specs.NextCommand.{HasCommand, IsReady};
+ghost use Rattle.nb_runner.specs.declared.world.World.{World as TheWorld};
+ghost use Rattle.nb_client.specs.Asked.{onward_kind};
+ghost use Rattle.nb_client.specs.Beginnings.{LetsGo};
+ghost use Rattle.nb_client.specs.Openings.{AsksFor, OpensNext, asked_onward};
+ghost use Rattle.nb_client.specs.Snapshots.{snapshot};
+ghost use Rattle.nb_client.specs.Soundness.{FitsAsked, IsSound, snapshot_at};
+ghost use Rattle.nb_client.specs.Turning.{MovesOn};
+ghost use Rattle.nb_client.specs.declared.stage.Stage.TheVariants as stage;
+
+use crate::site::{Site, lent_log};
+use crate::{Asked, KeptNext, Next, Stage};
+use nb_chains::ChainKind;
+use nb_command::CommandPlan;
+use nb_record::{Log, NoMemory};
+use nb_runner::{Deed, Done, Intent, MAX_OPENS, Onward, Query, RunningScript, full_opens};
+use nb_teller::{lent, put_result};
+use nb_wire::Word;
+
+impl Site {
+    /// Asks for the file of a URI, or for the address of its server's name first.
+    pub(crate) fn ask_for(
+        &mut self,
+        script: RunningScript,
+        words: &[Word],
+        uri: &[u8],
+        boots: bool,
+        log: &mut Log,
+    ) -> Result<Stage, NoMemory>
+        requires sound { IsSound self.old.used self.old.world self.old.opens (stage.Running script) }
+        requires words { HasCommand script self.old.world.state.table words.now }
+        requires value { words_effect self.old.world.opens self.old.world.state.table words.now ≡ fetch self.old.world.opens boots self.old.world.state.table uri.now }
+        requires same { words_table self.old.world.state.table words.now ≡ self.old.world.state.table }
+        requires up { words_up self.old.world.state.up words.now ≡ self.old.world.state.up }
+        ensures moves { IfOk result (λ st. MovesOn (snapshot_at self.old (stage.Running script)) (snapshot_at self.new st) log.old log.new) }
+        ensures nothing { OnErr result (log.new ≡ log.old) }
+    {
+        match self.world.seek(self.alloc, uri, boots)? {
+            Intent::Fetches(wanted) => self.ask(script, words, Asked::File(wanted), log),
+            Intent::Asks(query) => self.ask(script, words, Asked::Query(query), log),
+            Intent::Over(cause) => Ok(self.refuse(script, true, words, cause, log)),
+        }
+    }
+
+    /// Does a command that asks for a lease, an echo or a name's address.
+    pub(crate) fn inquire(
+        &mut self,
+        script: RunningScript,
+        words: &[Word],
+        plan: &CommandPlan,
+        log: &mut Log,
+    ) -> Result<Stage, NoMemory>
+        requires sound { IsSound self.old.used self.old.world self.old.opens (stage.Running script) }
+        requires words { HasCommand script self.old.world.state.table words.now }
+        requires value { planned words.now ≡ Ok plan.now }
+        requires inquiring { IsForInquiry plan.now }
+        ensures moves { IfOk result (λ st. MovesOn (snapshot_at self.old (stage.Running script)) (snapshot_at self.new st) log.old log.new) }
+        ensures nothing { OnErr result (log.new ≡ log.old) }
+    {
+        match self.world.intend(self.alloc, plan)? {
+            Intent::Over(cause) => self.go_by(script, words, &Deed::Ends(Done::with(cause)), log),
+            Intent::Asks(query) => self.ask(script, words, Asked::Query(query), log),
+            Intent::Fetches(_) => unreachable!(),
+        }
+    }
+
+    /// The script's command asks for this, and waits for it.
+    fn ask(
+        &mut self,
+        script: RunningScript,
+        words: &[Word],
+        asked: Asked,
+        log: &mut Log,
+    ) -> Result<Stage, NoMemory>
+        requires sound { IsSound self.old.used self.old.world self.old.opens (stage.Running script) }
+        requires words { IsReady script words.now }
+        requires few { self.old.world.opens < 16384 }
+        requires fits { FitsAsked asked }
+        ensures moves { IfOk result (λ st. (w : TheWorld) → AsksFor w asked script words.now self.old.world
+            → MovesOn (snapshot self.old.used w self.old.opens (stage.Running script)) (snapshot_at self.new st) log.old log.new) }
+        ensures nothing { OnErr result (log.new ≡ log.old) }
+    {
+        let mut out = lent_log(self.alloc, self.gathered.take())?;
+        let stage = self.open(script, Some(words), asked, None, &mut out)?;
+        self.put_gathered(out, log)?;
+        Ok(stage)
+    }
+
+    /// The command's own open begins, whose server was looked up, or no more may be made.
+    pub(crate) fn go_onward(
+        &mut self,
+        script: RunningScript,
+        next: KeptNext,
+        log: &mut Log,
+    ) -> Result<Stage, NoMemory>
+        requires sound { IsSound self.old.used self.old.world self.old.opens (stage.Reaching script next) }
+        ensures moves { IfOk result (λ st. MovesOn (snapshot_at self.old (stage.Reaching script next)) (snapshot_at self.new st) log.old log.new) }
+        ensures nothing { OnErr result (log.new ≡ log.old) }
+    {
+        let mut out = lent_log(self.alloc, self.gathered.take())?;
+        let stage = self.open_next(script, next, &mut out)?;
+        self.put_gathered(out, log)?;
+        Ok(stage)
+    }
+
+    /// The same, put to a log of its own.
+    fn open_next(
+        &mut self,
+        script: RunningScript,
+        next: KeptNext,
+        out: &mut Log,
+    ) -> Result<Stage, NoMemory>
+        requires sound { IsSound self.old.used self.old.world self.old.opens (stage.Reaching script next) }
+        ensures { IfOk result (λ st. OpensNext script next self.old (snapshot_at self.new st) out.old out.new) }
+    {
+        if self.world.opens == MAX_OPENS {
+            return self.open_no_more(script, &next, out);
+        }
+        let Next { onward, waits } = next.into_inner();
+        self.open(script, None, asked_onward(onward), Some(waits), out)
+    }
+
+    /// No more opens may be made: what has waited is let go, and the script goes on.
+    fn open_no_more(
+        &mut self,
+        mut script: RunningScript,
+        next: &KeptNext,
+        out: &mut Log,
+    ) -> Result<Stage, NoMemory>
+        requires sound { IsSound self.old.used self.old.world self.old.opens (stage.Reaching script next.now) }
+        ensures stage { IfOk result (λ st. st ≡ stage.Running (with_result script full_opens)) }
+        ensures used { OnOk result (self.new.used ≡ self.old.used) }
+        ensures world { OnOk result (self.new.world ≡ self.old.world) }
+        ensures lets { OnOk result (LetsGo (onward_kind next.now.onward) (Some next.now.waits) self.old.world.opens self.old self.new
+            (defs.result full_opens ∷ []) out.old out.new) }
+    {
+        let desk = lent(self.alloc, self.desk.take())?;
+        self.let_go(kind_onward(next.onward()), Some(next.waits()), desk, out)?;
+        put_result(full_opens(), out);
+        script.end_with(full_opens());
+        Ok(Stage::Running(script))
+    }
+}
+
+/// What is asked of a server whose address was found.
+fn asked_onward(onward: Onward) -> Asked
+    ensures { result ≡ asked_onward onward }
+{
+    match onward {
+        Onward::File(wanted) => Asked::File(wanted),
+        Onward::Echo(server) => Asked::Query(Query::Echo(server)),
+    }
+}
+
+/// The kind of its open.
+pub(crate) fn kind_onward(onward: &Onward) -> ChainKind
+    ensures { result ≡ onward_kind onward.now }
+{
+    match onward {
+        Onward::File(_) => ChainKind::File,
+        Onward::Echo(_) => ChainKind::Echo,
+    }
+}

@@ -1,0 +1,45 @@
+ghost use Rattle.nb_client.specs.Soundness.{IsUnderWay};
+ghost use Rattle.nb_client.specs.Turning.{IsTurnOf};
+
+use crate::{Expected, KeptNext, Turn};
+use nb_record::Cause;
+use nb_runner::{Handing, RunningScript, Status, status_after};
+
+/// Where a run stands.
+#[derive(Drop)]
+pub enum Stage {
+    /// START wasn't used yet.
+    Ready,
+    /// A script runs.
+    Running(RunningScript),
+    /// The script's last command waits.
+    Waiting(RunningScript, Expected),
+    /// The address of the server was found that the script's last command named, and its own open is next.
+    Reaching(RunningScript, KeptNext),
+    /// 4,096 commands of the script began in this step, and another is to begin.
+    Yielded(RunningScript),
+    /// An image is handed off.
+    HandingOff(Handing),
+    /// The first script was left with this cause.
+    Left(Cause),
+    /// All was handed off.
+    HandedOff,
+    /// The power was switched off.
+    Stopped,
+}
+
+/// How a call ended after which the run stands so.
+pub(crate) fn turn_of(stage: &Stage) -> Turn
+    requires { IsUnderWay stage.now }
+    ensures { IsTurnOf result stage.now }
+{
+    match stage {
+        Stage::Running(_) | Stage::Reaching(..) | Stage::HandingOff(_) => Turn::More,
+        Stage::Waiting(..) => Turn::Waiting,
+        Stage::Yielded(_) => Turn::Yielded,
+        Stage::Left(cause) => Turn::Over(status_after(*cause)),
+        Stage::HandedOff => Turn::Over(Status::HandedOff),
+        Stage::Stopped => Turn::Over(Status::Unfinished),
+        Stage::Ready => unreachable!(),
+    }
+}

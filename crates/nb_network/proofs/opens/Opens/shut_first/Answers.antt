@@ -1,0 +1,40 @@
+use Rattle.std.proofs.Common.{◌≡◌, ◌==◌, ◌∷◌, [], ◌++◌, get_or, ◌∙◌, subst, ap}
+use Rattle.std.specs.List.{AllByRecursion, remove}
+use Rattle.nb_defs.specs.Records.{ended, out_texts}
+use Rattle.nb_machine.specs.Lives.{Live}
+use Rattle.nb_record.specs.Logged.{Puts}
+use Rattle.nb_runner.proofs.Puts.{Puts-append}
+use Rattle.nb_stack.specs.Bound.{without}
+use Rattle.nb_teller.specs.Spelling.{Spelling}
+use Rattle.nb_open.specs.declared.open.Open.{Open}
+use Rattle.nb_open.specs.Ends.{ShutsWith}
+use Rattle.nb_open.specs.Open.{IsOpenOf, LivesSome}
+use Rattle.nb_network.specs.Many.{Many}
+use Rattle.nb_network.specs.Steps.{freed_of}
+use Rattle.nb_network.proofs.opens.Opens.shut_first.Goals as goal
+
+pub returns : goal.returns
+returns c = record {
+  shuts = λ o rest is.
+      let x = c.remove-open.result in
+      let told : Spelling = c.in_ok-desk.desk.told.value in
+      let end = out_texts (ended x.speaker.number c.args.cause.now ∷ []) in
+      let v : c.self.inside.list.items ≡ o ∷ rest = ap (λ (m : Many). m.list) c.self.view_is ∙ is in
+      let same : x ≡ o = c.remove-open.ensures.value ∙ ap (λ os. get_or os 0 x) v in
+      let some : LivesSome c.args.self.now.graph o = (subst (AllByRecursion (LivesSome c.args.self.now.graph)) is c.requires.sound.2.lives).0 in
+      record {
+        now = x.speaker.number == c.args.beside;
+        parts = ap (λ p. p.1) c.parted-with.ensures;
+        told = told;
+        shuts = subst (λ w. ShutsWith c.args.kind o w c.args.cause.now c.args.self.now.graph c.shut_down.new.graph told) (ap (λ p. p.0) c.parted-with.ensures)
+            (subst (λ (m : Many). (l : Live) → IsOpenOf m.graph o l → ShutsWith c.args.kind o c.parted-with.result.0 c.args.cause.now m.graph c.shut_down.new.graph told) c.self.view_is
+            (subst (λ (y : Open). (l : Live) → IsOpenOf c.self.inside.graph y l → ShutsWith c.args.kind y c.parted-with.result.0 c.args.cause.now c.self.inside.graph c.shut_down.new.graph told) same c.in_ok-desk.ensures)
+            some.0 some.1);
+        list = c.remove-open.ensures.items ∙ ap (λ os. remove os 0) v;
+        net_is = subst (λ (y : Open). c.unbind.new.self ≡ freed_of c.args.net.now y) same
+            (c.unbind.ensures ∙ ap (λ p. record c.args.net.now { ports = without p x.speaker.own_port c.args.net.now.ports }) c.number.ensures);
+        puts = subst (λ (y : Open). Puts c.args.gathered.now c.put_over.new.log (told.text ++ out_texts (ended y.speaker.number c.args.cause.now ∷ []))) same
+            (Puts-append told.text end (subst (λ (s : Spelling). Puts c.args.gathered.now c.put_told.new.log s.text) c.deref.ensures c.put_told.ensures.text) c.put_over.ensures);
+        noded = c.has_nodes.ensures;
+      };
+}

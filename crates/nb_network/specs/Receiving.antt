@@ -1,0 +1,54 @@
+-- To which of the opens that live a message goes that a frame brings.
+use Rattle.std.specs.Prelude.{◌≡◌, ◌⊎◌, ℕ, true, false, List, Option, Some}
+use Rattle.std.specs.List.{AllByRecursion}
+use Rattle.nb_wire.specs.declared.address.Ip4.{Ip4}
+use Rattle.nb_ledger.specs.declared.event.Way.TheVariants.{Up}
+use Rattle.nb_opens.specs.declared.alone.Arrival.{Arrival}
+use Rattle.nb_record.specs.Logged.{Logged}
+use Rattle.nb_stack.specs.Client.{Client}
+use Rattle.nb_stack.specs.Takes.{Outcome, handed}
+use Rattle.nb_machine.specs.Lives.{message}
+use Rattle.nb_teller.specs.declared.speaker.Carrier.{Carrier}
+use Rattle.nb_teller.specs.declared.speaker.Carrier.TheVariants.{Udp, Icmp}
+use Rattle.nb_open.specs.declared.ended.Ended.{Ended}
+use Rattle.nb_open.specs.declared.open.Open.{Open}
+use Rattle.nb_open.specs.Exchanges.{SuitsBy}
+use Rattle.nb_network.specs.Many.{Many}
+use Rattle.nb_network.specs.Steps.{ComesAt, StandsAt, counts_by}
+use Rattle.nb_network.specs.declared.over.HasEnded.{HasEnded}
+
+-- from which port a message comes: that of an echo reply is its identifier
+abbrev pub port_by_carrier : Carrier → ℕ → ℕ → ℕ
+port_by_carrier Udp own port = port
+port_by_carrier Icmp own port = own
+
+abbrev pub port_from : Open → ℕ → ℕ
+port_from o port = port_by_carrier o.speaker.carrier o.speaker.own_port port
+
+-- what was handed on is for the open of this place, and comes to it so
+pub record GoesTo (list : List Open) (out : Outcome) (place : ℕ) (a : Arrival) : Type 0 where
+  pub taker : Open
+  pub at : StandsAt list place taker
+  pub dst : Ip4
+  pub proto : ℕ
+  pub port : ℕ
+  pub handed_on : out ≡ handed taker.speaker.number a.source dst proto port a.body.now
+  pub counts : counts_by taker.kind taker.speaker.server a.source port ≡ true
+  pub port_is : a.port ≡ port_from taker port
+
+-- no open has the number that it was handed on to, or one has, for which it doesn't count
+pub record DoesNotCount (list : List Open) (to : ℕ) (source : Ip4) (port : ℕ) : Type 0 where
+  pub taker : Open
+  pub place : ℕ
+  pub at : StandsAt list place taker
+  pub number : taker.speaker.number ≡ to
+  pub counts : counts_by taker.kind taker.speaker.server source port ≡ false
+
+abbrev pub NoneTakes : List Open → Outcome → Type 0
+NoneTakes list out = (to : ℕ) (source dst : Ip4) (proto port : ℕ) (body : List ℕ) → out ≡ handed to source dst proto port body →
+    AllByRecursion (λ o. o.speaker.number ≡ to → ⊥) list ⊎ DoesNotCount list to source port
+
+-- it comes to that open
+abbrev pub ReceivesAt : Many → Client → List Open → Open → List Open → ℕ → Arrival → ℕ → Option ℕ → Option HasEnded → Many → Client → Logged → Logged → Type 0
+ReceivesAt m net before o behind rec a now awaited answer m' net' old new =
+    (ended : Option Ended) × ComesAt (λ l. SuitsBy l.kind l a) (message rec a.port a.body.now now) Up (Some rec) m net before o behind awaited ended answer m' net' old new

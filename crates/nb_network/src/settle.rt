@@ -1,0 +1,131 @@
+ghost use Rattle.std.specs.Prelude.{◌≡◌, ◌<◌, ℕ, List, ◌∷◌, ◌++◌, [], length, option_copied, Some, IfOk, OnErr};
+ghost use Rattle.nb_defs.specs.Records.{out_texts, ended};
+ghost use Rattle.nb_network.specs.Steps.{Settles, StandsAt, answer_for, freed_of, step_records};
+ghost use Rattle.nb_open.specs.declared.open.Open.{Open as TheOpen};
+ghost use Rattle.nb_record.specs.Logged.{Puts};
+
+use crate::{HasEnded, Opens};
+use nb_open::{Ended, Open};
+use nb_record::Log;
+use nb_runner::copy;
+use nb_stack::Stack;
+use nb_teller::{Desk, Spelled, put_over, put_step, put_told};
+use nb_terms::NoMemory;
+use nb_wire::Text;
+use std::alloc::Global;
+
+impl Opens {
+    /// Puts what was told of the open at this place, after the STEP of this record, if it begins one. Where the open has ended,
+    /// its end is put too, it is taken from the list, and its port is freed. Returns what it has found, if it is awaited.
+    #[inline(always)]
+    pub(crate) fn settle(
+        &mut self,
+        alloc: Global,
+        net: &mut Stack,
+        place: usize,
+        begun: Option<u32>,
+        ended: Option<Ended>,
+        awaited: Option<u16>,
+        desk: &Desk,
+        log: &mut Log,
+    ) -> Result<Option<HasEnded>, NoMemory>
+        requires place { place < length self.old.list }
+        ensures graph { self.new.graph ≡ self.old.graph }
+        ensures settles { IfOk result (λ answer. (o : TheOpen) → (at : StandsAt self.old.list place o) → Settles ended at.before o at.behind
+            net.old begun awaited desk.now.told.value self.new.list net.new answer log.old log.new) }
+        ensures nothing { OnErr result (log.new ≡ log.old) }
+        ensures mac { net.new.mac ≡ net.old.mac }
+        ensures address { net.new.address ≡ net.old.address }
+        ensures up { net.new.up ≡ net.old.up }
+    {
+        match ended {
+            Some(ended) => self.end(alloc, net, place, begun, ended, awaited, desk, log),
+            None => {
+                put_begin(begun, log);
+                put_told(&desk.told, log);
+                Ok(None)
+            }
+        }
+    }
+
+    /// The open at this place has ended.
+    #[inline(never)]
+    fn end(
+        &mut self,
+        alloc: Global,
+        net: &mut Stack,
+        place: usize,
+        begun: Option<u32>,
+        ended: Ended,
+        awaited: Option<u16>,
+        desk: &Desk,
+        log: &mut Log,
+    ) -> Result<Option<HasEnded>, NoMemory>
+        requires place { place < length self.old.list }
+        ensures graph { self.new.graph ≡ self.old.graph }
+        ensures settles { IfOk result (λ answer. (o : TheOpen) → (at : StandsAt self.old.list place o) → Settles (Some ended) at.before o
+            at.behind net.old begun awaited desk.now.told.value self.new.list net.new answer log.old log.new) }
+        ensures nothing { OnErr result (log.new ≡ log.old) }
+        ensures mac { net.new.mac ≡ net.old.mac }
+        ensures address { net.new.address ≡ net.old.address }
+        ensures up { net.new.up ≡ net.old.up }
+    {
+        let cause = ended.cause;
+        let open = self.list[place];
+        let answer = found_by(alloc, awaited, &open, ended, &desk.told)?;
+        self.list.remove(place);
+        net.unbind(open.speaker.carrier.number(), open.speaker.own_port);
+        put_begin(begun, log);
+        put_told(&desk.told, log);
+        put_over(open.speaker.number, cause, log);
+        Ok(answer)
+    }
+}
+
+/// Puts that a step begins, if this is its number.
+#[inline(always)]
+fn put_begin(begun: Option<u32>, log: &mut Log)
+    ensures { Puts log.old log.new (out_texts (step_records begun)) }
+{
+    if let Some(rec) = begun {
+        put_step(rec, log);
+    }
+}
+
+/// What an open has found that has ended, where it is awaited.
+fn found_by(
+    alloc: Global,
+    awaited: Option<u16>,
+    open: &Open,
+    ended: Ended,
+    told: &Spelled,
+) -> Result<Option<HasEnded>, NoMemory>
+    ensures { IfOk result (λ answer. answer ≡ answer_for awaited open.now.speaker.number ended told.now) }
+{
+    let number = open.speaker.number;
+    match awaited {
+        Some(k) if number == k => {
+            let Ended { cause, body } = ended;
+            let bytes = copied(alloc, told.bytes())?;
+            let address = told.address();
+            Ok(Some(HasEnded {
+                number,
+                cause,
+                body,
+                bytes,
+                address,
+            }))
+        }
+        _ => Ok(None),
+    }
+}
+
+/// A copy of these bytes, if there are any.
+fn copied(alloc: Global, bytes: Option<&Text>) -> Result<Option<Text>, NoMemory>
+    ensures { IfOk result (λ copy. copy ≡ option_copied bytes.entry) }
+{
+    match bytes {
+        Some(text) => Ok(Some(copy(alloc, text.as_slice())?)),
+        None => Ok(None),
+    }
+}

@@ -1,0 +1,151 @@
+-- The user asks, of objects of which nothing was asked: what the call says of the open, by its kind.
+use Rattle.std.proofs.Common.{◌≡◌, ℕ, true, false, List, [], ◌∷◌, Some, None, refl, sym, ◌∙◌, ap, subst}
+use Rattle.nb_terms.specs.declared.acts.SendTo.{SendTo}
+use Rattle.nb_ledger.specs.Flat.{Heard, Notice}
+use Rattle.nb_graph.specs.Deeds.{no_memory}
+use Rattle.nb_graph.specs.Whole.{Objects}
+use Rattle.nb_nodes.specs.declared.obj.Obj.{Obj}
+use Rattle.nb_nodes.specs.Asking.{ask_value, begun_with}
+use Rattle.nb_nodes.proofs.AskLemmas.{path_short}
+use Rattle.nb_nodes.specs.EchoExchanges.{ping_service, pinged_by}
+use Rattle.nb_nodes.specs.LeaseExchanges.{asker_of, lease_service}
+use Rattle.nb_nodes.specs.LookupExchanges.{lookup_ask_value, lookup_for, lookup_service}
+use Rattle.nb_opens.specs.declared.alone.AloneKind.TheVariants as alone
+use Rattle.nb_opens.specs.Alones.{Begins, alone_number, starts, fails_at_once as fails_alone}
+use Rattle.nb_opens.specs.Notices.{first_close}
+use Rattle.nb_opens.specs.Pairs.{BeginDoes, begins, fails_at_once}
+use Rattle.nb_stack.specs.Client.{Client}
+use Rattle.nb_dns.specs.Lookups.{query_to}
+use Rattle.nb_dhcp.specs.Acting.{to_servers}
+use Rattle.nb_dhcp.specs.Messages.{message_text}
+use Rattle.nb_ping.specs.Pings.{echo_request}
+use Rattle.nb_tftp.proofs.PlainLaws.{request_fits}
+use Rattle.nb_command.specs.SettingAddresses.{host}
+use Rattle.nb_machine.specs.Cores.{at_first as core_at_first, look_up_of, ping_of}
+use Rattle.nb_machine.specs.Kinds.{first_records}
+use Rattle.nb_machine.specs.Sendings.{request_of}
+use Rattle.nb_machine.specs.Transfers.{at_first as transfer_at_first, transfer_of}
+use Rattle.nb_chains.specs.Calls.{BeginsChain, IsAsk}
+use Rattle.nb_chains.specs.Chains.{AreChained, IsReadyChain, chain_ids, own_graph}
+use Rattle.nb_teller.specs.Tellings.{any_lacks_route}
+use Rattle.nb_teller.proofs.TellingLemmas.{SpeaksFor, one as one_send}
+use Rattle.nb_open.specs.declared.open.Open.{Open}
+use Rattle.nb_open.specs.declared.opening.Opening.{Opening}
+use Rattle.nb_open.specs.declared.opening.Opening.TheVariants.{File, Name, Lease, Echo}
+use Rattle.nb_open.specs.Making.{IsAskOf}
+use Rattle.nb_open.specs.Open.{AsksRight, IsCalled, IsOpenOf, carrier_for, kind_for}
+use Rattle.nb_open.specs.Opening.{CanOpen, carrier_by, chain_kind, kind_by, live_by, own_by, server_by, speaker_for}
+use Rattle.nb_open.proofs.CoreKinds.{echo_speaks, lease_speaks, name_speaks}
+use Rattle.nb_open.proofs.Doings.{put_by}
+use Rattle.nb_open.proofs.Downs.{AreSendsBy, one, sends_by}
+use Rattle.nb_open.proofs.FirstMessages.{AsksAtFirst, alone_first, first_of, two_first}
+
+-- the bytes ask for an open of its kind
+pub asks_kind : (a : Opening) (bytes : List ℕ) → IsAskOf a bytes → IsAsk (chain_kind a) bytes
+asks_kind (File a) bytes h = (ask_value a, h)
+asks_kind (Name a) bytes h = (lookup_for (lookup_ask_value a), h)
+asks_kind (Lease a) bytes h = (asker_of a, h)
+asks_kind (Echo a) bytes h = (pinged_by a, h)
+
+same_kind : (a : Opening) → chain_kind a ≡ kind_for (kind_by a)
+same_kind (File a) = refl
+same_kind (Name a) = refl
+same_kind (Lease a) = refl
+same_kind (Echo a) = refl
+
+same_carrier : (a : Opening) → carrier_by a ≡ carrier_for (kind_by a)
+same_carrier (File a) = refl
+same_carrier (Name a) = refl
+same_carrier (Lease a) = refl
+same_carrier (Echo a) = refl
+
+asks_right : (a : Opening) → AsksRight (kind_by a) (server_by a) (own_by a)
+asks_right (File a) = tt
+asks_right (Name a) = tt
+asks_right (Lease a) = (refl, refl)
+asks_right (Echo a) = tt
+
+-- the open has the machine's number, server, port and kind
+pub called_by : (a : Opening) (number now : ℕ) (o : Open) → o.speaker ≡ speaker_for a number → o.kind ≡ chain_kind a → IsCalled o (live_by a number now)
+called_by a number now o speaker kind = record {
+  number = sym (ap (λ z. z.number) speaker);
+  server = sym (ap (λ z. z.server.0) speaker);
+  own = sym (ap (λ z. z.own_port) speaker);
+  device = refl;
+  kind = kind ∙ same_kind a;
+  carrier = ap (λ z. z.carrier) speaker ∙ same_carrier a;
+  asks = asks_right a;
+}
+
+-- what the call says of an open that sets out, or is turned back
+pub record Sets (a : Opening) (number now : ℕ) (link : Client) (o : Open) (new : Objects Obj) (ns : List Notice) : Type 0 where
+  pub none : first_close ns ≡ None
+  pub lives : AreChained new (chain_ids o.chain) → IsOpenOf new o (live_by a number now)
+  pub found : any_lacks_route link o.speaker ns ≡ false → first_records (kind_by a) (live_by a number now) link ≡ Some (put_by o link ns)
+  pub lost : any_lacks_route link o.speaker ns ≡ true → (first_records (kind_by a) (live_by a number now) link ≡ None) × (put_by o link ns ≡ [])
+
+sets_by : (a : Opening) (number now : ℕ) (link : Client) (o : Open) (new : Objects Obj) (ns : List Notice) (m : SendTo) → number ≡ o.speaker.number → first_records (kind_by a) (live_by a number now) link ≡ first_of link number m →
+    (AreChained new (chain_ids o.chain) → IsOpenOf new o (live_by a number now)) → AsksAtFirst o link m ns → Sets a number now link o new ns
+sets_by a number now link o new ns m same first lives h = record {
+  none = h.none;
+  lives = lives;
+  found = λ no. first ∙ (ap (λ k. first_of link k m) same ∙ h.found no);
+  lost = λ yes. (first ∙ (ap (λ k. first_of link k m) same ∙ (h.lost yes).0), (h.lost yes).1);
+}
+
+pub data SetsOrFails (a : Opening) (number now : ℕ) (link : Client) (o : Open) (new : Objects Obj) (ns : List Notice) : Type 0 where
+  sets : Sets a number now link o new ns → SetsOrFails a number now link o new ns
+  runs_short : first_close ns ≡ Some no_memory → SetsOrFails a number now link o new ns
+
+module _ (number now : ℕ) (link : Client) (o : Open) (old new : Objects Obj) (bytes : List ℕ) (rec : ℕ) (m n : Heard) (k : BeginsChain o.chain old new bytes now rec m n) where
+  pub begins_by : (a : Opening) → CanOpen a → IsAskOf a bytes → IsReadyChain (chain_kind a) o.chain old → (called : IsCalled o (live_by a number now)) → SetsOrFails a number now link o new k.ns
+  begins_by (File a) can asks ready called = by (k.file ready.0 (ask_value a) ready.1 ready.2 asks)
+    where
+      by : BeginDoes (own_graph o.chain new) o.chain.top.0 ready.0.0 (begun_with (ask_value a)) now rec k.ns → SetsOrFails (File a) number now link o new k.ns
+      by (begins same downloads) =
+          let l = live_by (File a) number now in
+          let speaks : SpeaksFor o.speaker (transfer_of l) = record { carrier = called.carrier; server = ap host (sym called.server); own_port = sym called.own } in
+          sets (sets_by (File a) number now link o new k.ns (request_of (transfer_of l)) called.number refl
+          (λ chained. record {
+            chained = chained;
+            called = called;
+            under_way = record {
+              tftp = ready.0;
+              below = ready.1;
+              entries = [];
+              downloads = downloads;
+              exchanged = transfer_at_first;
+              short = request_fits true (host a.server.0) a.port a.own_port a.path.now (path_short a.path.now can);
+            };
+          })
+          (two_first o link (request_of (transfer_of l)) ready.0.0 rec k.ns (sends_by o.speaker (transfer_of l) (request_of (transfer_of l) ∷ []) speaks (one_send a.port (transfer_of l).request)) same))
+      by (fails_at_once memory) = runs_short memory
+  begins_by (Name a) can asks ready called = by (k.lookup (lookup_for (lookup_ask_value a)) asks ready.1)
+    where
+      by : Begins lookup_service (alone_number alone.Resolver) (own_graph o.chain new) o.chain.top.0 (lookup_for (lookup_ask_value a)) now rec k.ns → SetsOrFails (Name a) number now link o new k.ns
+      by (starts same talks) =
+          let l = live_by (Name a) number now in
+          let first = query_to (look_up_of a.id l) in
+          sets (sets_by (Name a) number now link o new k.ns first called.number refl
+          (λ chained. record { chained = chained; called = called; under_way = record { below = ready.0; calls = []; talks = talks; exchanged = core_at_first } })
+          (alone_first o link first rec k.ns (subst (λ z. AreSendsBy o.speaker (z ∷ [])) (name_speaks o l a.id called refl) (one 53 first.body.items)) same))
+      by (fails_alone memory) = runs_short memory
+  begins_by (Lease a) can asks ready called = by (k.lease (asker_of a) asks ready.1)
+    where
+      by : Begins lease_service (alone_number alone.Dhcp) (own_graph o.chain new) o.chain.top.0 (asker_of a) now rec k.ns → SetsOrFails (Lease a) number now link o new k.ns
+      by (starts same talks) =
+          let l = live_by (Lease a) number now in
+          let body = message_text (asker_of a) None in
+          sets (sets_by (Lease a) number now link o new k.ns (to_servers body) called.number refl
+          (λ chained. record { chained = chained; called = called; under_way = record { below = ready.0; calls = []; talks = talks; exchanged = core_at_first } })
+          (alone_first o link (to_servers body) rec k.ns (subst (λ z. AreSendsBy o.speaker (z ∷ [])) (lease_speaks o l (asker_of a) body called refl) (one 67 body)) same))
+      by (fails_alone memory) = runs_short memory
+  begins_by (Echo a) can asks ready called = by (k.echo (pinged_by a) asks ready.1)
+    where
+      by : Begins ping_service (alone_number alone.Ping) (own_graph o.chain new) o.chain.top.0 (pinged_by a) now rec k.ns → SetsOrFails (Echo a) number now link o new k.ns
+      by (starts same talks) =
+          let l = live_by (Echo a) number now in
+          sets (sets_by (Echo a) number now link o new k.ns (echo_request (ping_of l)) called.number refl
+          (λ chained. record { chained = chained; called = called; under_way = record { below = ready.0; calls = []; talks = talks; exchanged = core_at_first } })
+          (alone_first o link (echo_request (ping_of l)) rec k.ns (subst (λ z. AreSendsBy o.speaker (z ∷ [])) (echo_speaks o l called refl) (one 0 [])) same))
+      by (fails_alone memory) = runs_short memory

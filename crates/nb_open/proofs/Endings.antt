@@ -1,0 +1,179 @@
+-- What an open's call and its end say together, for an open of any kind.
+use Rattle.std.proofs.Common.{◌≡◌, ℕ, ◌==◌, true, cond, List, [], ◌∷◌, ◌++◌, map, Option, Some, None, refl, sym, ◌∙◌, ap, subst, append_assoc, append-nil, arith}
+use Rattle.std.proofs.lemmas.Bool.Decides.{nat_tests}
+use Rattle.std.specs.List.{AllByRecursion}
+use Rattle.nb_terms.specs.declared.cause.Cause.{Cause}
+use Rattle.nb_defs.specs.Records.{Out, ended, sent, tried, advanced, graph, opened, step, text, command, result, script, part, done}
+use Rattle.nb_ledger.specs.declared.event.GraphEvent.{GraphEvent}
+use Rattle.nb_ledger.specs.declared.event.Way.{Way}
+use Rattle.nb_ledger.specs.declared.port.ObjId.{ObjId}
+use Rattle.nb_ledger.specs.Flat.{Heard, Notice, event, message}
+use Rattle.nb_ledger.specs.GraphRun.{GraphState}
+use Rattle.nb_ledger.specs.Ledger.{run_state}
+use Rattle.nb_graph.specs.Whole.{Objects}
+use Rattle.nb_frames.specs.Frames.{is_one_of}
+use Rattle.nb_nodes.specs.declared.obj.Obj.{Obj}
+use Rattle.nb_opens.specs.Graphs.{without_graph}
+use Rattle.nb_opens.specs.Notices.{first_close, tells}
+use Rattle.nb_stack.specs.Client.{Client}
+use Rattle.nb_machine.specs.Takings.{end_among, end_told}
+use Rattle.nb_traced.specs.Holdings.{lowest_of, serials}
+use Rattle.nb_traced.specs.Outputs.{CallsOpen, own_serials}
+use Rattle.nb_traced.specs.Pieces.{IsCallOn, IsOfOpen, first_close_of}
+use Rattle.nb_chains.specs.declared.chain.Chain.{Chain}
+use Rattle.nb_chains.specs.Calls.{closing_notices}
+use Rattle.nb_chains.specs.Chains.{GoesOn, IsReleased, below_ids, chain_ids, last_below, last_serial, released_by}
+use Rattle.nb_chains.specs.Giving.{ChainGives}
+use Rattle.nb_chains.specs.Shapes.{HasShape, SendsNone, StaysAbove}
+use Rattle.nb_chains.proofs.GoingOn.{others_both}
+use Rattle.nb_teller.specs.declared.speaker.Speaker.{Speaker}
+use Rattle.nb_teller.specs.Tellings.{message_records, told_records}
+use Rattle.nb_teller.proofs.TellingLemmas.{without-append}
+use Rattle.nb_open.specs.declared.open.Open.{Open}
+use Rattle.nb_open.specs.Open.{kin_of, pieces_below}
+use Rattle.nb_open.proofs.Callings.{GoesBy, IsEntryBy, call_on, each_append, of_message}
+use Rattle.nb_open.proofs.FirstCloses.{closes_are}
+use Rattle.nb_open.proofs.Delivering.{AreEvents, IsEvent}
+
+-- ITS OBJECTS
+
+pub serials_below : (below : Option ObjId) → serials (pieces_below below) ≡ below_ids below
+serials_below None = refl
+serials_below (Some x) = refl
+
+-- the serials of an open are those of its chain
+pub serials_are : (o : Open) → own_serials (kin_of o) ≡ chain_ids o.chain
+serials_are o = ap (λ z. o.chain.top.0 ∷ z) (serials_below o.chain.below)
+
+pub lowest_below : (x : ℕ) (below : Option ObjId) → lowest_of (x ∷ below_ids below) ≡ last_below x below
+lowest_below x None = refl
+lowest_below x (Some y) = refl
+
+-- and the lowest is the last
+pub lowest_is : (o : Open) → lowest_of (own_serials (kin_of o)) ≡ last_serial o.chain
+lowest_is o = ap lowest_of (serials_are o) ∙ lowest_below o.chain.top.0 o.chain.below
+
+-- what a call on the chain says of the open
+pub of_chain : (o : Open) (way : Option Way) (records : List Out) (s t : GraphState) → IsCallOn o.speaker.number (chain_ids o.chain) (last_serial o.chain) way records s t → CallsOpen (kin_of o) way records s t
+of_chain o way records s t h =
+    subst (λ z. IsCallOn o.speaker.number (own_serials (kin_of o)) z way records s t) (sym (lowest_is o)) (subst (λ z. IsCallOn o.speaker.number z (last_serial o.chain) way records s t) (sym (serials_are o)) h)
+
+pub close_of_chain : (o : Open) (records : List Out) (c : Option Cause) → first_close_of (chain_ids o.chain) records ≡ c → first_close_of (own_serials (kin_of o)) records ≡ c
+close_of_chain o records c h = subst (λ z. first_close_of z records ≡ c) (sym (serials_are o)) h
+
+-- A CALL
+
+pub goes_by : (c : Chain) (old new : Objects Obj) (m n : Heard) (ns : List Notice) → ChainGives c old new m n ns → GoesBy (chain_ids c) (run_state old.book []) (run_state new.book []) ns
+goes_by c old new m n ns g = record { events = g.events; are = g.are; run = g.run; within = g.within }
+
+-- a shape, with more after it that stays above
+pub shape_more : (x : ℕ) (entry : Option GraphEvent) (ns more : List Notice) → HasShape x entry ns → SendsNone x more → HasShape x entry (ns ++ more)
+shape_more x entry ns more h stays = record {
+  first = h.first;
+  downs = h.downs;
+  back = h.back ++ more;
+  all = ap (λ z. z ++ more) h.all ∙ (append_assoc (map tells h.first) (h.downs ++ h.back) more ∙ ap (λ z. map tells h.first ++ z) (append_assoc h.downs h.back more));
+  begins = h.begins;
+  go_down = h.go_down;
+  stay = each_append (StaysAbove x) h.back more h.stay stays;
+}
+
+module _ (o : Open) (link : Client) (way : Option Way) (entry : Option GraphEvent) (old new : Objects Obj) (m n : Heard) (ns : List Notice) (is : IsEntryBy (last_serial o.chain) way entry) where
+  -- a call on the open's objects, as records
+  pub calls_open : HasShape (last_serial o.chain) entry ns → ChainGives o.chain old new m n ns → CallsOpen (kin_of o) way (told_records link o.speaker ns) (run_state old.book []) (run_state new.book [])
+  calls_open h g =
+      of_chain o way (told_records link o.speaker ns) (run_state old.book []) (run_state new.book [])
+      (call_on link o.speaker (chain_ids o.chain) (last_serial o.chain) way entry (run_state old.book []) (run_state new.book []) ns is h (goes_by o.chain old new m n ns g) refl)
+
+  -- and its first close
+  pub closes_open : (c : Option Cause) → ChainGives o.chain old new m n ns → first_close ns ≡ c → first_close_of (own_serials (kin_of o)) (told_records link o.speaker ns) ≡ c
+  closes_open c g e = close_of_chain o (told_records link o.speaker ns) c (closes_are link o.speaker (chain_ids o.chain) ns g.events g.are g.within ∙ e)
+
+-- THE END AMONG ITS RECORDS
+
+no_end_in : (k j : ℕ) (o : Out) (later : Option Cause) → IsOfOpen j o → end_told k o later ≡ later
+no_end_in k j (sent bytes) later h = refl
+no_end_in k j (tried number count) later h = refl
+no_end_in k j (advanced number place) later h = refl
+no_end_in k j (graph happens) later h = absurd h
+no_end_in k j (opened number kind server port own target) later h = absurd h
+no_end_in k j (ended number cause) later h = absurd h
+no_end_in k j (step number) later h = absurd h
+no_end_in k j (text bytes) later h = absurd h
+no_end_in k j (command depth line place expanded words) later h = absurd h
+no_end_in k j (result cause) later h = absurd h
+no_end_in k j (script what depth cause) later h = absurd h
+no_end_in k j (part kind index offset bytes) later h = absurd h
+no_end_in k j (done status) later h = absurd h
+
+no_end : (k j : ℕ) (outs more : List Out) → AllByRecursion (IsOfOpen j) outs → end_among k (outs ++ more) ≡ end_among k more
+no_end k j [] more h = refl
+no_end k j (o ∷ outs) more h = no_end_in k j o (end_among k (outs ++ more)) h.0 ∙ no_end k j outs more h.1
+
+stays_in : (j : ℕ) (o : Out) (outs : List Out) → IsOfOpen j o → without_graph (o ∷ outs) ≡ o ∷ without_graph outs
+stays_in j (sent bytes) outs h = refl
+stays_in j (tried number count) outs h = refl
+stays_in j (advanced number place) outs h = refl
+stays_in j (graph happens) outs h = absurd h
+stays_in j (opened number kind server port own target) outs h = absurd h
+stays_in j (ended number cause) outs h = absurd h
+stays_in j (step number) outs h = absurd h
+stays_in j (text bytes) outs h = absurd h
+stays_in j (command depth line place expanded words) outs h = absurd h
+stays_in j (result cause) outs h = absurd h
+stays_in j (script what depth cause) outs h = absurd h
+stays_in j (part kind index offset bytes) outs h = absurd h
+stays_in j (done status) outs h = absurd h
+
+stays_so : (j : ℕ) (outs : List Out) → AllByRecursion (IsOfOpen j) outs → without_graph outs ≡ outs
+stays_so j [] h = refl
+stays_so j (o ∷ outs) h = stays_in j o outs h.0 ∙ ap (λ z. o ∷ z) (stays_so j outs h.1)
+
+-- all that an open puts but the graph's records is its own
+pub put_of_open : (link : Client) (who : Speaker) (ns : List Notice) → AllByRecursion (IsOfOpen who.number) (without_graph (told_records link who ns))
+put_of_open link who [] = tt
+put_of_open link who (event e ∷ ns) = put_of_open link who ns
+put_of_open link who (message from tag rec a b bytes ∷ ns) =
+    let ms = message_records link who tag a b bytes in
+    let own = of_message link who tag a b bytes in
+    subst (AllByRecursion (IsOfOpen who.number)) (sym (without-append ms (told_records link who ns) ∙ ap (λ z. z ++ without_graph (told_records link who ns)) (stays_so who.number ms own)))
+    (each_append (IsOfOpen who.number) ms (without_graph (told_records link who ns)) own (put_of_open link who ns))
+
+-- no end is among them, and with ENDED that is
+pub none_among : (k : ℕ) (link : Client) (who : Speaker) (ns : List Notice) → end_among k (without_graph (told_records link who ns)) ≡ None
+none_among k link who ns =
+    let outs = without_graph (told_records link who ns) in
+    ap (end_among k) (sym (append-nil outs)) ∙ no_end k who.number outs [] (put_of_open link who ns)
+
+pub end_among_last : (k : ℕ) (link : Client) (who : Speaker) (ns : List Notice) (cause : Cause) → end_among k (without_graph (told_records link who ns) ++ (ended k cause ∷ [])) ≡ Some cause
+end_among_last k link who ns cause =
+    no_end k who.number (without_graph (told_records link who ns)) (ended k cause ∷ []) (put_of_open link who ns) ∙ ap (λ b. cond b (Some cause) None) (same_number k)
+  where
+    same_number : (k : ℕ) → (k == k) ≡ true
+    same_number k = grind (arith, nat_tests)
+
+-- WHAT IS LET GO
+
+pub closed_events : (x : ℕ) (below : Option ObjId) (cause : Cause) → AreEvents (closing_notices x below cause)
+closed_events x None cause = (tt, (tt, tt))
+closed_events x (Some t) cause = (tt, (tt, (tt, (tt, (tt, (tt, (tt, tt)))))))
+
+pub released_events : (x : ℕ) (below : Option ObjId) → AreEvents (released_by x below)
+released_events x None = (tt, (tt, tt))
+released_events x (Some t) = (tt, (tt, (tt, (tt, tt))))
+
+pub events_both : (xs ys : List Notice) → AreEvents xs → AreEvents ys → AreEvents (xs ++ ys)
+events_both xs ys p q = each_append IsEvent xs ys p q
+
+pub closed_first : (x : ℕ) (below : Option ObjId) (cause : Cause) → first_close (closing_notices x below cause) ≡ Some cause
+closed_first x None cause = refl
+closed_first x (Some t) cause = refl
+
+-- released after it went on
+pub released_after : (c : Chain) (g a h : Objects Obj) → GoesOn (chain_ids c) g a → IsReleased c a h → IsReleased c g h
+released_after c g a h on r = record {
+  gone = r.gone;
+  others = others_both (is_one_of (chain_ids c)) g a h on.others r.others;
+  number = r.number ∙ on.same_number;
+  same_room = r.same_room ∙ on.same_room;
+}

@@ -1,0 +1,156 @@
+-- What a message or a time does to an open, by its kind.
+use Rattle.std.proofs.Common.{◌≡◌, ℕ, ◌<◌, ◌≤◌, true, false, List, [], ◌∷◌, ◌++◌, length, refl, sym, ◌∙◌, subst, nat_le, nat_lt, arith}
+use Rattle.std.proofs.lemmas.Bool.Decides.{nat_tests}
+use Rattle.nb_terms.specs.declared.acts.Acts.{Acts}
+use Rattle.nb_defs.specs.Records.{Out}
+use Rattle.nb_ledger.specs.declared.event.Way.{Way}
+use Rattle.nb_ledger.specs.declared.event.Way.TheVariants as way
+use Rattle.nb_ledger.specs.declared.port.Port.{Port}
+use Rattle.nb_ledger.specs.Flat.{Notice}
+use Rattle.nb_graph.specs.Trace.{Said}
+use Rattle.nb_graph.specs.Whole.{Objects, port_at}
+use Rattle.nb_dns.specs.LookupCalls.{LookupCall, arrived, clocked, lookup_entry}
+use Rattle.nb_dhcp.specs.declared.asker.Asker.{Asker}
+use Rattle.nb_dhcp.specs.History.{LeaseCall, elapsed, lease_entry, replied}
+use Rattle.nb_ping.specs.PingCalls.{PingCall, echoed, ping_entry, waited}
+use Rattle.nb_nodes.specs.declared.obj.Obj.{Obj}
+use Rattle.nb_nodes.specs.declared.tag.Tag.TheVariants.{Datagram}
+use Rattle.nb_nodes.specs.Tags.{tag_number}
+use Rattle.nb_nodes.specs.Exchanges.{Service}
+use Rattle.nb_nodes.specs.LookupExchanges.{dns_datagram_in, lookup_service}
+use Rattle.nb_nodes.specs.LeaseExchanges.{handed_in, lease_service}
+use Rattle.nb_nodes.specs.EchoExchanges.{ping_service, reply_in}
+use Rattle.nb_opens.specs.declared.alone.AloneKind.TheVariants as alone
+use Rattle.nb_opens.specs.declared.alone.Arrival.{Arrival}
+use Rattle.nb_opens.specs.Alones.{Receives, alone_number, arrival_said, fails_before, is_ignored, is_taken}
+use Rattle.nb_stack.specs.Client.{Client}
+use Rattle.nb_tftp.specs.Blocks.{file}
+use Rattle.nb_tftp.specs.History.{came as comes, got, ticked}
+use Rattle.nb_tftp.specs.Received.{received as datagram_received}
+use Rattle.nb_machine.specs.Cores.{CoreExchanged, core_records, look_up_of, ping_of, takes_message, takes_time}
+use Rattle.nb_machine.specs.Kinds.{KeepsBy}
+use Rattle.nb_machine.specs.Lives.{OpenInput, OpenKind, tftp, dns, dhcp, ping, Live, exchange, message, time}
+use Rattle.nb_machine.specs.Transfers.{transfer_of}
+use Rattle.nb_chains.specs.Calls.{CallsTwo, ReceivesOne, TicksOne}
+use Rattle.nb_chains.specs.Chains.{own_graph}
+use Rattle.nb_chains.proofs.ShapesDone.{lease_gives, lookup_gives, ping_gives}
+use Rattle.nb_open.specs.declared.open.Open.{Open}
+use Rattle.nb_open.specs.Exchanges.{SuitsBy, with_exchange}
+use Rattle.nb_open.specs.Open.{IsAsking, IsOpenOf, IsUnderWay}
+use Rattle.nb_open.proofs.CoreCalls.{CoreCall, core_did}
+use Rattle.nb_open.proofs.CoreKinds.{echo_finds, echo_sends, lease_finds, lease_sends, name_finds, name_sends}
+use Rattle.nb_open.proofs.Doings.{Did, fails}
+use Rattle.nb_open.proofs.FileCalls.{file_did}
+
+module _ (o : Open) (l : Live) (old new : Objects Obj) (link : Client) (ns : List Notice) (is : IsOpenOf old o l) where
+  -- an exchange more of a core
+  abbrev More : {S B C : Type 0} → Service S B C → List C → (Acts → C) → OpenInput → Type 0
+  More {S} {B} {C} s calls call came =
+      (put : List Out) (acts : Acts) → put ≡ core_records l.number l.server link acts → CoreExchanged s l.number l.server (calls ++ call acts ∷ []) (l.exchanges ++ exchange came link put ∷ [])
+
+  said_by : ℕ → ℕ → List ℕ → ℕ → Said
+  said_by rec port body b = record { tag = tag_number Datagram; rec = rec; a = port; b = b; bytes = body }
+
+  module _ {S B C : Type 0} (s : Service S B C) (calls : List C) (h : CoreExchanged s l.number l.server calls l.exchanges) where
+    by_message : (rec port : ℕ) (body : List ℕ) (now source : ℕ) → source ≡ l.server → More s calls (s.received (record { tag = tag_number Datagram; rec = rec; a = port; b = source; bytes = body }) now) (message rec port body now)
+    by_message rec port body now source from put acts e =
+        subst (λ b. CoreExchanged s l.number l.server (calls ++ s.received (record { tag = tag_number Datagram; rec = rec; a = port; b = b; bytes = body }) now acts ∷ []) (l.exchanges ++ exchange (message rec port body now) link put ∷ [])) (sym from)
+        (subst (λ z. CoreExchanged s l.number l.server (calls ++ s.received (record { tag = tag_number Datagram; rec = rec; a = port; b = l.server; bytes = body }) now acts ∷ []) (l.exchanges ++ exchange (message rec port body now) link z ∷ [])) (sym e)
+        (takes_message calls l.exchanges link rec port body now acts h))
+
+    by_time : (now : ℕ) → More s calls (s.timed now) (time now)
+    by_time now put acts e =
+        subst (λ z. CoreExchanged s l.number l.server (calls ++ s.timed now acts ∷ []) (l.exchanges ++ exchange (time now) link z ∷ [])) (sym e) (takes_time calls l.exchanges link now acts h)
+
+  name_core : (id : ℕ) (e : l.kind ≡ dns id) (k : IsAsking lookup_service (alone_number alone.Resolver) (look_up_of id l) o.chain old l) (came : OpenInput) (call : LookupCall) (p : Port) (by : Way) (rec : ℕ) →
+      More lookup_service k.calls (λ acts. lookup_entry call acts) came → CoreCall lookup_service (alone_number alone.Resolver) (look_up_of id l) o l came link new k.calls (λ acts. lookup_entry call acts) p by rec
+  name_core id e k came call p by rec more = record {
+    alone = k.below;
+    called = is.called;
+    more = more;
+    sends = λ acts meets. name_sends o l id l.since k.calls call acts is.called e meets;
+    gives = lookup_gives;
+    under_way = λ put h. subst (λ z. IsUnderWay z o.chain new (with_exchange l came link put)) (sym e) h;
+    keeps = λ put h. subst (λ z. KeepsBy z (with_exchange l came link put)) (sym e) h;
+    finds = λ put acts given exchanged gives. name_finds (with_exchange l came link put) o.chain.top.0 p by rec acts given id (k.calls ++ lookup_entry call acts ∷ []) e exchanged gives;
+  }
+
+  lease_core : (a : Asker) (e : l.kind ≡ dhcp a) (k : IsAsking lease_service (alone_number alone.Dhcp) a o.chain old l) (came : OpenInput) (call : LeaseCall) (p : Port) (by : Way) (rec : ℕ) →
+      More lease_service k.calls (λ acts. lease_entry call acts) came → CoreCall lease_service (alone_number alone.Dhcp) a o l came link new k.calls (λ acts. lease_entry call acts) p by rec
+  lease_core a e k came call p by rec more = record {
+    alone = k.below;
+    called = is.called;
+    more = more;
+    sends = λ acts meets. lease_sends o l a l.since k.calls call acts is.called e meets;
+    gives = lease_gives;
+    under_way = λ put h. subst (λ z. IsUnderWay z o.chain new (with_exchange l came link put)) (sym e) h;
+    keeps = λ put h. subst (λ z. KeepsBy z (with_exchange l came link put)) (sym e) h;
+    finds = λ put acts given exchanged gives. lease_finds (with_exchange l came link put) o.chain.top.0 p by rec acts given a (k.calls ++ lease_entry call acts ∷ []) e exchanged gives;
+  }
+
+  echo_core : (e : l.kind ≡ ping) (k : IsAsking ping_service (alone_number alone.Ping) (ping_of l) o.chain old l) (came : OpenInput) (call : PingCall) (p : Port) (by : Way) (rec : ℕ) →
+      More ping_service k.calls (λ acts. ping_entry call acts) came → CoreCall ping_service (alone_number alone.Ping) (ping_of l) o l came link new k.calls (λ acts. ping_entry call acts) p by rec
+  echo_core e k came call p by rec more = record {
+    alone = k.below;
+    called = is.called;
+    more = more;
+    sends = λ acts meets. echo_sends o l l.since k.calls call acts is.called e meets;
+    gives = ping_gives;
+    under_way = λ put h. subst (λ z. IsUnderWay z o.chain new (with_exchange l came link put)) (sym e) h;
+    keeps = λ put h. subst (λ z. KeepsBy z (with_exchange l came link put)) (sym e) h;
+    finds = λ put acts given exchanged gives. echo_finds (with_exchange l came link put) o.chain.top.0 p by rec acts given (k.calls ++ ping_entry call acts ∷ []) e gives;
+  }
+
+  -- a message that the core takes
+  core_receives : {S B C : Type 0} (s : Service S B C) (kind : ℕ) (b : B) (calls : List C) (m : Said) (now : ℕ) (input : OpenInput) → CoreCall s kind b o l input link new calls (s.received m now) (port_at o.chain.top.0 1) way.Up m.rec →
+      s.takes 1 m ≡ true → Receives s kind (own_graph o.chain new) o.chain.top.0 b l.since calls m now ns → Did o l input link new ns
+  core_receives s kind b calls m now input k takes (is_taken _ more) = core_did s kind b o l input link new calls (s.received m now) (port_at o.chain.top.0 1) way.Up m.rec k ns more
+  core_receives s kind b calls m now input k takes (is_ignored ignores same talks) = absurd (let wrong : true ≡ false = sym takes ∙ ignores in cc)
+  core_receives s kind b calls m now input k takes (fails_before memory) = fails memory
+
+  is_port : (n : ℕ) → n < 65536 → nat_lt n 65536 ≡ true
+  is_port n h = grind (arith, nat_tests)
+
+  is_short : (n : ℕ) → n ≤ 1480 → nat_le n 1480 ≡ true
+  is_short n h = grind (arith, nat_tests)
+
+  module _ (rec : ℕ) (a : Arrival) (now : ℕ) (short : length a.body.now ≤ 1480) (small : a.port < 65536) (two : CallsTwo o.chain old new (λ t. port_at t 1) way.Up rec (comes (datagram_received rec a.port a.body.now) now) ns) (one : ReceivesOne o.chain old new (arrival_said rec a) now ns) where
+    received_by_kind : (k : OpenKind) → l.kind ≡ k → IsUnderWay k o.chain old l → SuitsBy k l a → Did o l (message rec a.port a.body.now now) link new ns
+    received_by_kind tftp e k suits =
+        file_did o l old new link (comes (datagram_received rec a.port a.body.now) now) (port_at k.tftp.0 1) way.Up rec ns e is.called k
+        (two k.tftp k.below (transfer_of l) l.since k.entries (file (got k.entries)) k.downloads)
+    received_by_kind (dns id) e k suits =
+        let input : OpenInput = message rec a.port a.body.now now in
+        core_receives lookup_service (alone_number alone.Resolver) (look_up_of id l) k.calls (arrival_said rec a) now input
+        (name_core id e k input (arrived (dns_datagram_in (arrival_said rec a)) now) (port_at o.chain.top.0 1) way.Up rec (by_message lookup_service k.calls k.exchanged rec a.port a.body.now now a.source.0 suits.0))
+        (subst (λ z. lookup_service.takes 1 (record { tag = tag_number Datagram; rec = rec; a = z; b = a.source.0; bytes = a.body.now }) ≡ true) (sym suits.1) refl) ((one k.below).lookup (look_up_of id l) l.since k.calls k.talks)
+    received_by_kind (dhcp who) e k suits =
+        let input : OpenInput = message rec a.port a.body.now now in
+        core_receives lease_service (alone_number alone.Dhcp) who k.calls (arrival_said rec a) now input
+        (lease_core who e k input (replied (handed_in (arrival_said rec a)) now) (port_at o.chain.top.0 1) way.Up rec (by_message lease_service k.calls k.exchanged rec a.port a.body.now now l.server refl))
+        (subst (λ z. lease_service.takes 1 (record { tag = tag_number Datagram; rec = rec; a = z; b = a.source.0; bytes = a.body.now }) ≡ true) (sym suits) (is_short (length a.body.now) short)) ((one k.below).lease who l.since k.calls k.talks)
+    received_by_kind ping e k suits =
+        let input : OpenInput = message rec a.port a.body.now now in
+        core_receives ping_service (alone_number alone.Ping) (ping_of l) k.calls (arrival_said rec a) now input
+        (echo_core e k input (echoed (reply_in (arrival_said rec a)) now) (port_at o.chain.top.0 1) way.Up rec (by_message ping_service k.calls k.exchanged rec a.port a.body.now now a.source.0 suits.0))
+        (is_port a.port small) ((one k.below).ping (ping_of l) l.since k.calls k.talks)
+
+    pub received : SuitsBy l.kind l a → Did o l (message rec a.port a.body.now now) link new ns
+    received suits = received_by_kind l.kind refl is.under_way suits
+
+  module _ (now : ℕ) (two : CallsTwo o.chain old new (λ t. port_at t 4) way.Time 0 (ticked now) ns) (one : TicksOne o.chain old new now ns) where
+    ticked_by_kind : (k : OpenKind) → l.kind ≡ k → IsUnderWay k o.chain old l → Did o l (time now) link new ns
+    ticked_by_kind tftp e k =
+        file_did o l old new link (ticked now) (port_at k.tftp.0 4) way.Time 0 ns e is.called k (two k.tftp k.below (transfer_of l) l.since k.entries (file (got k.entries)) k.downloads)
+    ticked_by_kind (dns id) e k =
+        core_did lookup_service (alone_number alone.Resolver) (look_up_of id l) o l (time now) link new k.calls (lookup_service.timed now) (port_at o.chain.top.0 4) way.Time 0
+        (name_core id e k (time now) (clocked now) (port_at o.chain.top.0 4) way.Time 0 (by_time lookup_service k.calls k.exchanged now)) ns ((one k.below).lookup (look_up_of id l) l.since k.calls k.talks)
+    ticked_by_kind (dhcp who) e k =
+        core_did lease_service (alone_number alone.Dhcp) who o l (time now) link new k.calls (lease_service.timed now) (port_at o.chain.top.0 4) way.Time 0
+        (lease_core who e k (time now) (elapsed now) (port_at o.chain.top.0 4) way.Time 0 (by_time lease_service k.calls k.exchanged now)) ns ((one k.below).lease who l.since k.calls k.talks)
+    ticked_by_kind ping e k =
+        core_did ping_service (alone_number alone.Ping) (ping_of l) o l (time now) link new k.calls (ping_service.timed now) (port_at o.chain.top.0 4) way.Time 0
+        (echo_core e k (time now) (waited now) (port_at o.chain.top.0 4) way.Time 0 (by_time ping_service k.calls k.exchanged now)) ns ((one k.below).ping (ping_of l) l.since k.calls k.talks)
+
+    pub passed : Did o l (time now) link new ns
+    passed = ticked_by_kind l.kind refl is.under_way

@@ -1,0 +1,77 @@
+-- What one exchange more does: something comes to an open, which puts its records, and goes on or ends.
+use Rattle.std.specs.Prelude.{◌≡◌, ℕ, true, List, [], ◌∷◌, ◌++◌, Option, Some, None, IsSome, unwrap_or}
+use Rattle.nb_terms.specs.declared.cause.Cause.{Cause}
+use Rattle.nb_defs.specs.Causes.{is_ok_cause}
+use Rattle.nb_defs.specs.Records.{Out, ended, out_texts}
+use Rattle.nb_ledger.specs.declared.event.Way.{Way}
+use Rattle.nb_ledger.specs.Ledger.{run_state}
+use Rattle.nb_graph.specs.Whole.{Objects}
+use Rattle.nb_nodes.specs.declared.obj.Obj.{Obj}
+use Rattle.nb_opens.specs.Graphs.{without_graph}
+use Rattle.nb_opens.specs.declared.alone.Arrival.{Arrival}
+use Rattle.nb_stack.specs.Client.{Client}
+use Rattle.nb_machine.specs.Lives.{OpenInput, OpenKind, tftp, dns, dhcp, ping, Live, exchange, continued}
+use Rattle.nb_machine.specs.Kinds.{Keeps, fetched, granted, resolved}
+use Rattle.nb_machine.specs.Takings.{end_among}
+use Rattle.nb_traced.specs.Outputs.{CallsOpen, own_serials}
+use Rattle.nb_traced.specs.Pieces.{first_close_of}
+use Rattle.nb_chains.specs.Chains.{GoesOn, IsReleased, chain_ids}
+use Rattle.nb_teller.specs.Spelling.{Spelling}
+use Rattle.nb_open.specs.declared.open.Open.{Open}
+use Rattle.nb_open.specs.declared.ended.Ended.{Ended}
+use Rattle.nb_open.specs.Open.{IsOpenOf, kin_of}
+use Rattle.nb_dhcpmsg.specs.Fields.{message_in}
+
+-- the message is one that counts for the open: of its server, or for a lease of any host; from the port that its kind has
+abbrev pub SuitsBy : OpenKind → Live → Arrival → Type 0
+SuitsBy tftp l a = a.source.0 ≡ l.server
+SuitsBy (dns id) l a = (a.source.0 ≡ l.server) × (a.port ≡ 53)
+SuitsBy (dhcp x) l a = a.port ≡ 67
+SuitsBy ping l a = (a.source.0 ≡ l.server) × (a.port ≡ l.own)
+
+-- the open with what came, and what it put then
+abbrev pub with_exchange : Live → OpenInput → Client → List Out → Live
+with_exchange l came link put = continued l (exchange came link put)
+
+-- Something comes to the open, and it goes on. `records` are all that is written of it, those of the graph among them.
+pub record ExchangesOn (o : Open) (l : Live) (came : OpenInput) (link : Client) (way : Option Way) (old new : Objects Obj) (records : List Out) : Type 0 where
+  pub keeps : Keeps (with_exchange l came link (without_graph records))
+  pub no_end : end_among l.number (without_graph records) ≡ None
+  pub lives : IsOpenOf new o (with_exchange l came link (without_graph records))
+  pub others : GoesOn (chain_ids o.chain) old new
+  pub call : CallsOpen (kin_of o) way records (run_state old.book []) (run_state new.book [])
+  pub no_close : first_close_of (own_serials (kin_of o)) records ≡ None
+
+-- its records without those of the graph, with its ENDED
+abbrev pub last_put : Live → List Out → Cause → List Out
+last_put l records cause = without_graph records ++ (ended l.number cause ∷ [])
+
+-- where it has ended well, what it has fetched or found was handed out
+pub record HandsOut (l : Live) (e : Ended) (s : Spelling) : Type 0 where
+  pub body : fetched l ≡ unwrap_or e.body []
+  pub bytes : granted l ≡ s.bytes
+  pub address : resolved l ≡ s.address
+
+-- what was handed out is a message of DHCP, if anything was
+abbrev pub IsLeaseMessage : Option (List ℕ) → Type 0
+IsLeaseMessage found = (bytes : List ℕ) → found ≡ Some bytes → IsSome (message_in bytes)
+
+-- Something comes to the open, and it ends: its objects are let go.
+pub record ExchangesLast (o : Open) (l : Live) (came : OpenInput) (link : Client) (way : Option Way) (old new : Objects Obj) (records : List Out) (e : Ended) (s : Spelling) : Type 0 where
+  pub keeps : Keeps (with_exchange l came link (last_put l records e.cause))
+  pub its_end : end_among l.number (last_put l records e.cause) ≡ Some e.cause
+  pub released : IsReleased o.chain old new
+  pub call : CallsOpen (kin_of o) way records (run_state old.book []) (run_state new.book [])
+  pub close : first_close_of (own_serials (kin_of o)) records ≡ Some e.cause
+  pub hands : is_ok_cause e.cause ≡ true → HandsOut (with_exchange l came link (last_put l records e.cause)) e s
+  pub message : IsLeaseMessage s.bytes
+
+abbrev pub ExchangesBy : Option Ended → Open → Live → OpenInput → Client → Option Way → Objects Obj → Objects Obj → List Out → Spelling → Type 0
+ExchangesBy None o l came link way old new records s = ExchangesOn o l came link way old new records
+ExchangesBy (Some e) o l came link way old new records s = ExchangesLast o l came link way old new records e s
+
+-- what was spelled is what the exchange says, whatever the open has received so far
+pub record Exchanges (o : Open) (l : Live) (came : OpenInput) (link : Client) (way : Option Way) (old new : Objects Obj) (s : Spelling) (e : Option Ended) : Type 0 where
+  pub records : List Out
+  pub text : s.text ≡ out_texts records
+  pub does : ExchangesBy e o l came link way old new records s

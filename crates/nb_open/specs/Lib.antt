@@ -1,0 +1,7 @@
+pub mod Opening
+pub mod Open
+pub mod Settling
+pub mod Exchanges
+pub mod Begins
+pub mod Ends
+pub mod Making

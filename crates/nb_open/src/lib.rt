@@ -1,0 +1,19 @@
+// One open: its objects on the graph, how it begins, what comes to it, and how it ends (RFC 1350, 1035, 2131, 792), for
+// opens of any kind beside others that live. Each call says what it does to the open as the machine has it (nb_machine's
+// Live), and what the records of the graph among its output are (nb_traced). It knows of no script and no list of opens.
+// Begin with `Open`, then `Opening`.
+#![tactic(auto)]
+
+mod beginning;
+mod ended;
+mod ending;
+mod laws;
+mod open;
+mod opening;
+
+pub use beginning::Begun;
+pub use ended::Ended;
+pub use ending::give_up;
+pub use laws::{closed_opens_keep, opens_keep, opens_stay};
+pub use open::Open;
+pub use opening::Opening;

@@ -1,0 +1,58 @@
+ghost use Rattle.std.specs.Prelude.{◌≡◌};
+ghost use Rattle.nb_open.specs.Opening.{chain_kind, speaker_for};
+
+use nb_chains::ChainKind;
+use nb_nodes::{Ask, LeaseAsk, LookupAsk, PingAsk};
+use nb_teller::{Carrier, Speaker};
+use nb_wire::Ip4;
+
+/// All hosts of the link (RFC 919).
+const ALL_HOSTS: Ip4 = Ip4(0xffff_ffff);
+
+/// The UDP port of a client that asks for a lease (RFC 2131, section 4.1).
+const DHCP_CLIENT: u16 = 68;
+
+/// What an open asks for.
+#[derive(Clone, Copy)]
+pub enum Opening<'a> {
+    /// A file of a TFTP server (RFC 1350).
+    File(Ask<'a>),
+    /// The address of a name (RFC 1035).
+    Name(LookupAsk<'a>),
+    /// A lease (RFC 2131).
+    Lease(LeaseAsk),
+    /// An echo (RFC 792).
+    Echo(PingAsk),
+}
+
+impl Opening<'_> {
+    /// The kind of its objects.
+    pub fn kind(&self) -> ChainKind
+        ensures { result ≡ chain_kind self.now }
+    {
+        match self {
+            Opening::File(_) => ChainKind::File,
+            Opening::Name(_) => ChainKind::Name,
+            Opening::Lease(_) => ChainKind::Lease,
+            Opening::Echo(_) => ChainKind::Echo,
+        }
+    }
+
+    /// Who speaks for the open of this number.
+    pub fn speaker(&self, number: u16) -> Speaker
+        ensures { result ≡ speaker_for self.now number }
+    {
+        let (carrier, server, own_port) = match self {
+            Opening::File(ask) => (Carrier::Udp, ask.server, ask.own_port),
+            Opening::Name(ask) => (Carrier::Udp, ask.server, ask.own_port),
+            Opening::Lease(_) => (Carrier::Udp, ALL_HOSTS, DHCP_CLIENT),
+            Opening::Echo(ask) => (Carrier::Icmp, ask.host, ask.ident),
+        };
+        Speaker {
+            number,
+            carrier,
+            server,
+            own_port,
+        }
+    }
+}
