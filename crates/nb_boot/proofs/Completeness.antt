@@ -5,7 +5,7 @@ use Rattle.nb_defs.specs.Causes.{is_ok_cause}
 use Rattle.nb_defs.specs.Records.{Start, In, start, frame, tick, off, IsIn, in_text, in_texts, IsPartial, IsBroken}
 use Rattle.nb_defs.proofs.RecordLaws.{in_text_apart, partial_not_whole, length-in_text}
 use Rattle.nb_machine.specs.Courses.{Standing, ready, running, waiting, reaching, yielded, handing, left, handed_off, stopped, Progress}
-use Rattle.nb_opens.specs.Graphs.{without_graph}
+use Rattle.nb_traced.specs.Plain.{without_graph}
 use Rattle.nb_record.specs.Outside.{Outside, Gave, IsAtEnd}
 use Rattle.nb_boot.specs.Shown.{IsOther, IsFirst, BeginsWith, NoneMayCome, EndsWhere, was_left, was_handed, was_stopped, ran_out, was_bad, was_full, Shown, ShowsCourse}
 use Rattle.nb_boot.specs.Complete.{Completes, AreOthers}

@@ -2,7 +2,7 @@
 use Rattle.std.proofs.Common.{◌≡◌, ℕ, ◌≤◌, Bool, true, false, not, cond, List, [], ◌∷◌, ◌++◌, length, refl, sym, ◌∙◌, ap, append_assoc, append-nil, arith}
 use Rattle.std.specs.List.{AllByRecursion}
 use Rattle.nb_defs.specs.Records.{Out, step}
-use Rattle.nb_opens.specs.Graphs.{is_graph, without_graph}
+use Rattle.nb_traced.specs.Plain.{is_graph, without_graph}
 use Rattle.nb_laws.specs.Events.{Event, starts, hears, waits, stops, puts, written_by}
 use Rattle.nb_laws.proofs.Histories.{gathered_one}
 use Rattle.nb_laws.proofs.Tellings.{told}

@@ -15,7 +15,7 @@ use Rattle.nb_stack.specs.Takes.{reply_of}
 use Rattle.nb_stack.proofs.MessageLaws.{message_one}
 use Rattle.nb_tftp.specs.History.{Call, came as came_by}
 use Rattle.nb_tftp.specs.Received.{received}
-use Rattle.nb_opens.specs.Graphs.{without_graph}
+use Rattle.nb_traced.specs.Plain.{without_graph}
 use Rattle.nb_machine.specs.Lives.{Live}
 use Rattle.nb_machine.specs.Kinds.{is_for, is_reply_for}
 use Rattle.nb_machine.specs.Network.{is_for_one, on_net0}

@@ -5,12 +5,12 @@ use Rattle.std.proofs.lemmas.List.Concat.{flat_map-append}
 use Rattle.nb_defs.specs.Records.{In, start, frame, tick, off, Out, step}
 use Rattle.nb_stack.specs.Brings.{Brings}
 use Rattle.nb_stack.proofs.MessageLaws.{message_one}
-use Rattle.nb_opens.specs.Graphs.{is_graph, without_graph}
+use Rattle.nb_traced.specs.Plain.{is_graph, without_graph}
 use Rattle.nb_laws.specs.Events.{Event, starts, hears, waits, stops, puts, used_by, written_by, put_one, inputs, outputs, EachEvent}
 use Rattle.nb_laws.specs.Histories.{IsRead, IsHistory, client}
 use Rattle.nb_openlaws.proofs.UsedEvents.{IsUsed}
 use Rattle.nb_laws.proofs.Tellings.{told}
-use Rattle.nb_opens.proofs.Plain.{plain_append}
+use Rattle.nb_traced.proofs.Plain.{plain_append}
 use Rattle.nb_boot.specs.Entries.{is_of_graph, plain}
 
 -- A HISTORY THAT GOES ON

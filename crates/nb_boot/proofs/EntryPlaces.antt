@@ -6,7 +6,7 @@ use Rattle.nb_defs.specs.Records.{Out, step, sent, text, command, result, script
 use Rattle.nb_stack.specs.Brings.{Brought}
 use Rattle.nb_stack.specs.Takes.{reply_of}
 use Rattle.nb_tftp.specs.History.{Call}
-use Rattle.nb_opens.specs.Graphs.{is_graph, without_graph}
+use Rattle.nb_traced.specs.Plain.{is_graph, without_graph}
 use Rattle.nb_laws.specs.Events.{Event, hears, puts, outputs, EachEvent}
 use Rattle.nb_laws.specs.Histories.{client}
 use Rattle.nb_laws.specs.Lists.{Opening, live, call_at}

@@ -1,8 +1,8 @@
 -- What follows the machine is its course, and counts the records used.
 use Rattle.std.proofs.Common.{◌≡◌, ◌+◌, List, [], ◌∷◌, ◌++◌, length, refl, sym, ◌∙◌, subst, append_assoc, append-nil}
 use Rattle.nb_defs.specs.Records.{In, Out}
-use Rattle.nb_opens.specs.Graphs.{without_graph}
-use Rattle.nb_opens.proofs.Plain.{plain_append}
+use Rattle.nb_traced.specs.Plain.{without_graph}
+use Rattle.nb_traced.proofs.Plain.{plain_append}
 use Rattle.nb_machine.specs.Courses.{Progress, StepBegins, Course, begins, uses, goes_on}
 use Rattle.nb_traced.specs.Outputs.{Arrived}
 use Rattle.nb_client.specs.Progressing.{ProceedsTo, no_further, one_further}

@@ -7,7 +7,7 @@ use Rattle.nb_record.specs.Outside.{Outside, Passes, AsksPiece}
 use Rattle.nb_record.specs.Logged.{Logged}
 use Rattle.nb_record.proofs.OutsideLemmas.{Passes-nothing, Passes-then}
 use Rattle.nb_runner.proofs.Puts.{is_either}
-use Rattle.nb_opens.specs.Graphs.{without_graph}
+use Rattle.nb_traced.specs.Plain.{without_graph}
 use Rattle.nb_machine.specs.Courses.{Progress, nowhere}
 use Rattle.nb_traced.specs.Entries.{IsOutside}
 use Rattle.nb_traced.specs.Holdings.{Holdings, no_holdings}

@@ -3,7 +3,7 @@ use Rattle.std.proofs.Common.{◌≡◌, ℕ, ◌+◌, ◌≤◌, List, [], ◌�
 use Rattle.std.specs.Prelude.{IfSome}
 use Rattle.std.proofs.lemmas.List.Elements.{All-nil, All-cons, All-append, All-weaker}
 use Rattle.nb_defs.specs.Records.{In, in_texts, IsPartial, Out, step, out_texts}
-use Rattle.nb_opens.specs.Graphs.{without_graph}
+use Rattle.nb_traced.specs.Plain.{without_graph}
 use Rattle.nb_record.specs.declared.notes.ReadNote.{ReadNote}
 use Rattle.nb_record.specs.Outside.{Outside, Gave, Took, Attaches, IsNoted, NotesRead, AsksPiece, Passes, MOST_READ}
 use Rattle.nb_machine.specs.Courses.{Standing, ready, running, waiting, reaching, yielded, handing, left, handed_off, stopped, Progress, Course}

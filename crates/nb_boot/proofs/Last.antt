@@ -4,8 +4,8 @@ use Rattle.std.proofs.Common.{◌≡◌, ℕ, List, [], ◌∷◌, ◌++◌, len
 use Rattle.nb_defs.specs.Records.{Out, done}
 use Rattle.nb_terms.specs.declared.cause.Cause.{Cause}
 use Rattle.nb_record.specs.Logged.{Logged}
-use Rattle.nb_opens.specs.Graphs.{without_graph}
-use Rattle.nb_opens.proofs.Plain.{plain_append}
+use Rattle.nb_traced.specs.Plain.{without_graph}
+use Rattle.nb_traced.proofs.Plain.{plain_append}
 use Rattle.nb_machine.specs.Courses.{Progress, Standing, ready, running, waiting, reaching, yielded, handing, left, handed_off, stopped, nowhere}
 use Rattle.nb_machine.specs.Closings.{Shuts}
 use Rattle.nb_traced.specs.Holdings.{Holdings, no_holdings}

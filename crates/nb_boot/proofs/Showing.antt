@@ -5,7 +5,7 @@ use Rattle.nb_defs.specs.Records.{In, Out}
 use Rattle.nb_record.specs.Outside.{Outside}
 use Rattle.nb_runner.specs.declared.status.Status.{Status}
 use Rattle.nb_runner.specs.declared.status.Status.TheVariants as status
-use Rattle.nb_opens.specs.Graphs.{without_graph}
+use Rattle.nb_traced.specs.Plain.{without_graph}
 use Rattle.nb_machine.specs.States.{State}
 use Rattle.nb_machine.specs.Courses.{Standing, handed_off, stands, Progress, Course}
 use Rattle.nb_laws.specs.Events.{Event}

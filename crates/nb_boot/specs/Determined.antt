@@ -2,7 +2,7 @@
 use Rattle.std.specs.Prelude.{◌≡◌, ℕ, ◌≤◌, List, [], ◌∷◌, ◌++◌, length, Some, IsSome}
 use Rattle.nb_defs.specs.Records.{In, in_texts, Out, out_texts, done}
 use Rattle.nb_record.specs.Outside.{Outside, Passes}
-use Rattle.nb_opens.specs.Graphs.{without_graph}
+use Rattle.nb_traced.specs.Plain.{without_graph}
 use Rattle.nb_machine.specs.CommandRecords.{status_of}
 use Rattle.nb_runner.specs.StatusNumber.{status_number}
 use Rattle.nb_runner.specs.declared.status.Status.{Status}

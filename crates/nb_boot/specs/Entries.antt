@@ -9,7 +9,7 @@ use Rattle.nb_laws.specs.Events.{Event, starts, hears, waits, stops, puts, outpu
 use Rattle.nb_laws.specs.Histories.{client}
 use Rattle.nb_laws.specs.Lists.{gathered, call_at}
 use Rattle.nb_laws.specs.Frames.{IsSent}
-use Rattle.nb_opens.specs.Graphs.{is_graph}
+use Rattle.nb_traced.specs.Plain.{is_graph}
 use Rattle.nb_traced.specs.LowestObjects.{graph_so_far}
 use Rattle.nb_traced.specs.Entries.{Arrival, entries, IsWithin, IsOutside}
 

@@ -1,7 +1,7 @@
 -- How the records used and all those written, the graph's among them, follow the machine, and what came to its opens.
 use Rattle.std.specs.Prelude.{List, [], ◌∷◌, ◌++◌}
 use Rattle.nb_defs.specs.Records.{In, Out}
-use Rattle.nb_opens.specs.Graphs.{without_graph}
+use Rattle.nb_traced.specs.Plain.{without_graph}
 use Rattle.nb_machine.specs.Courses.{Standing, ready, running, waiting, reaching, yielded, handing, left, handed_off, stopped, Progress, nowhere, StepBegins}
 use Rattle.nb_traced.specs.Entries.{IsOutside}
 use Rattle.nb_traced.specs.Outputs.{Arrived}

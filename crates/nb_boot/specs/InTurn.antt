@@ -1,7 +1,7 @@
 -- Nothing is read while output is kept back, or while a whole record is at hand: each read stands between two steps.
 use Rattle.std.specs.Prelude.{◌≡◌, ℕ, ◌+◌, ◌≤◌, List, [], ◌∷◌, ◌++◌, length, Some, All, IfSome}
 use Rattle.nb_defs.specs.Records.{In, in_texts, IsPartial, Out, step, out_texts}
-use Rattle.nb_opens.specs.Graphs.{without_graph}
+use Rattle.nb_traced.specs.Plain.{without_graph}
 use Rattle.nb_record.specs.declared.notes.ReadNote.{ReadNote}
 use Rattle.nb_record.specs.Outside.{Outside, MOST_READ}
 use Rattle.nb_machine.specs.Courses.{Standing, ready, running, waiting, reaching, yielded, handing, left, handed_off, stopped, Progress, Course}

@@ -9,7 +9,7 @@ use Rattle.nb_machine.specs.Running.{Running, entered, further}
 use Rattle.nb_machine.specs.Scripts.{Doing, answer, doing, doing_by, opens}
 use Rattle.nb_machine.specs.States.{with_one_made, with_opened}
 use Rattle.nb_network.specs.Many.{FitsHoldings}
-use Rattle.nb_opens.specs.Graphs.{without_graph}
+use Rattle.nb_traced.specs.Plain.{without_graph}
 use Rattle.nb_record.specs.Logged.{Logged}
 use Rattle.nb_runner.proofs.CommandLaws.{same_up, same_world, world_stays}
 use Rattle.nb_runner.proofs.Measures.{further_nearer}

@@ -7,8 +7,8 @@ use Rattle.nb_machine.specs.Effects.{full_opens}
 use Rattle.nb_machine.specs.Lives.{Live}
 use Rattle.nb_machine.specs.Running.{Running, with_result}
 use Rattle.nb_network.specs.Many.{lease_count}
-use Rattle.nb_opens.specs.Graphs.{without_graph}
-use Rattle.nb_opens.proofs.Plain.{plain_behind}
+use Rattle.nb_traced.specs.Plain.{without_graph}
+use Rattle.nb_traced.proofs.Plain.{plain_behind}
 use Rattle.nb_record.specs.Logged.{Logged}
 use Rattle.nb_runner.specs.CommandWords.{onward_of}
 use Rattle.nb_runner.specs.Steps.{moves_in}

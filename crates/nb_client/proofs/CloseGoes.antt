@@ -3,7 +3,7 @@ use Rattle.std.proofs.Common.{map, ◌≡◌, ℕ, ◌+◌, ◌≤◌, List, [],
 use Rattle.nb_terms.specs.declared.cause.Cause.{Cause}
 use Rattle.nb_defs.specs.Records.{off, Out, out_texts, step, done}
 use Rattle.nb_record.specs.Logged.{Logged, Puts}
-use Rattle.nb_opens.specs.Graphs.{without_graph}
+use Rattle.nb_traced.specs.Plain.{without_graph}
 use Rattle.nb_machine.specs.Courses.{Progress, stands, stopped, StepBegins, switches_off, goes_off}
 use Rattle.nb_machine.specs.States.{State, with_live}
 use Rattle.nb_runner.specs.declared.world.World.{World}

@@ -5,7 +5,7 @@ use Rattle.nb_terms.specs.declared.cause.Cause.{Cause}
 use Rattle.nb_defs.specs.Causes.{is_ok_cause, ok}
 use Rattle.nb_defs.specs.Records.{out_texts, result}
 use Rattle.nb_record.specs.Logged.{Logged, Puts}
-use Rattle.nb_opens.specs.Graphs.{without_graph}
+use Rattle.nb_traced.specs.Plain.{without_graph}
 use Rattle.nb_image.specs.declared.image.Image.{Image}
 use Rattle.nb_image.specs.Images.{ImageList, image_of}
 use Rattle.nb_machine.specs.Conclusions.{Conclusion, conclusion, handoff_records}

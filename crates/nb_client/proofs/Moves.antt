@@ -7,7 +7,7 @@ use Rattle.nb_defs.specs.Commands.{CommandOutcome, refused}
 use Rattle.nb_defs.specs.Records.{Out, leave, out_texts, result}
 use Rattle.nb_defs.specs.ScriptLines.{label_place}
 use Rattle.nb_record.specs.Logged.{Logged, Puts}
-use Rattle.nb_opens.specs.Graphs.{without_graph}
+use Rattle.nb_traced.specs.Plain.{without_graph}
 use Rattle.nb_runner.specs.declared.world.World.{World}
 use Rattle.nb_runner.specs.NextCommand.{IsFull, IsLeft, HasPassed}
 use Rattle.nb_runner.specs.Steps.{Does, GoesTo, moves_in}

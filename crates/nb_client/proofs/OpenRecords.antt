@@ -20,8 +20,8 @@ use Rattle.nb_network.specs.Openings.{begun_records, end_of_begun}
 use Rattle.nb_nodes.specs.Asking.{is_nonzero, is_path}
 use Rattle.nb_nodes.specs.LookupExchanges.{can_look_up}
 use Rattle.nb_nodes.proofs.LookupExchangeLemmas.{good_name}
-use Rattle.nb_opens.specs.Graphs.{without_graph}
-use Rattle.nb_opens.proofs.Plain.{plain_append, plain_behind}
+use Rattle.nb_traced.specs.Plain.{without_graph}
+use Rattle.nb_traced.proofs.Plain.{plain_append, plain_behind}
 use Rattle.nb_stack.specs.Client.{Client}
 use Rattle.nb_stack.specs.Sends.{put_on, way_of}
 use Rattle.nb_stack.proofs.WayLaws.{same_put, same_way}

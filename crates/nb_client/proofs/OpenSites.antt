@@ -11,8 +11,8 @@ use Rattle.nb_network.specs.Openings.{OpensOne, begun_records, number_by}
 use Rattle.nb_open.specs.declared.opening.Opening.{Opening}
 use Rattle.nb_open.specs.Begins.{waiting_pieces}
 use Rattle.nb_open.specs.Opening.{chain_kind, live_by}
-use Rattle.nb_opens.specs.Graphs.{without_graph}
-use Rattle.nb_opens.proofs.Plain.{plain_append, plain_behind}
+use Rattle.nb_traced.specs.Plain.{without_graph}
+use Rattle.nb_traced.proofs.Plain.{plain_append, plain_behind}
 use Rattle.nb_record.specs.Logged.{Logged, Puts}
 use Rattle.nb_runner.proofs.Puts.{Puts-outs}
 use Rattle.nb_runner.specs.World.{IsLinked}

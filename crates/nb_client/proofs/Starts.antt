@@ -4,7 +4,7 @@ use Rattle.std.specs.Prelude.{map}
 use Rattle.std.specs.List.{AllByRecursion, sum_by}
 use Rattle.nb_defs.specs.Records.{IsStart, Out, Start, out_texts, start, step}
 use Rattle.nb_record.specs.Logged.{Logged, Puts}
-use Rattle.nb_opens.specs.Graphs.{without_graph}
+use Rattle.nb_traced.specs.Plain.{without_graph}
 use Rattle.nb_runner.specs.World.{world_of}
 use Rattle.nb_machine.specs.Courses.{Standing, ready, stands, StepBegins}
 use Rattle.nb_machine.specs.Running.{first_script}

@@ -6,8 +6,9 @@ use Rattle.nb_defs.specs.Records.{Out, step, sent, text, command, result, script
 use Rattle.nb_machine.specs.CommandRecords.{command_record, prints}
 use Rattle.nb_machine.specs.Effects.{ShownWords}
 use Rattle.nb_machine.specs.Running.{Running}
-use Rattle.nb_opens.specs.Graphs.{AreAside, IsAside, without_graph}
-use Rattle.nb_opens.proofs.Plain.{plain_aside}
+use Rattle.nb_traced.specs.Plain.{without_graph}
+use Rattle.nb_traced.proofs.Plain.{plain_aside}
+use Rattle.nb_traced.proofs.RecordLemmas.{AreAside, IsAside}
 use Rattle.nb_traced.specs.Holdings.{Holdings}
 use Rattle.nb_traced.specs.Outputs.{Arrived, Traced, apart, commands}
 use Rattle.nb_traced.specs.Pieces.{IsApart}

@@ -6,7 +6,7 @@ use Rattle.nb_defs.specs.Causes.{ok}
 use Rattle.nb_defs.specs.Records.{In, IsIn, Out, out_texts, result, step}
 use Rattle.nb_record.specs.Logged.{Logged, Puts}
 use Rattle.nb_runner.proofs.Puts.{Puts-outs}
-use Rattle.nb_opens.specs.Graphs.{without_graph}
+use Rattle.nb_traced.specs.Plain.{without_graph}
 use Rattle.nb_machine.specs.Courses.{stands, running, waiting, yielded, StepBegins, waits_on, is_answered, resumes}
 use Rattle.nb_machine.specs.Running.{Running, anew, with_result}
 use Rattle.nb_machine.specs.Scripts.{answer, answer_in, by_end, by_time, concluded_by, is_number, moment, upshot_records}

@@ -2,7 +2,7 @@
 use Rattle.std.specs.Prelude.{◌≡◌, ℕ, ◌+◌, ◌<◌, List, [], ◌∷◌, ◌++◌, length}
 use Rattle.nb_defs.specs.Records.{In, start, frame, tick, off, Out, out_texts, step, done}
 use Rattle.nb_record.specs.Logged.{Logged, Puts}
-use Rattle.nb_opens.specs.Graphs.{without_graph}
+use Rattle.nb_traced.specs.Plain.{without_graph}
 use Rattle.nb_machine.specs.CommandRecords.{status_of, stopped_cause}
 use Rattle.nb_machine.specs.Closings.{Shuts}
 use Rattle.nb_machine.specs.Courses.{Progress, Standing, ready, running, waiting, reaching, yielded, handing, left, handed_off, stopped, StepBegins, Proceeds}

@@ -3,6 +3,7 @@ pub mod Leading
 pub mod Serials
 pub mod StateLemmas
 pub mod RecordLemmas
+pub mod Plain
 pub mod Seeing
 pub mod Keeping
 pub mod Calling

@@ -1,3 +1,4 @@
+pub mod Plain
 pub mod Holdings
 pub mod Pieces
 pub mod Outputs

@@ -1,7 +1,7 @@
 // In which order the records of the object graph stand among the others in a run's output, for opens of any kind and
 // any number of them that live: definitions, and laws of what such an output says. No code that runs. Begin with
 // specs/Holdings.antt, then specs/Outputs.antt; what follows from it stands in specs/Openings.antt and
-// specs/Places.antt.
+// specs/Places.antt. An output without these records is in specs/Plain.antt.
 #![tactic(auto)]
 
 mod laws;

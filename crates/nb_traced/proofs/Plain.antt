@@ -1,23 +1,25 @@
--- The records without those of the graph.
+-- The records of an output that aren't of the graph.
 use Rattle.std.proofs.Common.{◌≡◌, List, [], ◌∷◌, ◌++◌, refl, ◌∙◌, ap}
 use Rattle.std.specs.Prelude.{not}
 use Rattle.std.proofs.lemmas.List.Elements.{filter-append}
 use Rattle.nb_defs.specs.Records.{Out, step, sent, text, command, result, script, opened, tried, advanced, ended, graph, part, done}
 use Rattle.nb_ledger.specs.declared.event.GraphEvent.{GraphEvent}
-use Rattle.nb_opens.specs.Graphs.{is_graph, without_graph, traced, AreAside}
+use Rattle.nb_traced.specs.Pieces.{event_records}
+use Rattle.nb_traced.specs.Plain.{is_graph, without_graph}
+use Rattle.nb_traced.proofs.RecordLemmas.{AreAside}
 
 pub plain_append : (xs ys : List Out) → without_graph (xs ++ ys) ≡ without_graph xs ++ without_graph ys
 plain_append xs ys = filter-append (λ o. not (is_graph o)) xs ys
 
-pub plain_traced : (es : List GraphEvent) → without_graph (traced es) ≡ []
-plain_traced [] = refl
-plain_traced (e ∷ es) = plain_traced es
+plain_events : (es : List GraphEvent) → without_graph (event_records es) ≡ []
+plain_events [] = refl
+plain_events (e ∷ es) = plain_events es
 
 -- records of the graph before others
-pub plain_behind : (es : List GraphEvent) (outs : List Out) → without_graph (traced es ++ outs) ≡ without_graph outs
-plain_behind es outs = plain_append (traced es) outs ∙ ap (λ t. t ++ without_graph outs) (plain_traced es)
+pub plain_behind : (es : List GraphEvent) (outs : List Out) → without_graph (event_records es ++ outs) ≡ without_graph outs
+plain_behind es outs = plain_append (event_records es) outs ∙ ap (λ t. t ++ without_graph outs) (plain_events es)
 
--- records that don't concern the graph
+-- records that say nothing of the graph
 pub plain_aside : (outs : List Out) → AreAside outs → without_graph outs ≡ outs
 plain_aside [] h = refl
 plain_aside (graph happens ∷ outs) h = absurd h.0
