@@ -1,5 +1,4 @@
 -- Two chains on one graph: for the tests.
-use Rattle.std.specs.Prelude.{◌≡◌}
 use Rattle.nb_graph.specs.Whole.{Objects}
 use Rattle.nb_nodes.specs.declared.obj.Obj.{Obj}
 use Rattle.nb_chains.specs.declared.chain.Chain.{Chain}

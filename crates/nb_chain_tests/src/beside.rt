@@ -1,9 +1,8 @@
 use crate::steps::{
     HOST, Tape, ask_echo, ask_name, end_file, one_and_what_waits, pass_time, reply, shut_file, two,
 };
-use nb_chains::ChainKind;
+use nb_chains::{Arrival, ChainKind};
 use nb_graph::{ObjId, Port};
-use nb_opens::Arrival;
 use nb_terms::Cause;
 use std::process::Abort;
 use std::test::Fail;

@@ -6,10 +6,9 @@ ghost use Rattle.nb_chains.specs.declared.kind.ChainKind.TheVariants as kind;
 ghost use Rattle.nb_chain_tests.specs.Beside.{AreBeside, WaitsBeside};
 ghost use Rattle.nb_ledger.specs.Flat.{unknown};
 
-use nb_chains::{Chain, ChainKind};
+use nb_chains::{Arrival, Chain, ChainKind};
 use nb_graph::{Graph, Msg, Outside, Port};
 use nb_nodes::{LookupAsk, Obj, PingAsk};
-use nb_opens::Arrival;
 use nb_terms::{Cause, Event};
 use nb_wire::Ip4;
 use std::test::Fail;

@@ -11,7 +11,6 @@ use Rattle.nb_nodes.specs.Exchanges.{Service}
 use Rattle.nb_nodes.specs.LeaseExchanges.{lease_service}
 use Rattle.nb_nodes.specs.LookupExchanges.{lookup_service}
 use Rattle.nb_opens.specs.Alones.{Begins}
-use Rattle.nb_opens.specs.Companies.{only}
 use Rattle.nb_opens.specs.Pairs.{BeginDoes}
 use Rattle.nb_opens.proofs.Beginning.{begin_does}
 use Rattle.nb_opens.proofs.LoneCertain.{LookAsks, LeaseAsks, PingAsks}
@@ -41,7 +40,7 @@ module _ (c : Chain) (g h : Objects Obj) (m n : Heard) (now rec : ℕ) (bytes : 
 
   begins_one : {S B C : Type 0} (svc : Service S B C) (known : B → List C → Type 0) (kind : ℕ) → IsKind svc known kind → ((b : B) → (svc.opening b).over ≡ None) → BeginsOne svc kind c g h bytes now rec z.ns
   begins_one svc known kind law goes = λ b ask ready.
-      let d = ask_does (only c.top.0) svc known kind law (own_graph c g) (own_graph c h) (all []) (all z.ns) now c.top.0 (begin_said rec bytes) b ready refl ask (goes b) z.noded (z.alone []) in
+      let d = ask_does svc known kind law (own_graph c g) (own_graph c h) (all []) (all z.ns) now c.top.0 (begin_said rec bytes) b ready refl ask (goes b) z.noded (z.alone []) in
       subst (Begins svc kind (own_graph c h) c.top.0 b now rec) (known_notices z.ns d.0 d.1) d.2
 
   looks : BeginsOne lookup_service 5 c g h bytes now rec z.ns
@@ -55,9 +54,9 @@ module _ (c : Chain) (g h : Objects Obj) (m n : Heard) (now rec : ℕ) (bytes : 
 
   begins_shape : (kind : ChainKind) → IsReadyChain kind c g → IsAsk kind bytes → HasShapeOrFails (last_serial c) None z.ns
   begins_shape File r a = at_lower c r.0 (λ x. None) z.ns r.1 (two_begun (own_graph c h) c.top.0 r.0.0 (begun_with a.0) now rec z.ns (begins_two r.0 a.0 r.1 r.2 a.1))
-  begins_shape Name r a = at_top c (λ x. None) z.ns r.0 (one_begun (only c.top.0) lookup_service 5 (own_graph c h) c.top.0 a.0 now rec z.ns (looks a.0 a.1 r.1))
-  begins_shape Lease r a = at_top c (λ x. None) z.ns r.0 (one_begun (only c.top.0) lease_service 6 (own_graph c h) c.top.0 a.0 now rec z.ns (leases a.0 a.1 r.1))
-  begins_shape Echo r a = at_top c (λ x. None) z.ns r.0 (one_begun (only c.top.0) ping_service 7 (own_graph c h) c.top.0 a.0 now rec z.ns (pings a.0 a.1 r.1))
+  begins_shape Name r a = at_top c (λ x. None) z.ns r.0 (one_begun lookup_service 5 (own_graph c h) c.top.0 a.0 now rec z.ns (looks a.0 a.1 r.1))
+  begins_shape Lease r a = at_top c (λ x. None) z.ns r.0 (one_begun lease_service 6 (own_graph c h) c.top.0 a.0 now rec z.ns (leases a.0 a.1 r.1))
+  begins_shape Echo r a = at_top c (λ x. None) z.ns r.0 (one_begun ping_service 7 (own_graph c h) c.top.0 a.0 now rec z.ns (pings a.0 a.1 r.1))
 
   begins_so : (kind : ChainKind) → IsReadyChain kind c g → IsAsk kind bytes → ComesOf kind c h z.ns
   begins_so File r a = two_begins c h r.0 r.1 (begun_with a.0) now rec z.ns (begins_two r.0 a.0 r.1 r.2 a.1)

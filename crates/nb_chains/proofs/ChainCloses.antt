@@ -14,11 +14,10 @@ use Rattle.nb_nodes.specs.Objects.{obj_nature, rank_of_obj}
 use Rattle.nb_nodes.specs.Standing.{ObjStands}
 use Rattle.nb_opens.specs.AloneNotices.{alone_closed}
 use Rattle.nb_opens.specs.Alones.{IsOpenLone, IsShutLone}
-use Rattle.nb_opens.specs.Companies.{only}
 use Rattle.nb_opens.specs.Notices.{closed_notices}
 use Rattle.nb_opens.specs.Pairs.{AreGoing, HasEnded}
 use Rattle.nb_opens.proofs.Closing.{close_does}
-use Rattle.nb_opens.proofs.Lones.{both_slots}
+use Rattle.nb_opens.proofs.LoneCloses.{both_slots}
 use Rattle.nb_chains.specs.declared.chain.Chain.{Chain}
 use Rattle.nb_chains.specs.Calls.{ClosesChain, IsOpenBy, closing_notices}
 use Rattle.nb_chains.specs.Chains.{AreChained, GoesOn, IsShutBy, chain_ids, last_below, last_serial, own_graph}
@@ -61,7 +60,7 @@ module _ (c : Chain) (g a h : Objects Obj) (m n o : Heard) (now : ℕ) (cause : 
 
   sole_ended : IsOpenLone (own_graph c g) c.top.0 → IsShutLone (own_graph c h) c.top.0 × (alone_closed c.top.0 cause ≡ ns)
   sole_ended ready =
-      let d = both_slots (only c.top.0) (own_graph c g) (own_graph c a) (own_graph c h) (all []) (all one_called.ns) (all ns) now c.top.0 cause ready (one_called.alone []) (two_called.alone one_called.ns) in
+      let d = both_slots (own_graph c g) (own_graph c a) (own_graph c h) (all []) (all one_called.ns) (all ns) now c.top.0 cause ready (one_called.alone []) (two_called.alone one_called.ns) in
       (d.0, known_notices ns (alone_closed c.top.0 cause) d.1)
 
   closes_as : (b : Option ObjId) → IsOpenBy b c.top.0 (own_graph c g) → IsClosed c.top.0 b cause (own_graph c h) ns

@@ -17,8 +17,6 @@ use Rattle.nb_nodes.specs.LeaseExchanges.{lease_service}
 use Rattle.nb_nodes.specs.LookupExchanges.{lookup_service}
 use Rattle.nb_nodes.specs.Objects.{obj_nature, rank_of_obj}
 use Rattle.nb_nodes.specs.Standing.{ObjStands}
-use Rattle.nb_opens.specs.Alones.{ReceiveAllBy, TickAllBy}
-use Rattle.nb_opens.specs.Companies.{only}
 use Rattle.nb_opens.specs.Pairs.{CallDoes}
 use Rattle.nb_opens.proofs.Hearing.{hear_does, tick_does}
 use Rattle.nb_opens.proofs.LoneCertain.{LookAsks, LeaseAsks, PingAsks}
@@ -29,7 +27,7 @@ use Rattle.nb_tftp.specs.Received.{received}
 use Rattle.nb_chains.specs.declared.chain.Chain.{Chain}
 use Rattle.nb_chains.specs.declared.kind.ChainKind.{ChainKind}
 use Rattle.nb_chains.specs.declared.kind.ChainKind.TheVariants.{File, Name, Lease, Echo}
-use Rattle.nb_chains.specs.Calls.{CallsTwo, ComesOf, IsChainUnderWay, ReceivesChain, ReceivesOne, TicksChain, TicksOne}
+use Rattle.nb_chains.specs.Calls.{CallsTwo, ComesOf, IsChainUnderWay, ReceivesAny, ReceivesChain, ReceivesOne, TicksAny, TicksChain, TicksOne}
 use Rattle.nb_chains.specs.Chains.{AreChained, chain_ids, last_below, last_serial, own_graph, source_for}
 use Rattle.nb_chains.specs.Shapes.{HasShapeOrFails}
 use Rattle.nb_chains.proofs.ChainCalls.{ChainCalled}
@@ -63,7 +61,7 @@ module _ (c : Chain) (g h : Objects Obj) (m n : Heard) (now rec port source : �
 
   receives_two : CallsTwo c g h (λ t. port_at t 1) way.Up rec (came (received rec port bytes) now) z.ns
   receives_two = λ t e b start calls body down.
-      let d = hear_does (own_graph c g) (own_graph c h) (all []) (all z.ns) now c.top.0 t.0 rec port bytes (b, start, calls, body, down) small short z.noded
+      let d = hear_does (own_graph c g) (own_graph c h) (all []) (all z.ns) now c.top.0 t.0 rec port bytes small short z.noded
       (subst (λ (w : Option ObjId). Alone (message_at c.top.0 w rec port source bytes)) e (z.alone [])) in
       subst (CallDoes (own_graph c h) c.top.0 t.0 b start calls body (port_at t.0 1) way.Up rec (came (received rec port bytes) now)) (known_notices z.ns d.0 d.1) (d.2 b start calls body down)
 
@@ -71,21 +69,21 @@ module _ (c : Chain) (g h : Objects Obj) (m n : Heard) (now rec port source : �
   receives_one = λ e.
       let x = c.top.0 in
       let w : Alone (Offers (port_at x 1) said ∷ []) = subst (λ (b : Option ObjId). Alone (message_at x b rec port source bytes)) e (z.alone []) in
-      subst (ReceiveAllBy (only x) (own_graph c g) (own_graph c h) x said now) (known_notices z.ns (told_of (all_of w.deeds)) w.tells) (record {
-        lookup = receives_each (only x) lookup_service LookAsks 5 look_kind (own_graph c g) (own_graph c h) (all []) (all z.ns) now x said short z.noded w;
-        lease = receives_each (only x) lease_service LeaseAsks 6 lease_kind (own_graph c g) (own_graph c h) (all []) (all z.ns) now x said short z.noded w;
-        ping = receives_each (only x) ping_service PingAsks 7 ping_kind (own_graph c g) (own_graph c h) (all []) (all z.ns) now x said short z.noded w;
+      subst (ReceivesAny (own_graph c g) (own_graph c h) x said now) (known_notices z.ns (told_of (all_of w.deeds)) w.tells) (record {
+        lookup = receives_each lookup_service LookAsks 5 look_kind (own_graph c g) (own_graph c h) (all []) (all z.ns) now x said short z.noded w;
+        lease = receives_each lease_service LeaseAsks 6 lease_kind (own_graph c g) (own_graph c h) (all []) (all z.ns) now x said short z.noded w;
+        ping = receives_each ping_service PingAsks 7 ping_kind (own_graph c g) (own_graph c h) (all []) (all z.ns) now x said short z.noded w;
       })
 
   receives_shape : (kind : ChainKind) → IsChainUnderWay kind c g → HasShapeOrFails (last_serial c) (from_below (last_serial c)) z.ns
   receives_shape File (t, e, (b, start, calls, body, d)) =
       at_lower c t from_below z.ns e (two_called (own_graph c h) c.top.0 t.0 b start calls body (port_at t.0 1) way.Up rec (came (received rec port bytes) now) z.ns d.joined.two.older (receives_two t e b start calls body d))
   receives_shape Name (e, (b, start, calls, d)) =
-      at_top c from_below z.ns e (one_receives (only c.top.0) lookup_service 5 (own_graph c h) c.top.0 b lookup_gives start calls said now z.ns ((receives_one e).lookup b start calls d))
+      at_top c from_below z.ns e (one_receives lookup_service 5 (own_graph c h) c.top.0 b lookup_gives start calls said now z.ns ((receives_one e).lookup b start calls d))
   receives_shape Lease (e, (b, start, calls, d)) =
-      at_top c from_below z.ns e (one_receives (only c.top.0) lease_service 6 (own_graph c h) c.top.0 b lease_gives start calls said now z.ns ((receives_one e).lease b start calls d))
+      at_top c from_below z.ns e (one_receives lease_service 6 (own_graph c h) c.top.0 b lease_gives start calls said now z.ns ((receives_one e).lease b start calls d))
   receives_shape Echo (e, (b, start, calls, d)) =
-      at_top c from_below z.ns e (one_receives (only c.top.0) ping_service 7 (own_graph c h) c.top.0 b ping_gives start calls said now z.ns ((receives_one e).ping b start calls d))
+      at_top c from_below z.ns e (one_receives ping_service 7 (own_graph c h) c.top.0 b ping_gives start calls said now z.ns ((receives_one e).ping b start calls d))
 
   receives_so : (kind : ChainKind) → IsChainUnderWay kind c g → ComesOf kind c h z.ns
   receives_so File (t, e, (b, start, calls, body, d)) = two_comes c h t e b start calls body (port_at t.0 1) way.Up rec (came (received rec port bytes) now) z.ns (receives_two t e b start calls body d)
@@ -102,28 +100,28 @@ module _ (c : Chain) (g h : Objects Obj) (m n : Heard) (now : ℕ) (z : ChainCal
 
   ticks_two : CallsTwo c g h (λ t. port_at t 4) way.Time 0 (ticked now) z.ns
   ticks_two = λ t e b start calls body down.
-      let d = tick_does (own_graph c g) (own_graph c h) (all []) (all z.ns) now c.top.0 t.0 (b, start, calls, body, down) z.noded (subst (λ (w : Option ObjId). TickedAlone (last_below c.top.0 w)) e (z.alone [])) in
+      let d = tick_does (own_graph c g) (own_graph c h) (all []) (all z.ns) now c.top.0 t.0 z.noded (subst (λ (w : Option ObjId). TickedAlone (last_below c.top.0 w)) e (z.alone [])) in
       subst (CallDoes (own_graph c h) c.top.0 t.0 b start calls body (port_at t.0 4) way.Time 0 (ticked now)) (known_notices z.ns d.0 d.1) (d.2 b start calls body down)
 
   ticks_one : TicksOne c g h now z.ns
   ticks_one = λ e.
       let x = c.top.0 in
       let w : TickedAlone x = subst (λ (b : Option ObjId). TickedAlone (last_below x b)) e (z.alone []) in
-      subst (TickAllBy (only x) (own_graph c g) (own_graph c h) x now) (known_notices z.ns (told_of (all_of w.deeds)) w.tells) (record {
-        lookup = ticks_each (only x) lookup_service LookAsks 5 look_kind (own_graph c g) (own_graph c h) (all []) (all z.ns) now x z.noded w;
-        lease = ticks_each (only x) lease_service LeaseAsks 6 lease_kind (own_graph c g) (own_graph c h) (all []) (all z.ns) now x z.noded w;
-        ping = ticks_each (only x) ping_service PingAsks 7 ping_kind (own_graph c g) (own_graph c h) (all []) (all z.ns) now x z.noded w;
+      subst (TicksAny (own_graph c g) (own_graph c h) x now) (known_notices z.ns (told_of (all_of w.deeds)) w.tells) (record {
+        lookup = ticks_each lookup_service LookAsks 5 look_kind (own_graph c g) (own_graph c h) (all []) (all z.ns) now x z.noded w;
+        lease = ticks_each lease_service LeaseAsks 6 lease_kind (own_graph c g) (own_graph c h) (all []) (all z.ns) now x z.noded w;
+        ping = ticks_each ping_service PingAsks 7 ping_kind (own_graph c g) (own_graph c h) (all []) (all z.ns) now x z.noded w;
       })
 
   ticks_shape : (kind : ChainKind) → IsChainUnderWay kind c g → HasShapeOrFails (last_serial c) (by_time (last_serial c)) z.ns
   ticks_shape File (t, e, (b, start, calls, body, d)) =
       at_lower c t by_time z.ns e (two_called (own_graph c h) c.top.0 t.0 b start calls body (port_at t.0 4) way.Time 0 (ticked now) z.ns d.joined.two.older (ticks_two t e b start calls body d))
   ticks_shape Name (e, (b, start, calls, d)) =
-      at_top c by_time z.ns e (one_asks (only c.top.0) lookup_service 5 (own_graph c h) c.top.0 b lookup_gives start calls (port_at c.top.0 4) way.Time 0 _ z.ns ((ticks_one e).lookup b start calls d))
+      at_top c by_time z.ns e (one_asks lookup_service 5 (own_graph c h) c.top.0 b lookup_gives start calls (port_at c.top.0 4) way.Time 0 _ z.ns ((ticks_one e).lookup b start calls d))
   ticks_shape Lease (e, (b, start, calls, d)) =
-      at_top c by_time z.ns e (one_asks (only c.top.0) lease_service 6 (own_graph c h) c.top.0 b lease_gives start calls (port_at c.top.0 4) way.Time 0 _ z.ns ((ticks_one e).lease b start calls d))
+      at_top c by_time z.ns e (one_asks lease_service 6 (own_graph c h) c.top.0 b lease_gives start calls (port_at c.top.0 4) way.Time 0 _ z.ns ((ticks_one e).lease b start calls d))
   ticks_shape Echo (e, (b, start, calls, d)) =
-      at_top c by_time z.ns e (one_asks (only c.top.0) ping_service 7 (own_graph c h) c.top.0 b ping_gives start calls (port_at c.top.0 4) way.Time 0 _ z.ns ((ticks_one e).ping b start calls d))
+      at_top c by_time z.ns e (one_asks ping_service 7 (own_graph c h) c.top.0 b ping_gives start calls (port_at c.top.0 4) way.Time 0 _ z.ns ((ticks_one e).ping b start calls d))
 
   ticks_so : (kind : ChainKind) → IsChainUnderWay kind c g → ComesOf kind c h z.ns
   ticks_so File (t, e, (b, start, calls, body, d)) = two_comes c h t e b start calls body (port_at t.0 4) way.Time 0 (ticked now) z.ns (ticks_two t e b start calls body d)

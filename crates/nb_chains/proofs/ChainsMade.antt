@@ -18,7 +18,6 @@ use Rattle.nb_opens.specs.AloneNotices.{alone_made}
 use Rattle.nb_opens.specs.Alones.{IsReady}
 use Rattle.nb_opens.specs.Notices.{tells, completed_notices}
 use Rattle.nb_opens.specs.Pairs.{AreMade, IsNewTftp}
-use Rattle.nb_opens.proofs.Making.{OneMade, one_made}
 use Rattle.nb_chains.specs.declared.chain.Chain.{Chain}
 use Rattle.nb_chains.specs.declared.kind.ChainKind.{ChainKind}
 use Rattle.nb_chains.specs.declared.kind.ChainKind.TheVariants.{File, Name, Lease, Echo}
@@ -29,12 +28,13 @@ use Rattle.nb_chains.proofs.ChainDoes.{top_in}
 use Rattle.nb_chains.proofs.FreshOnes.{fresh_kept, fresh_ready, made_fresh, made_gives, one_grows, sole_in, sole_is}
 use Rattle.nb_chains.proofs.GivingLemmas.{gives_both, gives_more, gives_none, more_making}
 use Rattle.nb_chains.proofs.GoingOn.{keeps_both}
+use Rattle.nb_chains.proofs.MakingOne.{OneMade, one_made}
 use Rattle.nb_chains.proofs.OfTwo.{other_in}
 use Rattle.nb_chains.proofs.Plugging.{plug_chained, plug_gives, plug_made, plug_number, plug_others, plug_ready, plug_room}
 
 -- the top object
 module _ (g h : Objects Obj) (m n : Heard) (kind : ChainKind) (x : ObjId) (node : Obj) (stands : ObjStands node []) (made : IsMade g h node (rank_of_obj node) x) (k : WentOne ObjStands obj_nature 0 (MustMake x node ∷ Wants (Held x) ∷ []) g h m n) where
-  top_one : OneMade g h m n x.0 node
+  top_one : OneMade g h x.0 node
   top_one = one_made g h m n 0 x node stands made k
 
   pub top_awaits : rank_of_obj node ≡ top_rank kind → mark_of_obj node ≡ top_mark kind → Awaits kind (record { top = x; below = None }) h
@@ -62,7 +62,7 @@ completes_none Echo c g m h = gives_none (IsMakeWithin (is_one_of (chain_ids c))
 
 -- a Tftp is made below a Fetch that waits
 module _ (g a : Objects Obj) (m n : Heard) (x : ℕ) (y : ObjId) (node : Obj) (f : IsFresh g x 5 0) (stands : ObjStands node []) (is : IsNewTftp node) (made : IsMade g a node (rank_of_obj node) y) (k : WentOne ObjStands obj_nature 0 (MustMake y node ∷ Wants (Held y) ∷ []) g a m n) where
-  low_one : OneMade g a m n y.0 node
+  low_one : OneMade g a y.0 node
   low_one = one_made g a m n 0 y node stands made k
 
   pub older : x < y.0

@@ -27,7 +27,6 @@ shut_two g ns f t s = record {
   two = record {
     older = s.two.older;
     last = s.two.last;
-    room = s.two.room;
     fetch_lives = s.two.fetch_lives;
     tftp_lives = s.two.tftp_lives;
     alone = s.two.alone;
@@ -47,7 +46,7 @@ shut_two g ns f t s = record {
 }
 
 shut_sole : (g : Objects Obj) (ns : List Obj) (x : ℕ) → IsShutLone g x → IsShutLone (record { book = g.book; nodes = ns }) x
-shut_sole g ns x s = record { last = s.last; given = s.given; number = s.number; room = s.room; lives = s.lives; others = s.others; held = s.held; ports = s.ports; company = tt }
+shut_sole g ns x s = record { last = s.last; lives = s.lives; others = s.others; held = s.held; ports = s.ports }
 
 shut_by : (b : Option ObjId) (g : Objects Obj) (ns : List Obj) (x : ℕ) → IsShutBy b x g → IsShutBy b x (record { book = g.book; nodes = ns })
 shut_by None g ns x s = shut_sole g ns x s

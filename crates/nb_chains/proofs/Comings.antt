@@ -16,12 +16,10 @@ use Rattle.nb_nodes.specs.Conversations.{first_acts}
 use Rattle.nb_nodes.specs.Exchanges.{Service}
 use Rattle.nb_nodes.specs.Fetches.{body_too_large}
 use Rattle.nb_opens.specs.AloneNotices.{alone_call, alone_end}
-use Rattle.nb_opens.specs.Alones.{AsksMoreBy, BeginsBy, IsShutLone, ReceivesBy, asks_on, comes_to_end, fails_at_once as fails_one, fails_before, is_ignored, is_taken, runs_out, starts}
-use Rattle.nb_opens.specs.Companies.{only}
-use Rattle.nb_opens.specs.Notices.{begun_notices, call_notices, closed_late, down_notices, end_notices, first_close, large_notices, passed_on, sent_from, tells, up_notices}
-use Rattle.nb_opens.specs.PairEvents.{large_back, large_front}
+use Rattle.nb_opens.specs.Alones.{AsksMore, Begins, IsShutLone, Receives, asks_on, comes_to_end, fails_at_once as fails_one, fails_before, is_ignored, is_taken, runs_out, starts}
+use Rattle.nb_opens.specs.Notices.{begun_notices, call_notices, closed_late, down_notices, end_notices, first_close, large_notices, parted_notices, passed_on, sent_from, tells, too_many_notices, up_notices}
 use Rattle.nb_opens.specs.Pairs.{BeginDoes, CallDoes, begins, fails, fails_at_once, goes_on, is_over, is_too_large}
-use Rattle.nb_opens.proofs.Rising.{behind_none}
+use Rattle.nb_opens.proofs.CloseLemmas.{behind_none, sent_closes}
 use Rattle.nb_tftp.specs.Asks.{Begun}
 use Rattle.nb_tftp.specs.History.{Call, Entry}
 use Rattle.nb_chains.specs.declared.chain.Chain.{Chain}
@@ -31,11 +29,6 @@ use Rattle.nb_chains.specs.Calls.{ComesOf, IsChainUnderWay, IsTalking, has_close
 use Rattle.nb_chains.specs.Chains.{IsShutBy, IsShutChain, own_graph}
 
 -- THE FIRST CLOSE
-
--- no message closes anything
-sent_closes : (p : Port) (ms : List Said) → first_close (map (sent_from p) ms) ≡ None
-sent_closes p [] = refl
-sent_closes p (m ∷ ms) = sent_closes p ms
 
 -- of a call on two it is the transfer's end
 pub call_close : (f t : ℕ) (p : Port) (by : Way) (rec : ℕ) (acts : Acts) → first_close (call_notices f t p by rec acts) ≡ acts.over
@@ -52,7 +45,7 @@ call_close f t p by rec acts =
 
 pub large_close : (f t : ℕ) (p : Port) (by : Way) (rec : ℕ) (acts : Acts) → first_close (large_notices f t p by rec acts) ≡ Some body_too_large
 large_close f t p by rec acts =
-    behind_none (down_notices t rec acts) (map tells (large_front f t body_too_large) ++ (passed_on t acts.over ++ (map tells (large_back f t) ++ (closed_late t acts.over ++ (tells (Left p) ∷ []))))) (sent_closes (port_at t 1) (downs_of rec acts))
+    behind_none (down_notices t rec acts) (too_many_notices f t ++ (passed_on t acts.over ++ (parted_notices f t ++ (closed_late t acts.over ++ (tells (Left p) ∷ []))))) (sent_closes (port_at t 1) (downs_of rec acts))
 
 pub begun_close : (f t rec : ℕ) (acts : Acts) → first_close (begun_notices f t rec acts) ≡ None
 begun_close f t rec acts = behind_none (down_notices t rec acts) (tells (Left (port_at t 0)) ∷ tells (Left (port_at f 0)) ∷ []) (sent_closes (port_at t 1) (downs_of rec acts))
@@ -88,17 +81,17 @@ module _ (c : Chain) (g : Objects Obj) (e : c.below ≡ None) (of : ChainKind) {
   shut_one : IsShutLone (own_graph c g) c.top.0 → IsShutChain c g
   shut_one l = subst (λ (w : Option ObjId). IsShutBy w c.top.0 (own_graph c g)) (sym e) l
 
-  pub one_begins : (now rec : ℕ) (ns : List Notice) → (s.opening b).over ≡ None → BeginsBy (only c.top.0) s kind (own_graph c g) c.top.0 b now rec ns → ComesOf of c g ns
+  pub one_begins : (now rec : ℕ) (ns : List Notice) → (s.opening b).over ≡ None → Begins s kind (own_graph c g) c.top.0 b now rec ns → ComesOf of c g ns
   one_begins now rec ns none (starts same d) = stays_under_way (ap first_close same ∙ (alone_close c.top.0 (port_at c.top.0 0) way.Down rec (s.opening b) [] ∙ none)) (is (b, now, [], d))
   one_begins now rec ns none (fails_one z) = has_failed z
 
   module _ (start : ℕ) (calls : List C) where
-    pub one_comes : (p : Port) (by : Way) (rec : ℕ) (call : Acts → C) (ns : List Notice) → AsksMoreBy (only c.top.0) s kind (own_graph c g) c.top.0 b start calls p by rec call ns → ComesOf of c g ns
+    pub one_comes : (p : Port) (by : Way) (rec : ℕ) (call : Acts → C) (ns : List Notice) → AsksMore s kind (own_graph c g) c.top.0 b start calls p by rec call ns → ComesOf of c g ns
     one_comes p by rec call ns (asks_on acts _ none same d) = stays_under_way (ap first_close same ∙ (alone_close c.top.0 p by rec acts [] ∙ none)) (is (b, start, _, d))
     one_comes p by rec call ns (comes_to_end acts z given _ over _ same l) = has_closed z (ap first_close same ∙ (alone_close c.top.0 p by rec acts given ∙ over)) (shut_one l)
     one_comes p by rec call ns (runs_out z) = has_failed z
 
-    pub one_receives_so : (m : Said) (now : ℕ) (ns : List Notice) → ReceivesBy (only c.top.0) s kind (own_graph c g) c.top.0 b start calls m now ns → ComesOf of c g ns
+    pub one_receives_so : (m : Said) (now : ℕ) (ns : List Notice) → Receives s kind (own_graph c g) c.top.0 b start calls m now ns → ComesOf of c g ns
     one_receives_so m now ns (is_taken _ more) = one_comes (port_at c.top.0 1) way.Up m.rec (s.received m now) ns more
     one_receives_so m now ns (is_ignored _ same d) = stays_under_way (ap first_close same) (is (b, start, calls, d))
     one_receives_so m now ns (fails_before z) = has_failed z

@@ -1,26 +1,22 @@
 -- An object that was just made, alone and as a graph of its own.
-use Rattle.std.proofs.Common.{inl, inr, ◌≡◌, ℕ, ◌≤◌, Bool, true, false, List, [], ◌∷◌, length, None, refl, sym, ap, ◌∙◌, subst, arith, nat_lt, if◌then◌else◌}
+use Rattle.std.proofs.Common.{inl, inr, ◌≡◌, ℕ, ◌≤◌, Bool, true, false, List, [], ◌∷◌, None, refl, sym, ap, ◌∙◌, subst, arith, nat_lt, if◌then◌else◌}
 use Rattle.std.specs.List.{AllByRecursion}
 use Rattle.std.proofs.lemmas.Bool.{cases_eq, eq-eqb, ne_eqb, false≢true}
-use Rattle.std.proofs.lemmas.List.{append-nil}
 use Rattle.nb_ledger.specs.declared.port.ObjId.{ObjId}
 use Rattle.nb_ledger.specs.declared.port.PortState.TheVariants as port
-use Rattle.nb_ledger.specs.declared.event.GraphEvent.TheVariants.{Held, Made}
+use Rattle.nb_ledger.specs.declared.event.GraphEvent.TheVariants.{Held}
 use Rattle.nb_ledger.specs.Flat.{Heard}
 use Rattle.nb_ledger.specs.GraphRun.{new_ports}
 use Rattle.nb_ledger.specs.Ledger.{object_lives, holds, port as port_in}
-use Rattle.nb_graph.specs.Deeds.{Deed, MustMake, Stage, Wants, begins, events_of, told_of, writes}
-use Rattle.nb_graph.specs.Follows.{UsesStack, has_begun, held, made_outside}
+use Rattle.nb_graph.specs.Deeds.{MustMake, Stage, Wants, events_of, told_of}
 use Rattle.nb_graph.specs.Lived.{ObjectStands}
 use Rattle.nb_graph.specs.Noded.{AreNoded}
-use Rattle.nb_graph.specs.Scene.{Scene, scene_of}
-use Rattle.nb_graph.specs.Went.{WentOne, all_of}
+use Rattle.nb_graph.specs.Went.{WentOne}
 use Rattle.nb_graph.specs.Whole.{Objects, IsMade}
-use Rattle.nb_graph.proofs.Laws.{only_call}
 use Rattle.nb_frames.specs.Frames.{is_one_of, graph_of, KeepsObject}
 use Rattle.nb_frames.specs.Within.{AreLinkedWithin, LeadsWithin}
 use Rattle.nb_frames.proofs.MadeLemmas.{made_keeps}
-use Rattle.nb_frames.proofs.OwnLemmas.{AreThere, as_many, own_lives, own_holds}
+use Rattle.nb_frames.proofs.OwnLemmas.{AreThere, own_lives, own_holds}
 use Rattle.nb_frames.proofs.OwnCallLemmas.{port_own, node_back}
 use Rattle.nb_nodes.specs.declared.load.Load.{Load}
 use Rattle.nb_nodes.specs.declared.obj.Obj.{Obj}
@@ -28,10 +24,10 @@ use Rattle.nb_nodes.specs.Objects.{kind_of_obj, obj_nature, rank_of_obj, mark_of
 use Rattle.nb_nodes.specs.Standing.{ObjStands}
 use Rattle.nb_opens.specs.AloneNotices.{alone_made}
 use Rattle.nb_opens.specs.Alones.{IsReady}
-use Rattle.nb_opens.proofs.Making.{OneMade}
 use Rattle.nb_chains.specs.Chains.{AreChained, GrowsBy, IsFresh}
 use Rattle.nb_chains.specs.Giving.{CallGives, IsMakeWithin}
 use Rattle.nb_chains.proofs.GivingLemmas.{call_gives}
+use Rattle.nb_chains.proofs.MakingOne.{OneMade, made_all}
 
 -- x is one of x alone, and only x is
 pub sole_in : (x : ℕ) → is_one_of (x ∷ []) x ≡ true
@@ -67,9 +63,6 @@ module _ (g : Objects Obj) (noded : AreNoded rank_of_obj g) (x r kind : ℕ) (f 
   sole_there : AreThere (x ∷ []) g
   sole_there = let n = noded x f.lives in (n.node, f.lives, n.is_node, tt)
 
-  sole_number : length (graph_of (x ∷ []) g).book.objects ≡ 1
-  sole_number = as_many g (x ∷ []) sole_there
-
   sole_others : (y : ℕ) → (y ≡ x → ⊥) → object_lives (graph_of (x ∷ []) g).book y ≡ false
   sole_others y n = own_lives g (x ∷ []) sole_there y ∙ rw (ne_eqb y x n) refl
 
@@ -77,14 +70,10 @@ module _ (g : Objects Obj) (noded : AreNoded rank_of_obj g) (x r kind : ℕ) (f 
   fresh_ready = record {
     lone = record {
       last = refl;
-      given = omega arith;
-      number = sole_number;
-      room = omega arith;
       lives = own_lives g (x ∷ []) sole_there x ∙ rw (sole_in x) f.lives;
       others = sole_others;
       held = own_holds g (x ∷ []) sole_there x ∙ rw (sole_in x) f.held;
       ports = λ k. port_own (x ∷ []) g sole_there x k (sole_in x) ∙ f.ports k;
-      company = tt;
     };
     stands = λ n e. f.stands n (node_back (x ∷ []) g sole_there x n e).1;
     of_kind = λ n e. f.of_kind n (node_back (x ∷ []) g sole_there x n e).1;
@@ -104,7 +93,7 @@ fresh_kept g h x r kind f k later = record {
 
 -- one was made
 module _ (g h : Objects Obj) (m n : Heard) (x : ObjId) (node : Obj) where
-  pub made_fresh : OneMade g h m n x.0 node → IsFresh h x.0 (rank_of_obj node) (mark_of_obj node)
+  pub made_fresh : OneMade g h x.0 node → IsFresh h x.0 (rank_of_obj node) (mark_of_obj node)
   made_fresh one = record {
     given = let e = one.made in omega (arith, e);
     lives = one.live x.0 ∙ rw (eq-eqb x.0 x.0 refl) refl;
@@ -115,7 +104,7 @@ module _ (g h : Objects Obj) (m n : Heard) (x : ObjId) (node : Obj) where
     of_kind = one.own_mark;
   }
 
-  pub one_grows : ObjStands node [] → IsMade g h node (rank_of_obj node) x → WentOne ObjStands obj_nature 0 (MustMake x node ∷ Wants (Held x) ∷ []) g h m n → (one : OneMade g h m n x.0 node) → GrowsBy 1 (record { top = x; below = None }) g h
+  pub one_grows : ObjStands node [] → IsMade g h node (rank_of_obj node) x → WentOne ObjStands obj_nature 0 (MustMake x node ∷ Wants (Held x) ∷ []) g h m n → (one : OneMade g h x.0 node) → GrowsBy 1 (record { top = x; below = None }) g h
   one_grows stands is k one = record {
     chained = fresh_chained h x.0 (rank_of_obj node) (mark_of_obj node) (made_fresh one);
     made = one.made ∙ is.serial;
@@ -124,19 +113,10 @@ module _ (g h : Objects Obj) (m n : Heard) (x : ObjId) (node : Obj) where
     others = λ y low far. made_keeps obj_nature ObjStands 0 x node g h m n k y low;
   }
 
--- what happens where an object is made from outside
-made_deeds : (now : ℕ) (s t : Scene) (x : ObjId) (n : Obj) (ds : List (Deed Obj Load)) → UsesStack obj_nature now s (MustMake x n ∷ Wants (Held x) ∷ []) ds t → ds ≡ writes (Made x (kind_of_obj n)) ∷ begins x.0 n ∷ writes (Held x) ∷ []
-made_deeds now s t x n [] h = absurd h
-made_deeds now s t _ _ (_ ∷ []) (_, made_outside x n f i, h) = absurd h
-made_deeds now s t _ _ (_ ∷ (_ ∷ [])) (_, made_outside x n f i, (_, has_begun _ _, h)) = absurd h
-made_deeds now s t _ _ (_ ∷ (_ ∷ (_ ∷ []))) (_, made_outside x n f i, (_, has_begun _ _, (_, held _ e, h))) = refl
-made_deeds now s t _ _ (_ ∷ (_ ∷ (_ ∷ (_ ∷ ds)))) (_, made_outside x n f i, (_, has_begun _ _, (_, held _ e, h))) = absurd h
-
--- and what the outside is given
+-- what the outside is given
 module _ (g h : Objects Obj) (m n : Heard) (x : ObjId) (node : Obj) (k : WentOne ObjStands obj_nature 0 (MustMake x node ∷ Wants (Held x) ∷ []) g h m n) where
   pub made_gives : (own : ℕ → Bool) → own x.0 ≡ true → CallGives (IsMakeWithin own) g h m n (alone_made x.0 (kind_of_obj node))
   made_gives own o =
       let asks : List (Stage Obj Load) = MustMake x node ∷ Wants (Held x) ∷ [] in
-      let one = only_call obj_nature (scene_of g.book) (scene_of h.book) (record { now = 0; asks = asks }) k.deeds k.each in
-      let all : all_of k.deeds ≡ writes (Made x (kind_of_obj node)) ∷ begins x.0 node ∷ writes (Held x) ∷ [] = ap all_of one.1 ∙ (append-nil one.0 ∙ made_deeds 0 (scene_of g.book) (scene_of h.book) x node one.0 one.2) in
+      let all = made_all g h m n 0 x node k in
       subst (λ e. CallGives (IsMakeWithin own) g h m n (told_of e)) all (call_gives g h m n 0 asks k (IsMakeWithin own) (subst (λ e. AllByRecursion (IsMakeWithin own) (events_of e)) (sym all) (o, (o, tt))))

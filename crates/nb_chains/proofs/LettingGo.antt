@@ -20,7 +20,6 @@ use Rattle.nb_nodes.specs.Objects.{obj_nature, rank_of_obj}
 use Rattle.nb_nodes.specs.Standing.{ObjStands}
 use Rattle.nb_opens.specs.AloneNotices.{alone_freed}
 use Rattle.nb_opens.specs.Pairs.{AreShut}
-use Rattle.nb_opens.proofs.Releasing.{loose_shut}
 use Rattle.nb_chains.specs.declared.chain.Chain.{Chain}
 use Rattle.nb_chains.specs.Calls.{ReleasesChain}
 use Rattle.nb_chains.specs.Chains.{AreChained, IsReleased, IsShutBy, IsShutChain, below_ids, chain_ids}
@@ -30,6 +29,7 @@ use Rattle.nb_chains.proofs.GivingLemmas.{gives_both, gives_more, more_within}
 use Rattle.nb_chains.proofs.GoingOn.{keeps_both}
 use Rattle.nb_chains.proofs.OfTwo.{first_in, other_in, of_two}
 use Rattle.nb_chains.proofs.ShapesOf.{freed_stays}
+use Rattle.nb_chains.proofs.Releasing.{four}
 use Rattle.nb_chains.proofs.LettingOneGo.{goes, goes_gives, goes_number, goes_others, is_gone, sole_loose, sole_released}
 
 -- two
@@ -47,10 +47,10 @@ module _ (g : Objects Obj) (f t : ℕ) (noded : AreNoded rank_of_obj g) (c : Are
   }
 
   pub first_loose : LivesUnlinked g f
-  first_loose = loose_at f (first_in f t) (loose_shut (graph_of (f ∷ t ∷ []) g) f t s).fetch_links
+  first_loose = loose_at f (first_in f t) (four (λ k. link_count (port_in (graph_of (f ∷ t ∷ []) g).book f k) ≡ 0) (ap link_count s.user) (ap link_count s.link) (ap link_count s.two.fetch_2) (ap link_count s.two.fetch_3))
 
   pub other_loose : LivesUnlinked g t
-  other_loose = loose_at t (other_in f t) (loose_shut (graph_of (f ∷ t ∷ []) g) f t s).tftp_links
+  other_loose = loose_at t (other_in f t) (four (λ k. link_count (port_in (graph_of (f ∷ t ∷ []) g).book t k) ≡ 0) (ap link_count s.back) (ap link_count s.below) (ap link_count s.two.tftp_2) (ap link_count s.two.tftp_3))
 
   pub both_loose : AreUnlinked g f t
   both_loose = record { different = λ e. let lt = s.two.older in omega (arith, e, lt); first = first_loose; other = other_loose }

@@ -24,7 +24,6 @@ use Rattle.nb_nodes.specs.Objects.{obj_nature, rank_of_obj}
 use Rattle.nb_nodes.specs.Standing.{ObjStands}
 use Rattle.nb_opens.specs.AloneNotices.{alone_freed}
 use Rattle.nb_opens.specs.Alones.{IsShutLone}
-use Rattle.nb_opens.proofs.Releasing.{LetsGo, lets_one_go, no_links, four}
 use Rattle.nb_chains.specs.Calls.{ReleasesChain}
 use Rattle.nb_chains.specs.Chains.{AreChained}
 use Rattle.nb_chains.specs.Ends.{LivesUnlinked}
@@ -32,6 +31,7 @@ use Rattle.nb_chains.specs.Giving.{CallGives}
 use Rattle.nb_chains.proofs.FreshOnes.{sole_in, sole_is}
 use Rattle.nb_chains.proofs.GivingLemmas.{call_gives, events_within, known_call, known_notices}
 use Rattle.nb_chains.proofs.NoMakes.{makes_none}
+use Rattle.nb_chains.proofs.Releasing.{LetsGo, lets_one_go, no_links, four}
 use Rattle.nb_chains.proofs.ShapesOf.{alone_freed_stays}
 
 no_link : (own : ℕ → Bool) (v : PortState) → link_count v ≡ 0 → LeadsWithin own v
@@ -107,5 +107,5 @@ sole_released g h m n x l k = record {
     number = goes_number g h m n x l k;
     same_room = (goes g h m n x l k).room;
   };
-  shape = alone_freed_stays x.0;
+  shape = alone_freed_stays x.0 x.0;
 }

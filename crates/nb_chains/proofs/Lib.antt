@@ -11,10 +11,12 @@ pub mod ChainBegins
 pub mod ChainReceives
 pub mod ChainCloses
 pub mod GoingOn
+pub mod MakingOne
 pub mod FreshOnes
 pub mod OfTwo
 pub mod Plugging
 pub mod ChainsMade
+pub mod Releasing
 pub mod LettingOneGo
 pub mod LettingGo
 pub mod FreeSlots

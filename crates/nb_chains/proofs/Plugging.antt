@@ -31,7 +31,7 @@ use Rattle.nb_nodes.specs.Objects.{obj_nature, rank_of_obj}
 use Rattle.nb_nodes.specs.Standing.{ObjStands}
 use Rattle.nb_opens.specs.Notices.{tells}
 use Rattle.nb_opens.specs.Pairs.{AreMade}
-use Rattle.nb_opens.specs.Waiters.{IsOfKind}
+use Rattle.nb_opens.specs.Marks.{IsOfKind}
 use Rattle.nb_chains.specs.Chains.{AreChained, IsFresh, StandsForSome}
 use Rattle.nb_chains.specs.Giving.{CallGives, IsMakeWithin}
 use Rattle.nb_chains.proofs.OfTwo.{first_in, neither_in, of_two, other_in}
@@ -165,7 +165,6 @@ module _ (b h : Objects Obj) (m n : Heard) (x y : ℕ) (lt : x < y) (top : IsFre
         two = record {
           older = lt;
           last = refl;
-          room = omega arith;
           fetch_lives = own_lives h ids there x ∙ rw (first_in x y) lives_x;
           tftp_lives = own_lives h ids there y ∙ rw (other_in x y) lives_y;
           alone = λ z i j. own_lives h ids there z ∙ rw (neither_in x y z i j) refl;

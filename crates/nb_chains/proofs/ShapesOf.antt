@@ -5,7 +5,7 @@ use Rattle.nb_terms.specs.declared.acts.Acts.{Acts}
 use Rattle.nb_terms.specs.declared.acts.SendTo.{SendTo}
 use Rattle.nb_terms.specs.declared.cause.Cause.{Cause}
 use Rattle.nb_ledger.specs.declared.event.GraphEvent.{GraphEvent}
-use Rattle.nb_ledger.specs.declared.event.GraphEvent.TheVariants.{Entered, Left}
+use Rattle.nb_ledger.specs.declared.event.GraphEvent.TheVariants.{Closed, Dropped, Entered, Freed, Left, LetGo, Unplugged}
 use Rattle.nb_ledger.specs.declared.event.Way.{Way}
 use Rattle.nb_ledger.specs.declared.event.Way.TheVariants as way
 use Rattle.nb_ledger.specs.declared.port.Port.{Port}
@@ -15,10 +15,8 @@ use Rattle.nb_graph.specs.Whole.{port_at}
 use Rattle.nb_nodes.specs.Carried.{advance_said, datagram_said, downs_of, try_tag}
 use Rattle.nb_nodes.specs.Fetches.{body_too_large}
 use Rattle.nb_nodes.specs.Tags.{tag_number}
-use Rattle.nb_opens.specs.AloneEvents.{alone_closed_events, alone_end_events, alone_freed_events, alone_shut_events}
-use Rattle.nb_opens.specs.AloneNotices.{alone_call, alone_closed, alone_end, alone_freed, alone_ignored, alone_shut}
-use Rattle.nb_opens.specs.Notices.{begun_notices, call_notices, closed_late, closed_notices, down_notices, end_notices, freed_notices, large_notices, passed_on, sent_from, shut_notices, tells, up_notices}
-use Rattle.nb_opens.specs.PairEvents.{closed_events, end_events, freed_events, large_back, large_front, late_events, passed_events, shut_events, up_events}
+use Rattle.nb_opens.specs.AloneNotices.{all_closed, alone_call, alone_closed, alone_end, alone_freed, alone_ignored, alone_shut}
+use Rattle.nb_opens.specs.Notices.{begun_notices, call_notices, closed_late, closed_notices, down_notices, end_notices, freed_notices, large_notices, parted_notices, passed_on, sent_from, serial, shut_notices, tells, too_many_notices, up_notices}
 use Rattle.nb_chains.specs.Shapes.{EndsInEntry, GoesDownOut, HasShape, IsNoCall, IsTagDown, IsTagUp, SendsNone, StaysAbove}
 use Rattle.nb_chains.proofs.GivingLemmas.{each_append}
 
@@ -47,7 +45,7 @@ downs_go x rec acts =
 -- WHAT STAYS ABOVE
 
 -- events of which none is an entry of x from outside
-pub stay : (x : ℕ) (es : List GraphEvent) → AllByRecursion (IsNoCall x) es → SendsNone x (map tells es)
+stay : (x : ℕ) (es : List GraphEvent) → AllByRecursion (IsNoCall x) es → SendsNone x (map tells es)
 stay x [] q = tt
 stay x (e ∷ es) q = ((e, refl, q.0), stay x es q.1)
 
@@ -76,19 +74,21 @@ module _ (f t : ℕ) (lt : f < t) where
 
   ups : (give : Option (ℕ × ℕ)) → SendsNone t (up_notices f give)
   ups None = tt
-  ups (Some range) = stay t (up_events f (Some range)) (apart, (tt, tt))
+  ups (Some range) = stay t (Entered (port_at f 1) way.Up ∷ Left (port_at f 1) ∷ []) (apart, (tt, tt))
 
   ends : (over : Option Cause) → SendsNone t (end_notices f t over)
   ends None = tt
-  ends (Some c) = stay t (end_events f t (Some c)) (tt, (tt, (tt, (tt, (tt, (tt, (tt, tt)))))))
+  ends (Some c) =
+      stay t (Closed (port_at t 0) c ∷ Closed (port_at f 1) c ∷ Entered (port_at f 1) way.Close ∷ Closed (port_at f 0) c ∷ Left (port_at f 1) ∷ Unplugged (port_at t 0) (port_at f 1) ∷ Closed (port_at t 1) c ∷ [])
+      (tt, (tt, (tt, (tt, (tt, (tt, (tt, tt)))))))
 
   passes : (over : Option Cause) → SendsNone t (passed_on t over)
-  passes None = stay t (passed_events t body_too_large None) (tt, tt)
+  passes None = stay t (Closed (port_at t 1) body_too_large ∷ []) (tt, tt)
   passes (Some c) = tt
 
   late : (over : Option Cause) → SendsNone t (closed_late t over)
   late None = tt
-  late (Some c) = stay t (late_events t (Some c)) (tt, tt)
+  late (Some c) = stay t (Closed (port_at t 1) c ∷ []) (tt, tt)
 
   leaves : (p : Port) → SendsNone t (tells (Left p) ∷ [])
   leaves p = stay t (Left p ∷ []) (tt, tt)
@@ -105,18 +105,26 @@ module _ (f t : ℕ) (lt : f < t) where
   }
 
   -- the body has grown too large
-  large_stays : (p : Port) (over : Option Cause) → SendsNone t (map tells (large_front f t body_too_large) ++ (passed_on t over ++ (map tells (large_back f t) ++ (closed_late t over ++ (tells (Left p) ∷ [])))))
+  too_many : SendsNone t (too_many_notices f t)
+  too_many =
+      stay t (Entered (port_at f 1) way.Up ∷ Closed (port_at f 0) body_too_large ∷ Closed (port_at f 1) body_too_large ∷ Closed (port_at t 0) body_too_large ∷ Entered (port_at t 0) way.Close ∷ [])
+      (apart, (tt, (tt, (tt, (tt, tt)))))
+
+  parted : SendsNone t (parted_notices f t)
+  parted = stay t (Left (port_at t 0) ∷ Unplugged (port_at f 1) (port_at t 0) ∷ Dropped (port_at f 1) ∷ Left (port_at f 1) ∷ []) (tt, (tt, (tt, (tt, tt))))
+
+  large_stays : (p : Port) (over : Option Cause) → SendsNone t (too_many_notices f t ++ (passed_on t over ++ (parted_notices f t ++ (closed_late t over ++ (tells (Left p) ∷ [])))))
   large_stays p over =
-      stay_both t (map tells (large_front f t body_too_large)) (passed_on t over ++ (map tells (large_back f t) ++ (closed_late t over ++ (tells (Left p) ∷ [])))) (stay t (large_front f t body_too_large) (apart, (tt, (tt, (tt, (tt, tt))))))
-      (stay_both t (passed_on t over) (map tells (large_back f t) ++ (closed_late t over ++ (tells (Left p) ∷ []))) (passes over)
-      (stay_both t (map tells (large_back f t)) (closed_late t over ++ (tells (Left p) ∷ [])) (stay t (large_back f t) (tt, (tt, (tt, (tt, tt)))))
+      stay_both t (too_many_notices f t) (passed_on t over ++ (parted_notices f t ++ (closed_late t over ++ (tells (Left p) ∷ [])))) too_many
+      (stay_both t (passed_on t over) (parted_notices f t ++ (closed_late t over ++ (tells (Left p) ∷ []))) (passes over)
+      (stay_both t (parted_notices f t) (closed_late t over ++ (tells (Left p) ∷ [])) parted
       (stay_both t (closed_late t over) (tells (Left p) ∷ []) (late over) (leaves p))))
 
   pub large_shape : (p : Port) (by : Way) (rec : ℕ) (acts : Acts) → HasShape t (Some (Entered p by)) (large_notices f t p by rec acts)
   large_shape p by rec acts = record {
     first = Entered p by ∷ [];
     downs = down_notices t rec acts;
-    back = map tells (large_front f t body_too_large) ++ (passed_on t acts.over ++ (map tells (large_back f t) ++ (closed_late t acts.over ++ (tells (Left p) ∷ []))));
+    back = too_many_notices f t ++ (passed_on t acts.over ++ (parted_notices f t ++ (closed_late t acts.over ++ (tells (Left p) ∷ []))));
     all = refl;
     begins = refl;
     go_down = downs_go t rec acts;
@@ -134,21 +142,36 @@ begun_shape f t rec acts = record {
   stay = stay t (Left (port_at t 0) ∷ Left (port_at f 0) ∷ []) (tt, (tt, tt));
 }
 
+-- the ports of x are closed, or it is let go
+pub two_closed_stay : (y x j k : ℕ) (c : Cause) → SendsNone y (tells (Closed (port_at x j) c) ∷ tells (Closed (port_at x k) c) ∷ [])
+two_closed_stay y x j k c = stay y (Closed (port_at x j) c ∷ Closed (port_at x k) c ∷ []) (tt, (tt, tt))
+
+pub all_closed_stay : (y x : ℕ) (c : Cause) → SendsNone y (all_closed x c)
+all_closed_stay y x c = stay_both y (alone_closed x c) (tells (Closed (port_at x 2) c) ∷ tells (Closed (port_at x 3) c) ∷ []) (two_closed_stay y x 0 1 c) (two_closed_stay y x 2 3 c)
+
+pub alone_freed_stays : (y x : ℕ) → SendsNone y (alone_freed x)
+alone_freed_stays y x = stay y (LetGo (serial x) ∷ Freed (serial x) ∷ []) (tt, (tt, tt))
+
 pub closed_stays : (f t : ℕ) (c : Cause) → SendsNone t (closed_notices f t c)
-closed_stays f t c = stay t (closed_events f t c) (tt, (tt, (tt, (tt, (tt, (tt, (tt, tt)))))))
+closed_stays f t c =
+    stay t (Closed (port_at f 0) c ∷ Closed (port_at f 1) c ∷ Closed (port_at t 0) c ∷ Entered (port_at t 0) way.Close ∷ Closed (port_at t 1) c ∷ Left (port_at t 0) ∷ Unplugged (port_at f 1) (port_at t 0) ∷ [])
+    (tt, (tt, (tt, (tt, (tt, (tt, (tt, tt)))))))
 
 pub freed_stays : (f t : ℕ) → SendsNone t (freed_notices f t)
-freed_stays f t = stay t (freed_events f t) (tt, (tt, (tt, (tt, tt))))
+freed_stays f t = stay_both t (alone_freed f) (alone_freed t) (alone_freed_stays t f) (alone_freed_stays t t)
 
 pub shut_stays : (f t : ℕ) (c : Cause) → SendsNone t (shut_notices f t c)
-shut_stays f t c = stay t (shut_events f t c) (tt, (tt, (tt, (tt, (tt, (tt, (tt, (tt, (tt, (tt, (tt, (tt, (tt, (tt, (tt, tt)))))))))))))))
+shut_stays f t c =
+    let free : ℕ → List Notice = λ x. tells (Closed (port_at x 2) c) ∷ tells (Closed (port_at x 3) c) ∷ [] in
+    stay_both t (closed_notices f t c) ((free f ++ free t) ++ freed_notices f t) (closed_stays f t c)
+    (stay_both t (free f ++ free t) (freed_notices f t) (stay_both t (free f) (free t) (two_closed_stay t f 2 3 c) (two_closed_stay t t 2 3 c)) (freed_stays f t))
 
 -- ONE
 
 module _ (x : ℕ) where
   alone_ends : (over : Option Cause) → SendsNone x (alone_end x over)
   alone_ends None = tt
-  alone_ends (Some c) = stay x (alone_end_events x (Some c)) (tt, (tt, tt))
+  alone_ends (Some c) = two_closed_stay x x 0 1 c
 
   alone_stays : (p : Port) (over : Option Cause) (given : List Said) → AllByRecursion (λ (m : Said). IsTagUp m.tag) given → SendsNone x (map (sent_from (port_at x 0)) given ++ (alone_end x over ++ (tells (Left p) ∷ [])))
   alone_stays p over given up =
@@ -182,10 +205,7 @@ module _ (x : ℕ) where
   }
 
   pub alone_closed_stays : (c : Cause) → SendsNone x (alone_closed x c)
-  alone_closed_stays c = stay x (alone_closed_events x c) (tt, (tt, tt))
-
-  pub alone_freed_stays : SendsNone x (alone_freed x)
-  alone_freed_stays = stay x (alone_freed_events x) (tt, (tt, tt))
+  alone_closed_stays c = two_closed_stay x x 0 1 c
 
   pub alone_shut_stays : (c : Cause) → SendsNone x (alone_shut x c)
-  alone_shut_stays c = stay x (alone_shut_events x c) (tt, (tt, (tt, (tt, (tt, (tt, tt))))))
+  alone_shut_stays c = stay_both x (all_closed x c) (alone_freed x) (all_closed_stay x x c) (alone_freed_stays x x)

@@ -1,22 +1,19 @@
 -- The end of a run for a chain beside which another one waits.
 use Rattle.std.proofs.Common.{inl, inr, ◌≡◌, ℕ, ◌≤◌, true, false, List, [], ◌∷◌, ◌++◌, Option, Some, None, refl, sym, ap, ◌∙◌, subst, arith}
 use Rattle.nb_terms.specs.declared.cause.Cause.{Cause}
-use Rattle.nb_ledger.specs.declared.event.GraphEvent.TheVariants.{Closed}
 use Rattle.nb_ledger.specs.declared.port.ObjId.{ObjId}
 use Rattle.nb_ledger.specs.Flat.{Heard, Notice}
 use Rattle.nb_ledger.specs.declared.port.PortState.{PortState}
 use Rattle.nb_ledger.specs.declared.port.PortState.TheVariants as port
 use Rattle.nb_ledger.specs.Ledger.{object_lives, port as port_in}
 use Rattle.nb_graph.specs.Noded.{AreNoded}
-use Rattle.nb_graph.specs.Whole.{Objects, port_at}
+use Rattle.nb_graph.specs.Whole.{Objects}
 use Rattle.nb_frames.specs.Frames.{is_one_of, graph_of, KeepsObject, KeepsOthers}
 use Rattle.nb_frames.specs.Within.{IsEventWithin, LeadsWithin}
 use Rattle.nb_frames.proofs.OwnCallLemmas.{either_way}
 use Rattle.nb_nodes.specs.declared.obj.Obj.{Obj}
 use Rattle.nb_nodes.specs.Objects.{rank_of_obj}
-use Rattle.nb_opens.specs.AloneEvents.{alone_freed_events, all_closed_events}
-use Rattle.nb_opens.specs.AloneNotices.{alone_freed}
-use Rattle.nb_opens.specs.Companies.{all_closed}
+use Rattle.nb_opens.specs.AloneNotices.{all_closed, alone_freed}
 use Rattle.nb_chains.specs.declared.chain.Chain.{Chain}
 use Rattle.nb_chains.specs.declared.kind.ChainKind.{ChainKind}
 use Rattle.nb_chains.specs.Calls.{ClosesPorts, IsOpenBy, IsOpenChain, ReleasesChain, ShutsChainBeside, beside_notices, closing_notices, ports_closed_notices}
@@ -33,30 +30,27 @@ use Rattle.nb_chains.proofs.GoingOn.{others_both}
 use Rattle.nb_chains.proofs.LettingGo.{loose_kept}
 use Rattle.nb_chains.proofs.OfBoth.{away_from, gives_of_more, in_either, in_first, in_last, others_of_more}
 use Rattle.nb_chains.proofs.OfTwo.{first_in, other_in}
-use Rattle.nb_chains.proofs.ShapesOf.{alone_freed_stays, freed_stays, stay}
+use Rattle.nb_chains.proofs.ShapesOf.{all_closed_stay, alone_freed_stays, freed_stays, two_closed_stay}
 use Rattle.nb_chains.proofs.Staying.{goes_stays}
 
 -- WHAT IT GIVES
 
 -- nothing goes down
-free_stay : (y x : ℕ) (z : Cause) → SendsNone y (free_slot_notices x z)
-free_stay y x z = stay y (Closed (port_at x 2) z ∷ Closed (port_at x 3) z ∷ []) (tt, (tt, tt))
-
 all_free_stay : (y x : ℕ) (b : Option ObjId) (z : Cause) → SendsNone y (free_notices x b z)
-all_free_stay y x None z = free_stay y x z
-all_free_stay y x (Some t) z = each_append (StaysAbove y) (free_slot_notices x z) (free_slot_notices t.0 z) (free_stay y x z) (free_stay y t.0 z)
+all_free_stay y x None z = two_closed_stay y x 2 3 z
+all_free_stay y x (Some t) z = each_append (StaysAbove y) (free_slot_notices x z) (free_slot_notices t.0 z) (two_closed_stay y x 2 3 z) (two_closed_stay y t.0 2 3 z)
 
 released_stays_above : (x : ℕ) (b : Option ObjId) → SendsNone (last_below x b) (released_by x b)
-released_stays_above x None = alone_freed_stays x
+released_stays_above x None = alone_freed_stays x x
 released_stays_above x (Some t) = freed_stays x t.0
 
 beside_stays : (w : ℕ) (c : Chain) (z : Cause) → SendsNone (last_serial c) (beside_notices w c z)
 beside_stays w c z =
     let x = last_serial c in
     let ports = each_append (StaysAbove x) (closing_notices c.top.0 c.below z) (free_notices c.top.0 c.below z) (close_stays c.top.0 c.below z) (all_free_stay x c.top.0 c.below z) in
-    let gone = each_append (StaysAbove x) (alone_freed w) (released_notices c) (stay x (alone_freed_events w) (tt, (tt, tt))) (released_stays_above c.top.0 c.below) in
+    let gone = each_append (StaysAbove x) (alone_freed w) (released_notices c) (alone_freed_stays x w) (released_stays_above c.top.0 c.below) in
     let rest = each_append (StaysAbove x) (ports_closed_notices c.top.0 c.below z) (alone_freed w ++ released_notices c) ports gone in
-    each_append (StaysAbove x) (all_closed w z) (ports_closed_notices c.top.0 c.below z ++ (alone_freed w ++ released_notices c)) (stay x (all_closed_events w z) (tt, (tt, (tt, (tt, tt))))) rest
+    each_append (StaysAbove x) (all_closed w z) (ports_closed_notices c.top.0 c.below z ++ (alone_freed w ++ released_notices c)) (all_closed_stay x w z) rest
 
 -- its first close is after those of what waits
 past_others : (ids : List ℕ) (w : ℕ) (z : Cause) (ns : List Notice) → is_one_of ids w ≡ false → first_close_among ids (all_closed w z ++ ns) ≡ first_close_among ids ns

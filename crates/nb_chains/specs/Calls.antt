@@ -22,21 +22,23 @@ use Rattle.nb_nodes.specs.EchoExchanges.{ping_service}
 use Rattle.nb_nodes.specs.Exchanges.{Service}
 use Rattle.nb_nodes.specs.LeaseExchanges.{lease_service}
 use Rattle.nb_nodes.specs.LookupExchanges.{lookup_service}
-use Rattle.nb_opens.specs.declared.alone.AloneKind.TheVariants.{Resolver, Dhcp, Ping}
-use Rattle.nb_opens.specs.AloneNotices.{alone_closed, alone_freed, alone_shut}
-use Rattle.nb_opens.specs.Alones.{Begins, IsOpenLone, IsReady, IsShutLone, ReceiveAllBy, Talks, TickAllBy, alone_number}
-use Rattle.nb_opens.specs.Companies.{all_closed, only}
+use Rattle.nb_nodes.specs.declared.tag.Tag.TheVariants.{Datagram}
+use Rattle.nb_nodes.specs.Tags.{tag_number}
+use Rattle.nb_opens.specs.AloneNotices.{all_closed, alone_closed, alone_freed, alone_shut}
+use Rattle.nb_opens.specs.Alones.{Begins, IsOpenLone, IsReady, IsShutLone, ReceivesEach, Talks, TicksEach}
 use Rattle.nb_opens.specs.Notices.{closed_notices, first_close, shut_notices}
 use Rattle.nb_opens.specs.Pairs.{AreGoing, AreMade, BeginDoes, CallDoes, Downloads, HasEnded, IsDownloading}
 use Rattle.nb_ping.specs.Pings.{Pinged}
 use Rattle.nb_tftp.specs.Asks.{Begun}
 use Rattle.nb_tftp.specs.History.{Call, Entry}
+use Rattle.nb_chains.specs.declared.arrival.Arrival.{Arrival}
 use Rattle.nb_chains.specs.declared.chain.Chain.{Chain}
 use Rattle.nb_chains.specs.declared.kind.ChainKind.{ChainKind}
 use Rattle.nb_chains.specs.declared.kind.ChainKind.TheVariants.{File, Name, Lease, Echo}
 use Rattle.nb_chains.specs.Chains.{IsReadyChain, IsReleased, IsShutChain, chain_ids, last_serial, own_graph, released_notices}
 use Rattle.nb_chains.specs.Ends.{HasNoLinks, first_close_among, free_notices}
 use Rattle.nb_chains.specs.Giving.{CallGives, ChainGives}
+use Rattle.nb_chains.specs.Kinds.{top_mark}
 use Rattle.nb_chains.specs.Shapes.{HasShapeOrFails, SendsNone}
 
 -- WHAT IS UNDER WAY
@@ -48,9 +50,9 @@ IsTalking {S} {B} {C} s kind g x = (b : B) × (start : ℕ) × (calls : List C) 
 -- an open of this kind is under way
 abbrev pub IsChainUnderWay : ChainKind → Chain → Objects Obj → Type 0
 IsChainUnderWay File c g = (t : ObjId) × (c.below ≡ Some t) × IsDownloading (own_graph c g) c.top.0 t.0
-IsChainUnderWay Name c g = (c.below ≡ None) × IsTalking lookup_service (alone_number Resolver) (own_graph c g) c.top.0
-IsChainUnderWay Lease c g = (c.below ≡ None) × IsTalking lease_service (alone_number Dhcp) (own_graph c g) c.top.0
-IsChainUnderWay Echo c g = (c.below ≡ None) × IsTalking ping_service (alone_number Ping) (own_graph c g) c.top.0
+IsChainUnderWay Name c g = (c.below ≡ None) × IsTalking lookup_service (top_mark Name) (own_graph c g) c.top.0
+IsChainUnderWay Lease c g = (c.below ≡ None) × IsTalking lease_service (top_mark Lease) (own_graph c g) c.top.0
+IsChainUnderWay Echo c g = (c.below ≡ None) × IsTalking ping_service (top_mark Echo) (own_graph c g) c.top.0
 
 -- What has come of a call: nothing was closed, and the open is under way; or its ports are closed, with the cause of the first
 -- close; or memory ran out.
@@ -84,9 +86,9 @@ pub record BeginsChain (c : Chain) (old new : Objects Obj) (bytes : List ℕ) (n
   pub ns : List Notice
   pub gives : ChainGives c old new before after ns
   pub file : BeginsTwo c old new bytes now rec ns
-  pub lookup : BeginsOne lookup_service (alone_number Resolver) c old new bytes now rec ns
-  pub lease : BeginsOne lease_service (alone_number Dhcp) c old new bytes now rec ns
-  pub echo : BeginsOne ping_service (alone_number Ping) c old new bytes now rec ns
+  pub lookup : BeginsOne lookup_service (top_mark Name) c old new bytes now rec ns
+  pub lease : BeginsOne lease_service (top_mark Lease) c old new bytes now rec ns
+  pub echo : BeginsOne ping_service (top_mark Echo) c old new bytes now rec ns
   pub shape : (kind : ChainKind) → IsReadyChain kind c old → IsAsk kind bytes → HasShapeOrFails (last_serial c) None ns
   pub comes : (kind : ChainKind) → IsReadyChain kind c old → IsAsk kind bytes → ComesOf kind c new ns
 
@@ -98,12 +100,26 @@ CallsTwo c old new at by rec call ns =
     (t : ObjId) → c.below ≡ Some t → (b : Begun) (start : ℕ) (calls : List Entry) (body : List ℕ) → Downloads (own_graph c old) c.top.0 t.0 b start calls body
     → CallDoes (own_graph c new) c.top.0 t.0 b start calls body (at t.0) by rec call ns
 
--- what a message or a time does to one that asks by itself, for each exchange that may be under way
+-- what a message or a time does to the one object x that asks by itself, of each kind
+pub record ReceivesAny (old new : Objects Obj) (x : ℕ) (m : Said) (now : ℕ) (ns : List Notice) : Type 0 where
+  pub lookup : ReceivesEach lookup_service (top_mark Name) old new x m now ns
+  pub lease : ReceivesEach lease_service (top_mark Lease) old new x m now ns
+  pub ping : ReceivesEach ping_service (top_mark Echo) old new x m now ns
+
+pub record TicksAny (old new : Objects Obj) (x now : ℕ) (ns : List Notice) : Type 0 where
+  pub lookup : TicksEach lookup_service (top_mark Name) old new x now ns
+  pub lease : TicksEach lease_service (top_mark Lease) old new x now ns
+  pub ping : TicksEach ping_service (top_mark Echo) old new x now ns
+
 abbrev pub ReceivesOne : Chain → Objects Obj → Objects Obj → Said → ℕ → List Notice → Type 0
-ReceivesOne c old new m now ns = c.below ≡ None → ReceiveAllBy (only c.top.0) (own_graph c old) (own_graph c new) c.top.0 m now ns
+ReceivesOne c old new m now ns = c.below ≡ None → ReceivesAny (own_graph c old) (own_graph c new) c.top.0 m now ns
 
 abbrev pub TicksOne : Chain → Objects Obj → Objects Obj → ℕ → List Notice → Type 0
-TicksOne c old new now ns = c.below ≡ None → TickAllBy (only c.top.0) (own_graph c old) (own_graph c new) c.top.0 now ns
+TicksOne c old new now ns = c.below ≡ None → TicksAny (own_graph c old) (own_graph c new) c.top.0 now ns
+
+-- a message that comes from below
+abbrev pub arrival_said : ℕ → Arrival → Said
+arrival_said rec a = record { tag = tag_number Datagram; rec = rec; a = a.port; b = a.source.0; bytes = a.body.now }
 
 -- A message comes to the last object, in the record rec: to a transfer it is this call, to one that asks by itself this message.
 pub record ReceivesChain (c : Chain) (old new : Objects Obj) (rec : ℕ) (call : Call) (m : Said) (now : ℕ) (before after : Heard) : Type 0 where

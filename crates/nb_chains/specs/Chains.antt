@@ -8,7 +8,7 @@ use Rattle.nb_ledger.specs.Flat.{Notice}
 use Rattle.nb_opens.specs.AloneNotices.{alone_freed, alone_made}
 use Rattle.nb_opens.specs.Alones.{IsReady, IsShutLone}
 use Rattle.nb_opens.specs.Notices.{completed_notices, freed_notices}
-use Rattle.nb_opens.specs.Waiters.{IsOfKind}
+use Rattle.nb_opens.specs.Marks.{IsOfKind}
 use Rattle.nb_opens.specs.Pairs.{AreMade, AreShut}
 use Rattle.nb_graph.specs.Lived.{ObjectStands}
 use Rattle.nb_graph.specs.Trace.{NodeEntry}
@@ -93,9 +93,9 @@ pub record GrowsBy (count : ℕ) (c : Chain) (g h : Objects Obj) : Type 0 where
 -- All objects of such an open are there, and nothing was asked of them.
 abbrev pub IsReadyChain : ChainKind → Chain → Objects Obj → Type 0
 IsReadyChain File c g = (t : ObjId) × (c.below ≡ Some t) × AreMade (own_graph c g) c.top.0 t.0
-IsReadyChain Name c g = (c.below ≡ None) × IsReady (own_graph c g) c.top.0 5
-IsReadyChain Lease c g = (c.below ≡ None) × IsReady (own_graph c g) c.top.0 6
-IsReadyChain Echo c g = (c.below ≡ None) × IsReady (own_graph c g) c.top.0 7
+IsReadyChain Name c g = (c.below ≡ None) × IsReady (own_graph c g) c.top.0 (top_mark Name)
+IsReadyChain Lease c g = (c.below ≡ None) × IsReady (own_graph c g) c.top.0 (top_mark Lease)
+IsReadyChain Echo c g = (c.below ≡ None) × IsReady (own_graph c g) c.top.0 (top_mark Echo)
 
 -- what the outside is given where the top object is made, and where the others are
 abbrev pub waits_notices : ChainKind → ℕ → List Notice

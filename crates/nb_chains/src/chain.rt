@@ -1,5 +1,5 @@
 ghost use Rattle.std.specs.Prelude.{◌≡◌, ◌+◌, ◌<◌, ◌≤◌, ◌^◌, ◌++◌, ◌∷◌, [], ℕ, List, Option, Some, true, length};
-ghost use Rattle.nb_chains.specs.Calls.{BeginsChain, ClosesChain, ClosesPorts, IsOpenChain, ReceivesChain, ReleasesChain, ShutsChain, ShutsChainBeside, TicksChain};
+ghost use Rattle.nb_chains.specs.Calls.{arrival_said, BeginsChain, ClosesChain, ClosesPorts, IsOpenChain, ReceivesChain, ReleasesChain, ShutsChain, ShutsChainBeside, TicksChain};
 ghost use Rattle.nb_chains.specs.Chains.{AreChained, AreOthers, Awaits, GoesOn, IsShutChain, chain_ids, last_serial, own_graph, source_for};
 ghost use Rattle.nb_chains.specs.Ends.{AreUnlinked, FreesSlots, HasNoLinks};
 ghost use Rattle.nb_frames.specs.Frames.{is_one_of};
@@ -11,16 +11,15 @@ ghost use Rattle.nb_ledger.specs.declared.event.GraphEvent.TheVariants.{LetGo};
 ghost use Rattle.nb_ledger.specs.declared.port.ObjId.{ObjId as TheObjId};
 ghost use Rattle.nb_nodes.specs.Objects.{obj_nature};
 ghost use Rattle.nb_nodes.specs.Standing.{ObjStands};
-ghost use Rattle.nb_opens.specs.Alones.{arrival_said};
 ghost use Rattle.nb_opens.specs.Pairs.{HasEnded, body_in};
 ghost use Rattle.nb_tftp.specs.History.{came, ticked};
 ghost use Rattle.nb_tftp.specs.Received.{received};
 
+use crate::arrival::Arrival;
 use crate::kind::ChainKind;
 use nb_graph::{Graph, Msg, ObjId, Outside, Port};
 use nb_image::Body;
 use nb_nodes::{ABOVE, BELOW, Load, Obj, Tag};
-use nb_opens::Arrival;
 use nb_terms::Cause;
 use nb_wire::Ip4;
 

@@ -6,11 +6,13 @@
 // was. Begin with `Chain`.
 #![tactic(auto)]
 
+mod arrival;
 mod chain;
 mod kind;
 mod laws;
 mod making;
 
+pub use arrival::Arrival;
 pub use chain::Chain;
 pub use kind::ChainKind;
 pub use laws::{calls_run_in_order, chains_are_open, other_chains_stay, waiting_ones_are_apart};

@@ -3,9 +3,10 @@ use Rattle.std.proofs.Common.{◌≡◌, ◌⊎◌, ℕ, not, ◌-◌, ◌<◌, 
 use Rattle.std.proofs.lemmas.Bool.{lt-ltb, eq-eqb}
 use Rattle.std.proofs.Math.Seq.{take-length}
 use Rattle.nb_ledger.specs.declared.event.Way.TheVariants as way
+use Rattle.nb_ledger.specs.declared.port.PortState.TheVariants.{Open, Linked}
 use Rattle.nb_ledger.specs.declared.event.GraphEvent.TheVariants.{Entered, Left}
-use Rattle.nb_ledger.specs.Flat.{Heard, event, flat}
-use Rattle.nb_ledger.specs.Ledger.{open_count, port as port_in}
+use Rattle.nb_ledger.specs.Flat.{Given, Heard, Notice, event, flat}
+use Rattle.nb_ledger.specs.Ledger.{open_count}
 use Rattle.nb_graph.specs.declared.effects.Fx.{Fx}
 use Rattle.nb_graph.specs.Trace.{NodeEntry, Said, down, bytes_between}
 use Rattle.nb_graph.specs.Deeds.{Deed, Stage, Holds, Offers, Sends, told_of, few_of, runs_of, said_of}
@@ -26,9 +27,10 @@ use Rattle.nb_nodes.specs.Fetches.{AsksHandDown, AsksOfFetch, gathers, taken_bel
 use Rattle.nb_nodes.specs.Objects.{obj_nature, rank_of_obj}
 use Rattle.nb_nodes.specs.Standing.{ObjStands}
 use Rattle.nb_opens.specs.Notices.{down_notices, sent_from, first_close}
-use Rattle.nb_opens.specs.Pairs.{AreMade, BeginDoes, begins as it_begins, fails_at_once, DoesBegin}
+use Rattle.nb_opens.specs.Pairs.{AreMade, BeginDoes, begins as it_begins, fails_at_once}
 use Rattle.nb_opens.proofs.Going.{Case, Goes, leaves-entry, stays-held, is-over}
-use Rattle.nb_opens.proofs.GoingMore.{fails-told, offered-fetch, passes-down, two-after}
+use Rattle.nb_opens.proofs.GoingMore.{fails-told, offered-fetch, passes-down}
+use Rattle.nb_opens.proofs.Scenes.{Sees, joined_seen, sees_joined}
 use Rattle.nb_opens.proofs.Effects.{At, sends_few}
 use Rattle.nb_opens.proofs.Starting.{Started, started, case_of}
 use Rattle.nb_opens.proofs.TalkLemmas.{TalkMeets}
@@ -116,18 +118,10 @@ module _ (g h : Objects Obj) (m n : Heard) (now f t rec : ℕ) (a : AskValue) (b
       let at : At c s (few_of obj_nature t msg fx2.downs ++ gs) (i ∷ []) v [] ds = record { below = b; left = ds; told = refl; goes = subst (λ z. Goes c s z (i ∷ []) b v ds) runs goes } in
       let k = sends_few c s gs (i ∷ []) v [] ds msg fx2.downs made.joined.below effects.by_one at in
       let end = begin_ends c s (i ∷ []) k.below v k.left k.goes in
-      let two = two-after g h m n now f t (Offers (port_at f 0) msg ∷ []) [] [] unbegun s made.joined.two st end.1 refl refl (λ x. refl) made.joined.two.fetch_2 made.joined.two.fetch_3 made.joined.two.tftp_2 made.joined.two.tftp_3 in
-      let ports : (x j : ℕ) → port_in h.book x j ≡ port_in g.book x j = λ x j. sym (ap (λ (z : Scene). z.port x j) end.1) in
       let downs : told_of ds ≡ down_notices t rec (first_acts (begun_with a)) ++ (event (flat (Left (port_at t 0))) ∷ event (flat (Left (port_at f 0))) ∷ []) =
       k.told ∙ ap (λ z. map (sent_from (port_at t 1)) z ++ told_of k.left) effects.downs ∙ ap (λ z. down_notices t rec (first_acts (begun_with a)) ++ z) end.0 in
       it_begins (told ∙ ap (λ z. event (flat (Entered (port_at f 0) way.Down)) ∷ event (flat (Entered (port_at t 0) way.Down)) ∷ z) downs) (record {
-        joined = record {
-          two = two;
-          user = ports f 0 ∙ made.joined.user;
-          link = ports f 1 ∙ made.joined.link;
-          back = ports t 0 ∙ made.joined.back;
-          below = ports t 1 ∙ made.joined.below;
-        };
+        joined = joined_seen h f t (subst (λ y. Sees y f t Open (Linked (port_at t 0)) (Linked (port_at f 1)) Open) end.1 (sees_joined g f t made.joined)) st.fetch_held st.tftp_held st.fetch_rank st.tftp_rank;
         above = st.top;
         below = st.bottom;
         fetch = st.fetch;
@@ -173,7 +167,7 @@ module _ (g h : Objects Obj) (m n : Heard) (now f t rec : ℕ) (a : AskValue) (b
       calls_tftp made st fx k.0 k.1 k.2 (down msg now k.0 k.1 ∷ []) k.4.0 ask k.3 k.4.2 (told ∙ ap (λ z. event (flat (Entered (port_at f 0) way.Down)) ∷ z) k.4.1)
 
   pub begin_does : AreMade g f t → ask_in bytes ≡ Some a → length bytes < 2 ^ 32 → AreNoded rank_of_obj h
-      → WentOne ObjStands obj_nature now (Offers (port_at f 0) (record { tag = 1; rec = rec; a = 0; b = 0; bytes = bytes }) ∷ []) g h m n → DoesBegin h f t (begun_with a) now rec m n
+      → WentOne ObjStands obj_nature now (Offers (port_at f 0) (begin_message rec bytes) ∷ []) g h m n → (ns : List Notice) × Given m n ns × BeginDoes h f t (begun_with a) now rec ns
   begin_does made ask short noded went =
       let st : Begins = started g h m n now f t (Offers (port_at f 0) (begin_message rec bytes) ∷ []) [] [] unbegun made.joined.two made.fetch made.tftp refl tt made.unharvested noded (tt, tt) went in
       let k = offered-fetch (case st) (scene_of g.book) [] [] [] unbegun st.deeds (begin_message rec bytes) made.joined.user (record { uses = st.uses; tail = st.tail }) in

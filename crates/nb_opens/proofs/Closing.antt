@@ -26,9 +26,8 @@ use Rattle.nb_opens.specs.Notices.{tells, closed_notices}
 use Rattle.nb_opens.specs.Pairs.{AreTwo, AreJoined, AreGoing, HasEnded, AreUnharvested}
 use Rattle.nb_opens.proofs.TalkLemmas.{TalkMeets}
 use Rattle.nb_opens.proofs.Going.{Case, closes-down}
-use Rattle.nb_opens.proofs.GoingMore.{two-after}
 use Rattle.nb_opens.proofs.Starting.{started, case_of}
-use Rattle.nb_opens.proofs.Scenes.{Sees, sees_joined, user_closed, link_closed, back_closed, below_closed, down_unplugged, shut_seen}
+use Rattle.nb_opens.proofs.Scenes.{Sees, sees_joined, user_closed, link_closed, back_closed, below_closed, down_unplugged, shut_seen, two_seen}
 use Rattle.nb_opens.proofs.Effects.{At, then_at, as_stages, past_close, past_end, past_unplug, runs_closes}
 use Rattle.nb_opens.proofs.Ending.{all_told}
 
@@ -95,10 +94,11 @@ module _ (g a : Objects Obj) (m n : Heard) (now f t : ℕ) (z : Cause) where
       let s = scene_of g.book in
       let at : At c s asks w.above w.talk [] st.deeds = record { below = w.below; left = st.deeds; told = refl; goes = record { uses = st.uses; tail = st.tail } } in
       let end = all_told c (after_noted (Closed (port_at f 0) z) s) w.above w.talk (tells (Closed (port_at f 0) z) ∷ []) st.deeds (past_close [] (port_at f 0) z w.joined.user at) in
-      let seen = user_closed s f t Open (Linked (port_at t 0)) (Linked (port_at f 1)) Open (sees_joined g f t w.joined) z in
+      let seen : Sees (scene_of a.book) f t Shut (Linked (port_at t 0)) (Linked (port_at f 1)) Open =
+      subst (λ y. Sees y f t Shut (Linked (port_at t 0)) (Linked (port_at f 1)) Open) end.1 (user_closed s f t Open (Linked (port_at t 0)) (Linked (port_at f 1)) Open (sees_joined g f t w.joined) z) in
       record {
-        two = two-after g a m n now f t asks w.above w.below w.talk (after_noted (Closed (port_at f 0) z) s) w.joined.two st end.1 refl refl (λ x. refl) seen.fetch_2 seen.fetch_3 seen.tftp_2 seen.tftp_3;
-        seen = subst (λ y. Sees y f t Shut (Linked (port_at t 0)) (Linked (port_at f 1)) Open) end.1 seen;
+        two = two_seen a f t Shut (Linked (port_at t 0)) (Linked (port_at f 1)) Open seen st.fetch_held st.tftp_held st.fetch_rank st.tftp_rank;
+        seen = seen;
         below = st.bottom;
         fetch = subst (ObjectStands ObjStands a f) (sym end.2) st.fetch;
         tftp = st.tftp;
@@ -120,9 +120,6 @@ module _ (c : Case) (s : Scene) (a : List (NodeEntry Obj Load)) (v : Conversatio
     pub scene : Scene
     pub talk : Conversation
     pub seen : Sees scene c.fetch c.tftp Shut Shut Shut Shut
-    pub made : scene.made ≡ s.made
-    pub room : scene.room ≡ s.room
-    pub live : (x : ℕ) → scene.live x ≡ s.live x
     pub at : At c scene gs a talk (ns ++ link_notices c.fetch c.tftp z) ds
 
   pub link_shut : Sees s c.fetch c.tftp Shut (Linked (port_at c.tftp 0)) (Linked (port_at c.fetch 1)) Open → talk_has_ended v ≡ false → At c s (Closes (port_at c.fetch 1) z ∷ gs) a v ns ds → LinkShut
@@ -149,9 +146,6 @@ module _ (c : Case) (s : Scene) (a : List (NodeEntry Obj Load)) (v : Conversatio
         scene = after_noted (Unplugged (port_at f 1) (port_at t 0)) s3;
         talk = x.1;
         seen = down_unplugged s3 f t Shut _ _ _ h3;
-        made = refl;
-        room = refl;
-        live = λ y. refl;
         at = subst (λ y. At c (after_noted (Unplugged (port_at f 1) (port_at t 0)) s3) gs a x.1 y ds) (simp append_assoc) five;
       }
 

@@ -67,13 +67,6 @@ CallsFetch c s gs a b v front entry m p by left ds =
     (done : Bool) × (fx : Fx Obj Load) × AsksOfFetch a (entry done fx)
     × Then c s (runs_of obj_nature c.fetch m done fx ++ Holds p by (left done fx) ∷ gs) (a ++ entry done fx ∷ []) b v front ds
 
--- one after the other
-pub andthen : (c : Case) (s t : Scene) (gs hs : List (Stage Obj Load)) (a b d e : List (NodeEntry Obj Load)) (v w : Conversation) (front after : List Notice) (ds : List (Deed Obj Load))
-    → Then c s gs a b v front ds → ((es : List (Deed Obj Load)) → Goes c s gs a b v es → Then c t hs d e w after es) → Then c t hs d e w (front ++ after) ds
-andthen c s t gs hs a b d e v w front after ds k go =
-    let l = go k.0 k.2 in
-    (l.0, k.1 ∙ (ap (λ z. front ++ z) l.1 ∙ sym (append_assoc front after (told_of l.0))), l.2)
-
 rest-free : (x : ℕ) (e : GraphEvent) (es : List GraphEvent) → NotFreed x (e ∷ es) → NotFreed x es
 rest-free x (Made y k) es h = h
 rest-free x (Held y) es h = h

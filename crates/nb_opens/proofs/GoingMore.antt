@@ -1,18 +1,18 @@
 -- More of how a call on the two objects goes on: messages that go down, and where memory runs out.
-use Rattle.std.proofs.Common.{◌≡◌, ℕ, ◌≤◌, false, List, [], ◌∷◌, ◌++◌, Some, None, refl, sym, ap, ◌∙◌, subst, append_assoc, arith}
+use Rattle.std.proofs.Common.{◌≡◌, ℕ, false, List, [], ◌∷◌, ◌++◌, Some, None, refl, ap, ◌∙◌, subst, append_assoc, arith}
 use Rattle.nb_terms.specs.declared.cause.Cause.{Cause}
 use Rattle.nb_ledger.specs.declared.port.Port.{Port}
 use Rattle.nb_ledger.specs.declared.port.PortState.TheVariants as port
 use Rattle.nb_ledger.specs.declared.event.Way.TheVariants as way
 use Rattle.nb_ledger.specs.declared.event.GraphEvent.{GraphEvent}
 use Rattle.nb_ledger.specs.declared.event.GraphEvent.TheVariants.{Entered}
-use Rattle.nb_ledger.specs.Flat.{Heard, event, flat}
-use Rattle.nb_ledger.specs.Ledger.{open_count, object_lives, port as port_in}
+use Rattle.nb_ledger.specs.Flat.{event, flat}
+use Rattle.nb_ledger.specs.Ledger.{open_count}
 use Rattle.nb_graph.specs.declared.effects.Fx.{Fx}
-use Rattle.nb_graph.specs.Whole.{Objects, port_at}
+use Rattle.nb_graph.specs.Whole.{port_at}
 use Rattle.nb_graph.specs.Trace.{NodeEntry, Said, down, lent}
 use Rattle.nb_graph.specs.Deeds.{Deed, writes, calls, arrives, Stage, Closes, Sends, Offers, told_of, no_memory, returns_of, all_closes, runs_of}
-use Rattle.nb_graph.specs.Scene.{Scene, scene_of, state_at}
+use Rattle.nb_graph.specs.Scene.{Scene, state_at}
 use Rattle.nb_graph.specs.Follows.{UsesStack, closes_alone, closes_link, closes_none}
 use Rattle.nb_graph.proofs.Laws.{send_down, offer_down, returned}
 use Rattle.nb_nodes.specs.declared.load.Load.{Load}
@@ -20,9 +20,7 @@ use Rattle.nb_nodes.specs.declared.obj.Obj.{Obj}
 use Rattle.nb_nodes.specs.Objects.{obj_nature}
 use Rattle.nb_nodes.specs.Conversations.{Conversation}
 use Rattle.nb_opens.specs.Notices.{first_close}
-use Rattle.nb_opens.specs.Pairs.{AreTwo}
 use Rattle.nb_opens.proofs.Going.{Case, Tail, Goes, CallsFetch, CallsTftp, tail-event, tail-turn, tail-fetch, tail-tftp}
-use Rattle.nb_opens.proofs.Starting.{Started}
 
 -- the first close that is told is that of this port
 closes-first : (now : ℕ) (s t : Scene) (p : Port) (c : Cause) (gs : List (Stage Obj Load)) (ds : List (Deed Obj Load)) → open_count (state_at s p) ≡ 1 → UsesStack obj_nature now s (Closes p c ∷ gs) ds t
@@ -67,27 +65,3 @@ module _ (c : Case) (s : Scene) (gs : List (Stage Obj Load)) (a b : List (NodeEn
       let e : GraphEvent = Entered (port_at c.tftp 0) way.Down in
       let t = tail-tftp c a b v i k.2.0 (tail-event c a b v e (calls c.tftp i ∷ k.2.0) (tail-turn c a b v (arrives (port_at c.fetch 1) (port_at c.tftp 0)) (writes e ∷ calls c.tftp i ∷ k.2.0) (subst (Tail c a b v) k.2.1 g.tail))) in
       (k.0, k.1, t.0, t.1, (k.2.0, ap told_of k.2.1, record { uses = k.2.2; tail = t.2 }))
-
--- the two still live after a call, held and ranked as before, where the graph is seen so then
-module _ (g h : Objects Obj) (m n : Heard) (now f t : ℕ) (asks : List (Stage Obj Load)) (above below : List (NodeEntry Obj Load)) (v : Conversation) (s : Scene) where
-  pub two-after : AreTwo g f t → Started g h m n now f t asks above below v → s ≡ scene_of h.book → s.made ≡ g.book.made → s.room ≡ g.book.room → ((x : ℕ) → s.live x ≡ object_lives g.book x)
-      → s.port f 2 ≡ port.Open → s.port f 3 ≡ port.Open → s.port t 2 ≡ port.Open → s.port t 3 ≡ port.Open → AreTwo h f t
-  two-after two st e made room live f2 f3 t2 t3 =
-      let lives : (x : ℕ) → object_lives h.book x ≡ object_lives g.book x = λ x. sym (ap (λ (z : Scene). z.live x) e) ∙ live x in
-      let ports : (x k : ℕ) → port_in h.book x k ≡ s.port x k = λ x k. sym (ap (λ (z : Scene). z.port x k) e) in
-      record {
-        older = two.older;
-        last = sym (ap (λ (z : Scene). z.made) e) ∙ made ∙ two.last;
-        room = subst (λ z. 2 ≤ z) (sym (sym (ap (λ (z : Scene). z.room) e) ∙ room)) two.room;
-        fetch_lives = lives f ∙ two.fetch_lives;
-        tftp_lives = lives t ∙ two.tftp_lives;
-        alone = λ x p q. lives x ∙ two.alone x p q;
-        fetch_held = st.fetch_held;
-        tftp_held = st.tftp_held;
-        fetch_rank = st.fetch_rank;
-        tftp_rank = st.tftp_rank;
-        fetch_2 = ports f 2 ∙ f2;
-        fetch_3 = ports f 3 ∙ f3;
-        tftp_2 = ports t 2 ∙ t2;
-        tftp_3 = ports t 3 ∙ t3;
-      }

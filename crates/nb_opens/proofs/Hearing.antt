@@ -8,7 +8,7 @@ use Rattle.nb_ledger.specs.declared.port.Port.{Port}
 use Rattle.nb_ledger.specs.declared.event.Way.{Way}
 use Rattle.nb_ledger.specs.declared.event.Way.TheVariants as way
 use Rattle.nb_ledger.specs.declared.event.GraphEvent.TheVariants.{Entered}
-use Rattle.nb_ledger.specs.Flat.{Heard}
+use Rattle.nb_ledger.specs.Flat.{Given, Heard, Notice}
 use Rattle.nb_graph.specs.declared.effects.Fx.{Fx}
 use Rattle.nb_graph.specs.Whole.{Objects, port_at}
 use Rattle.nb_graph.specs.Trace.{NodeEntry, Said, up, time, silence, left}
@@ -28,7 +28,7 @@ use Rattle.nb_nodes.specs.Carried.{EffectsOf}
 use Rattle.nb_nodes.specs.Conversations.{Conversation, unbegun, under_way, over, talk_went_on, is_datagram, Continues, receives, ticks, ends, rests, RunsTo}
 use Rattle.nb_nodes.specs.Fetches.{taken_below}
 use Rattle.nb_opens.specs.Notices.{tells}
-use Rattle.nb_opens.specs.Pairs.{Downloads, CallDoes, goes_on, is_over, is_too_large, fails, IsDownloading, DoesCall, AreUnharvested}
+use Rattle.nb_opens.specs.Pairs.{Downloads, CallDoes, goes_on, is_over, is_too_large, fails, AreUnharvested}
 use Rattle.nb_opens.proofs.TalkLemmas.{TalkMeets}
 use Rattle.nb_opens.proofs.Starting.{Started, started_with, case_of, deeds_in, told_in}
 use Rattle.nb_opens.proofs.Going.{Case, offers-up, ticks-in}
@@ -148,6 +148,12 @@ module _ (g h : Objects Obj) (m n : Heard) (now f t : ℕ) (asks : List (Stage O
       call_does g h m n now f t asks d.above d.below b start calls st d.unharvested body (port_at t k) by said.rec call acts
       (subst (λ z. Does call_case said.rec (port_at t k) by acts v (over b start (calls ++ entry call acts ∷ [])) (body ++ z) (told_of st.deeds)) (given acts.give) r)
 
+-- what the outside is told, and what it does to each transfer that may be under way
+abbrev pub DoesCall : Objects Obj → Objects Obj → ℕ → ℕ → Port → Way → ℕ → Call → Heard → Heard → Type 0
+DoesCall old new f t p by rec call before after =
+    (ns : List Notice) × Given before after ns
+    × ((b : Begun) (start : ℕ) (calls : List Step) (body : List ℕ) → Downloads old f t b start calls body → CallDoes new f t b start calls body p by rec call ns)
+
 -- a datagram that comes
 abbrev pub datagram_in : ℕ → ℕ → List ℕ → Said
 datagram_in rec port bytes = record { tag = 2; rec = rec; a = port; b = 0; bytes = bytes }
@@ -156,10 +162,10 @@ is_datagram_in : (rec port : ℕ) (bytes : List ℕ) → port < 2 ^ 16 → is_da
 is_datagram_in rec port bytes i = lt-ltb port (2 ^ 16) i
 
 pub hear_does : (g h : Objects Obj) (m n : Heard) (now f t rec port : ℕ) (bytes : List ℕ)
-    → IsDownloading g f t → port < 2 ^ 16 → length bytes < 2 ^ 32 → AreNoded rank_of_obj h
-    → WentOne ObjStands obj_nature now (Offers (port_at t 1) (record { tag = 2; rec = rec; a = port; b = 0; bytes = bytes }) ∷ []) g h m n
+    → port < 2 ^ 16 → length bytes < 2 ^ 32 → AreNoded rank_of_obj h
+    → WentOne ObjStands obj_nature now (Offers (port_at t 1) (datagram_in rec port bytes) ∷ []) g h m n
     → DoesCall g h f t (port_at t 1) way.Up rec (came (received rec port bytes) now) m n
-hear_does g h m n now f t rec port bytes some i j noded k =
+hear_does g h m n now f t rec port bytes i j noded k =
     let said = datagram_in rec port bytes in
     let asks : List (Stage Obj Load) = Offers (port_at t 1) said ∷ [] in (
       told_of (deeds_in g h m n now asks k),
@@ -176,10 +182,10 @@ hear_does g h m n now f t rec port bytes some i j noded k =
     )
 
 pub tick_does : (g h : Objects Obj) (m n : Heard) (now f t : ℕ)
-    → IsDownloading g f t → AreNoded rank_of_obj h
+    → AreNoded rank_of_obj h
     → WentOne ObjStands obj_nature now (Ticks t ∷ []) g h m n
     → DoesCall g h f t (port_at t 4) way.Time 0 (ticked now) m n
-tick_does g h m n now f t some noded k =
+tick_does g h m n now f t noded k =
     let asks : List (Stage Obj Load) = Ticks t ∷ [] in (
       told_of (deeds_in g h m n now asks k),
       told_in g h m n now asks k,

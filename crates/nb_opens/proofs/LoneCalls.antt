@@ -1,6 +1,6 @@
 -- What an entry of the one object of an open does, and what the outside is told.
 use Rattle.std.proofs.Common.{◌≡◌, ℕ, ◌<◌, ◌^◌, Bool, true, false, not, min, List, [], ◌∷◌, ◌++◌, length, map, Option, Some, None, is_some, refl, sym, ap, ◌∙◌, subst, append_assoc, arith, if◌then◌else◌}
-use Rattle.std.proofs.lemmas.Bool.{eq-eqb, ne_eqb, false≢true}
+use Rattle.std.proofs.lemmas.Bool.{eq-eqb, false≢true}
 use Rattle.nb_terms.specs.declared.acts.Acts.{Acts}
 use Rattle.nb_terms.specs.declared.cause.Cause.{Cause}
 use Rattle.nb_ledger.specs.declared.port.Port.{Port}
@@ -26,10 +26,8 @@ use Rattle.nb_nodes.specs.Exchanges.{Service, Exchange, not_begun, asking, finis
 use Rattle.nb_opens.specs.Entries.{entries_of}
 use Rattle.nb_opens.specs.Notices.{tells, sent_from, first_close}
 use Rattle.nb_opens.specs.AloneNotices.{alone_call, alone_end}
-use Rattle.nb_opens.specs.Companies.{Company}
-use Rattle.nb_opens.specs.Alones.{IsOpenLoneBy, shut_slots, TalksBy, AsksMoreBy, asks_on, comes_to_end, runs_out}
+use Rattle.nb_opens.specs.Alones.{IsOpenLone, shut_slots, Talks, AsksMore, asks_on, comes_to_end, runs_out}
 use Rattle.nb_opens.proofs.Bodies.{all_left}
-use Rattle.nb_opens.proofs.Bystanders.{EntersNone}
 use Rattle.nb_opens.proofs.HoldLemmas.{NotFreed}
 use Rattle.nb_opens.proofs.GoingMore.{fails-told}
 use Rattle.nb_opens.proofs.LoneStarts.{MeetsAt, Seen, seen_lone, lone_seen, seen_closed, LoneStarted}
@@ -50,33 +48,32 @@ abbrev pub slots_at : Option Cause → ℕ → PortState
 slots_at None k = new_ports k
 slots_at (Some c) k = shut_slots k
 
-module _ {S B C : Type 0} (among : Company) (svc : Service S B C) (now x : ℕ) (end : Scene) (last : Exchange B C) (ds : List (Deed Obj Load)) where
+module _ {S B C : Type 0} (svc : Service S B C) (now x : ℕ) (end : Scene) (last : Exchange B C) (ds : List (Deed Obj Load)) where
   -- what a core's call asks for is done, and told in its order
   pub record Done (v : Exchange B C) (ns : List Notice) (over : Option Cause) : Type 0 where
     pub told : told_of ds ≡ ns
-    pub seen : Seen among end x (slots_at over)
+    pub seen : Seen end x (slots_at over)
     pub same : v ≡ last
-    pub none : EntersNone x ds
 
-  closes_then : (s : Scene) (v : Exchange B C) (ns : List Notice) (j : ℕ) (by : Way) (over : Option Cause) → settles_by {N = Obj} {L = Load} by x ≡ Settles x ∷ [] → Seen among s x new_ports
+  closes_then : (s : Scene) (v : Exchange B C) (ns : List Notice) (j : ℕ) (by : Way) (over : Option Cause) → settles_by {N = Obj} {L = Load} by x ≡ Settles x ∷ [] → Seen s x new_ports
       → Walk svc now x end last s (closes_of x (end_closes over) ++ Holds (port_at x j) by None ∷ []) v ns ds → Done v (ns ++ (alone_end x over ++ tells (Left (port_at x j)) ∷ [])) over
   closes_then s v ns j by None e h k =
       let z = at_rest svc now x end last ds s v _ (past_end svc now x end last ds s v ns j by e k) in
-      record { told = z.0; seen = subst (λ y. Seen among y x (slots_at None)) z.1 h; same = z.2; none = z.3 }
+      record { told = z.0; seen = subst (λ y. Seen y x (slots_at None)) z.1 h; same = z.2 }
   closes_then s v ns j by (Some c) e h k =
       let s1 = after_noted (Closed (port_at x 0) c) s in
       let s2 = after_noted (Closed (port_at x 1) c) s1 in
       let hs : List (Stage Obj Load) = Holds (port_at x j) by None ∷ [] in
-      let h1 = seen_closed among s x 0 c new_ports h refl in
-      let h2 = seen_closed among s1 x 1 c (λ i. but_at 0 port.Closed new_ports i) h1 refl in
+      let h1 = seen_closed s x 0 c new_ports h refl in
+      let h2 = seen_closed s1 x 1 c (λ i. but_at 0 port.Closed new_ports i) h1 refl in
       let one = past_close svc now x end last ds s (closes_of x ((1, c) ∷ []) ++ hs) v ns 0 c (h.ports 0) k in
       let two = past_close svc now x end last ds s1 hs v (ns ++ tells (Closed (port_at x 0) c) ∷ []) 1 c (h1.ports 1) one in
       let three = past_end svc now x end last ds s2 v ((ns ++ tells (Closed (port_at x 0) c) ∷ []) ++ tells (Closed (port_at x 1) c) ∷ []) j by e two in
       let four = as_told svc now x end last ds s2 [] v _ (ns ++ (alone_end x (Some c) ++ tells (Left (port_at x j)) ∷ [])) (simp append_assoc) three in
       let z = at_rest svc now x end last ds s2 v _ four in
-      record { told = z.0; seen = subst (λ y. Seen among y x (slots_at (Some c))) z.1 h2; same = z.2; none = z.3 }
+      record { told = z.0; seen = subst (λ y. Seen y x (slots_at (Some c))) z.1 h2; same = z.2 }
 
-  pub call_done : (s : Scene) (v : Exchange B C) (m : Said) (acts : Acts) (given : List Said) (fx : Fx Obj Load) (j : ℕ) (by : Way) → settles_by {N = Obj} {L = Load} by x ≡ Settles x ∷ [] → Seen among s x new_ports → AsksAndGives m acts given fx
+  pub call_done : (s : Scene) (v : Exchange B C) (m : Said) (acts : Acts) (given : List Said) (fx : Fx Obj Load) (j : ℕ) (by : Way) → settles_by {N = Obj} {L = Load} by x ≡ Settles x ∷ [] → Seen s x new_ports → AsksAndGives m acts given fx
       → Walk svc now x end last s (runs_of obj_nature x m true fx ++ Holds (port_at x j) by None ∷ []) v (tells (Entered (port_at x j) by) ∷ []) ds → Done v (alone_call x (port_at x j) by m.rec acts given) acts.over
   call_done s v m acts given fx j by e h asks k =
       let hs : List (Stage Obj Load) = Holds (port_at x j) by None ∷ [] in
@@ -93,7 +90,6 @@ module _ {S B C : Type 0} (among : Company) (svc : Service S B C) (now x : ℕ) 
         told = d.told ∙ (append_assoc (ns ++ downs) givens (alone_end x acts.over ++ tells (Left (port_at x j)) ∷ []) ∙ append_assoc ns downs (givens ++ (alone_end x acts.over ++ tells (Left (port_at x j)) ∷ [])));
         seen = d.seen;
         same = d.same;
-        none = d.none;
       }
 
 module _ {S B C : Type 0} (svc : Service S B C) (now x : ℕ) (end : Scene) (last : Exchange B C) (ds : List (Deed Obj Load)) where
@@ -116,7 +112,7 @@ module _ {S B C : Type 0} (svc : Service S B C) (now x : ℕ) (end : Scene) (las
         fx = fx;
         next = run.0;
         goes = run.1;
-        walk = record { left = es; told = k.told ∙ ap told_of e; uses = uses; runs = run.2; stays = subst (λ z. NotFreed x (events_of z)) e k.stays; apart = λ y a. k.apart y a ∙ (ap (entries_of y) e ∙ rw (ne_eqb y x a) refl) };
+        walk = record { left = es; told = k.told ∙ ap told_of e; uses = uses; runs = run.2; stays = subst (λ z. NotFreed x (events_of z)) e k.stays };
       }
 
 -- all of the message was taken
@@ -155,11 +151,11 @@ meets_either : {S B C : Type 0} (svc : Service S B C) (o : Bool) (b : B) (start 
 meets_either svc true b start calls h = h
 meets_either svc false b start calls h = h
 
-module _ {S B C : Type 0} (among : Company) (svc : Service S B C) (kind : ℕ) (g h : Objects Obj) (m n : Heard) (now x : ℕ) (asks : List (Stage Obj Load)) (v : Exchange B C) (st : LoneStarted among svc kind g h m n now x asks v) where
+module _ {S B C : Type 0} (svc : Service S B C) (kind : ℕ) (g h : Objects Obj) (m n : Heard) (now x : ℕ) (asks : List (Stage Obj Load)) (v : Exchange B C) (st : LoneStarted svc kind g h m n now x asks v) where
   -- an exchange under way after the call
-  pub still_talks : (b : B) (start : ℕ) (calls : List C) → Seen among (scene_of h.book) x new_ports → EntersNone x st.deeds → asking b start calls ≡ st.last → TalksBy among svc kind h x b start calls
-  still_talks b start calls seen none same = record {
-    lone = lone_seen among h x new_ports st.deeds seen st.held st.beside none;
+  pub still_talks : (b : B) (start : ℕ) (calls : List C) → Seen (scene_of h.book) x new_ports → asking b start calls ≡ st.last → Talks svc kind h x b start calls
+  still_talks b start calls seen same = record {
+    lone = lone_seen h x new_ports seen st.held;
     trace = st.top;
     stands = st.stands;
     run = subst (λ (w : Exchange B C). LeadsTo svc not_begun st.top w) (sym same) st.run;
@@ -169,27 +165,27 @@ module _ {S B C : Type 0} (among : Company) (svc : Service S B C) (kind : ℕ) (
 
   -- from what its core's call asked for
   asks_more : (b : B) (start : ℕ) (calls : List C) (p : Port) (by : Way) (rec : ℕ) (call : Acts → C) (acts : Acts) (over : Option Cause) (given : List Said) → acts.over ≡ over → GivesAtEnd svc rec b (calls ++ call acts ∷ []) over given
-      → Seen among (scene_of h.book) x (slots_at over) → EntersNone x st.deeds → after_calls b start (calls ++ call acts ∷ []) acts ≡ st.last → told_of st.deeds ≡ alone_call x p by rec acts given
-      → AsksMoreBy among svc kind h x b start calls p by rec call (told_of st.deeds)
-  asks_more b start calls p by rec call acts None given e gives seen none same told =
+      → Seen (scene_of h.book) x (slots_at over) → after_calls b start (calls ++ call acts ∷ []) acts ≡ st.last → told_of st.deeds ≡ alone_call x p by rec acts given
+      → AsksMore svc kind h x b start calls p by rec call (told_of st.deeds)
+  asks_more b start calls p by rec call acts None given e gives seen same told =
       let all : List C = calls ++ call acts ∷ [] in
       let met : svc.meets b start all = meets_either svc (is_some acts.over) b start all (subst (MeetsAt svc) (sym same) st.meets) in
       let on : asking b start all ≡ st.last = subst (λ (o : Option Cause). (if is_some o then finished b start all else asking b start all) ≡ st.last) e same in
-      asks_on acts met e (told ∙ ap (λ z. alone_call x p by rec acts z) gives) (still_talks b start all seen none on)
-  asks_more b start calls p by rec call acts (Some c) given e gives seen none same told =
+      asks_on acts met e (told ∙ ap (λ z. alone_call x p by rec acts z) gives) (still_talks b start all seen on)
+  asks_more b start calls p by rec call acts (Some c) given e gives seen same told =
       let all : List C = calls ++ call acts ∷ [] in
       let met : svc.meets b start all = meets_either svc (is_some acts.over) b start all (subst (MeetsAt svc) (sym same) st.meets) in
-      comes_to_end acts c given met e gives told (lone_seen among h x shut_slots st.deeds seen st.held st.beside none)
+      comes_to_end acts c given met e gives told (lone_seen h x shut_slots seen st.held)
 
   pub answers_so : (b : B) (start : ℕ) (calls : List C) (said : Said) (j : ℕ) (by : Way) (call : Acts → C) (left_over : Bool → Fx Obj Load → Option Said) (done : Bool) (fx : Fx Obj Load) (w : Exchange B C)
-      → settles_by {N = Obj} {L = Load} by x ≡ Settles x ∷ [] → IsOpenLoneBy among g x → Answers svc b start calls said call left_over done fx w
+      → settles_by {N = Obj} {L = Load} by x ≡ Settles x ∷ [] → IsOpenLone g x → Answers svc b start calls said call left_over done fx w
       → Walk svc now x (scene_of h.book) st.last (scene_of g.book) (runs_of obj_nature x said done fx ++ Holds (port_at x j) by (left_over done fx) ∷ []) w (tells (Entered (port_at x j) by) ∷ []) st.deeds
-      → AsksMoreBy among svc kind h x b start calls (port_at x j) by said.rec call (told_of st.deeds)
+      → AsksMore svc kind h x b start calls (port_at x j) by said.rec call (told_of st.deeds)
   answers_so b start calls said j by call left_over _ _ _ e lone (broke fx w) k =
       runs_out (ap first_close k.told ∙ fails-told now (scene_of g.book) (scene_of h.book) x said fx (Holds (port_at x j) by (left_over false fx) ∷ []) k.left (ap open_count (lone.ports 0)) k.uses)
   answers_so b start calls said j by call left_over _ _ _ e lone (asked fx acts given effects none gives) k =
       let w : Exchange B C = after_calls b start (calls ++ call acts ∷ []) acts in
       let runs : List (Stage Obj Load) = runs_of obj_nature x said true fx in
       let k2 = as_stages svc now x (scene_of h.book) st.last st.deeds (scene_of g.book) _ (runs ++ Holds (port_at x j) by None ∷ []) w (tells (Entered (port_at x j) by) ∷ []) (ap (λ z. runs ++ Holds (port_at x j) by z ∷ []) none) k in
-      let d = call_done among svc now x (scene_of h.book) st.last st.deeds (scene_of g.book) w said acts given fx j by e (seen_lone among g x new_ports lone) effects k2 in
-      asks_more b start calls (port_at x j) by said.rec call acts acts.over given refl gives d.seen d.none d.same d.told
+      let d = call_done svc now x (scene_of h.book) st.last st.deeds (scene_of g.book) w said acts given fx j by e (seen_lone g x new_ports lone) effects k2 in
+      asks_more b start calls (port_at x j) by said.rec call acts acts.over given refl gives d.seen d.same d.told

@@ -31,10 +31,8 @@ use Rattle.nb_nodes.specs.LeaseExchanges.{lease_service}
 use Rattle.nb_nodes.specs.EchoExchanges.{ping_service}
 use Rattle.nb_nodes.specs.Standing.{ObjStands}
 use Rattle.nb_opens.specs.Entries.{entries_of}
-use Rattle.nb_opens.specs.Waiters.{IsOfKind}
-use Rattle.nb_opens.specs.Companies.{Company, living, IsDeadBut}
-use Rattle.nb_opens.specs.Alones.{IsLoneBy, IsOpenLoneBy}
-use Rattle.nb_opens.proofs.Bystanders.{EntersNone, SeenBeside, BystandsBeside, seen_beside, beside_closed, stays_beside, bystands_beside}
+use Rattle.nb_opens.specs.Alones.{IsLone, IsOpenLone}
+use Rattle.nb_opens.specs.Marks.{IsOfKind}
 use Rattle.nb_opens.proofs.HoldLemmas.{held_stays}
 use Rattle.nb_opens.proofs.QuietLemmas.{AreQuiet, LeavesObject, quiet_run, begins_none}
 use Rattle.nb_opens.proofs.LoneExchanges.{CallsAre, IsCertain, exchange_goes_on}
@@ -113,56 +111,29 @@ calls_are s asks kind (asking b start calls) law h = law.known b start calls h
 calls_are s asks kind (finished b start calls) law h = law.known b start calls h
 calls_are s asks kind called_off law h = tt
 
--- what is seen of a graph where nothing but x lives, and its company
-pub record Seen (c : Company) (s : Scene) (x : ℕ) (slots : ℕ → PortState) : Type 0 where
-  pub last : s.made ≡ c.made
-  pub given : x ≤ c.made
-  pub number : s.number ≡ living c.beside
-  pub room : 2 ≤ s.room
+-- what is seen of a graph where nothing but x lives
+pub record Seen (s : Scene) (x : ℕ) (slots : ℕ → PortState) : Type 0 where
+  pub last : s.made ≡ x
   pub lives : s.live x ≡ true
-  pub others : (y : ℕ) → (y ≡ x → ⊥) → IsDeadBut c.beside s.live y
+  pub others : (y : ℕ) → (y ≡ x → ⊥) → s.live y ≡ false
   pub ports : (k : ℕ) → s.port x k ≡ slots k
-  pub beside : SeenBeside c.beside s x
 
-pub seen_lone : (c : Company) (g : Objects Obj) (x : ℕ) (f : ℕ → PortState) → IsLoneBy c g x f → Seen c (scene_of g.book) x f
-seen_lone c g x f l = record {
-  last = l.last;
-  given = l.given;
-  number = l.number;
-  room = l.room;
-  lives = l.lives;
-  others = l.others;
-  ports = l.ports;
-  beside = seen_beside c.beside g x l.company;
-}
+pub seen_lone : (g : Objects Obj) (x : ℕ) (f : ℕ → PortState) → IsLone g x f → Seen (scene_of g.book) x f
+seen_lone g x f l = record { last = l.last; lives = l.lives; others = l.others; ports = l.ports }
 
-pub lone_seen : (c : Company) (h : Objects Obj) (x : ℕ) (f : ℕ → PortState) (ds : List (Deed Obj Load)) → Seen c (scene_of h.book) x f → holds h.book x ≡ 1 → BystandsBeside c.beside h ds → EntersNone x ds → IsLoneBy c h x f
-lone_seen c h x f ds s held kept none = record {
-  last = s.last;
-  given = s.given;
-  number = s.number;
-  room = s.room;
-  lives = s.lives;
-  others = s.others;
-  held = held;
-  ports = s.ports;
-  company = stays_beside c.beside h x ds s.beside kept none;
-}
+pub lone_seen : (h : Objects Obj) (x : ℕ) (f : ℕ → PortState) → Seen (scene_of h.book) x f → holds h.book x ≡ 1 → IsLone h x f
+lone_seen h x f s held = record { last = s.last; lives = s.lives; others = s.others; held = held; ports = s.ports }
 
-pub seen_closed : (by : Company) (s : Scene) (x j : ℕ) (c : Cause) (f : ℕ → PortState) → Seen by s x f → f j ≡ port.Open → Seen by (after_noted (Closed (port_at x j) c) s) x (λ k. but_at j port.Closed f k)
-seen_closed by s x j c f h o = record {
+pub seen_closed : (s : Scene) (x j : ℕ) (c : Cause) (f : ℕ → PortState) → Seen s x f → f j ≡ port.Open → Seen (after_noted (Closed (port_at x j) c) s) x (λ k. but_at j port.Closed f k)
+seen_closed s x j c f h o = record {
   last = h.last;
-  given = h.given;
-  number = h.number;
-  room = h.room;
   lives = h.lives;
   others = h.others;
   ports = λ k. rw (eq-eqb x x refl) (ap (λ z. cond (eqb k j) (shut_of z) (s.port x k)) (h.ports j ∙ o) ∙ ap (λ z. cond (eqb k j) port.Closed z) (h.ports k));
-  beside = beside_closed by.beside s x j c h.beside;
 }
 
 -- what a call is to be read from
-pub record LoneStarted {S B C : Type 0} (by : Company) (svc : Service S B C) (kind : ℕ) (g h : Objects Obj) (m n : Heard) (now x : ℕ) (asks : List (Stage Obj Load)) (v : Exchange B C) : Type 0 where
+pub record LoneStarted {S B C : Type 0} (svc : Service S B C) (kind : ℕ) (g h : Objects Obj) (m n : Heard) (now x : ℕ) (asks : List (Stage Obj Load)) (v : Exchange B C) : Type 0 where
   pub deeds : List (Deed Obj Load)
   pub told : Given m n (told_of deeds)
   pub last : Exchange B C
@@ -173,18 +144,17 @@ pub record LoneStarted {S B C : Type 0} (by : Company) (svc : Service S B C) (ki
   pub meets : MeetsAt svc last
   pub of_kind : IsOfKind h x kind
   pub held : holds h.book x ≡ 1
-  pub beside : BystandsBeside by.beside h deeds
 
-module _ {S B C : Type 0} (by : Company) (svc : Service S B C) (known : B → List C → Type 0) (kind : ℕ) (law : IsKind svc known kind) (g h : Objects Obj) (m n : Heard) (now x : ℕ) (asks : List (Stage Obj Load)) (trace : List (NodeEntry Obj Load)) (v : Exchange B C) where
-  pub lone_started : IsOpenLoneBy by g x → ObjectStands ObjStands g x trace → LeadsTo svc not_begun trace v → MeetsAt svc v → IsOfKind g x kind → AreNoded rank_of_obj h → AreQuiet by.made asks
-      → WentOne ObjStands obj_nature now asks g h m n → LoneStarted by svc kind g h m n now x asks v
+module _ {S B C : Type 0} (svc : Service S B C) (known : B → List C → Type 0) (kind : ℕ) (law : IsKind svc known kind) (g h : Objects Obj) (m n : Heard) (now x : ℕ) (asks : List (Stage Obj Load)) (trace : List (NodeEntry Obj Load)) (v : Exchange B C) where
+  pub lone_started : IsOpenLone g x → ObjectStands ObjStands g x trace → LeadsTo svc not_begun trace v → MeetsAt svc v → IsOfKind g x kind → AreNoded rank_of_obj h → AreQuiet x asks
+      → WentOne ObjStands obj_nature now asks g h m n → LoneStarted svc kind g h m n now x asks v
   lone_started lone stands run meets is noded quiet k =
       let one = only_call obj_nature (scene_of g.book) (scene_of h.book) (record { now = now; asks = asks }) k.deeds k.each in
       let ds = one.0 in
       let all : all_of k.deeds ≡ ds = ap all_of one.1 ∙ append-nil ds in
-      let made : by.made ≤ g.book.made = omega (arith, lone.last) in
-      let calm : LeavesObject obj_nature x ds = quiet_run obj_nature now by.made x _ _ asks ds lone.given quiet made one.2 in
-      let none : BeginsNone x ds = begins_none obj_nature now by.made x _ _ asks ds lone.given quiet made one.2 in
+      let made : x ≤ g.book.made = omega (arith, lone.last) in
+      let calm : LeavesObject obj_nature x ds = quiet_run obj_nature now x x _ _ asks ds (omega arith) quiet made one.2 in
+      let none : BeginsNone x ds = begins_none obj_nature now x x _ _ asks ds (omega arith) quiet made one.2 in
       let hosts : Hosts obj_nature ObjStands (node_at g) ds (node_at h) = subst (λ z. Hosts obj_nature ObjStands (node_at g) z (node_at h)) all k.hosts in
       let went : GraphRunOf (run_state g.book []) (events_of ds) (run_state h.book []) = subst (λ z. GraphRunOf (run_state g.book []) z (run_state h.book [])) (sym k.events ∙ ap events_of all) k.runs.run in
       let stay = held_stays x (events_of ds) (run_state g.book []) (run_state h.book []) went (omega (arith, lone.held)) tt calm.0 in
@@ -206,7 +176,6 @@ module _ {S B C : Type 0} (by : Company) (svc : Service S B C) (known : B → Li
           uses = one.2;
           runs = exchange_goes_on svc known law.certain trace (entries_of x ds) v w run (calls_are svc known kind v law meets) host.1.run (calls_are svc known kind w law met);
           stays = stay.1.0;
-          apart = λ y a. refl;
         };
         top = trace ++ entries_of x ds;
         stands = top;
@@ -214,11 +183,10 @@ module _ {S B C : Type 0} (by : Company) (svc : Service S B C) (known : B → Li
         meets = met;
         of_kind = of_kind;
         held = held;
-        beside = bystands_beside g h m n now by.made asks ds by.beside x lone.company lone.given made quiet k all one.2;
       }
 
   -- what was told doesn't depend on what is under way
-  pub lone_told : (lone : IsOpenLoneBy by g x) (stands : ObjectStands ObjStands g x trace) (run : LeadsTo svc not_begun trace v) (meets : MeetsAt svc v) (is : IsOfKind g x kind) (noded : AreNoded rank_of_obj h) (quiet : AreQuiet by.made asks)
+  pub lone_told : (lone : IsOpenLone g x) (stands : ObjectStands ObjStands g x trace) (run : LeadsTo svc not_begun trace v) (meets : MeetsAt svc v) (is : IsOfKind g x kind) (noded : AreNoded rank_of_obj h) (quiet : AreQuiet x asks)
       → (k : WentOne ObjStands obj_nature now asks g h m n) → told_of (lone_started lone stands run meets is noded quiet k).deeds ≡ told_of (all_of k.deeds)
   unfolding lone_started
   lone_told lone stands run meets is noded quiet k =

@@ -1,7 +1,7 @@
 -- How a call on the one object of an open goes on, deed by deed.
 use Rattle.std.proofs.Common.{inl, inr, ◌≡◌, ℕ, List, [], ◌∷◌, ◌++◌, map, Option, Some, None, refl, sym, ap, ◌∙◌, subst, append_assoc}
 use Rattle.std.specs.List.{AllByRecursion}
-use Rattle.std.proofs.lemmas.Bool.{eq-eqb, ne_eqb, false≢true}
+use Rattle.std.proofs.lemmas.Bool.{eq-eqb, false≢true}
 use Rattle.std.proofs.lemmas.List.{append-nil}
 use Rattle.nb_terms.specs.declared.cause.Cause.{Cause}
 use Rattle.nb_ledger.specs.declared.port.PortState.TheVariants as port
@@ -25,7 +25,6 @@ use Rattle.nb_nodes.specs.Carried.{emits, said_all}
 use Rattle.nb_nodes.specs.Exchanges.{Service, Exchange, Exchanges, is_ended, stays_idle, LeadsTo}
 use Rattle.nb_opens.specs.Entries.{entries_of}
 use Rattle.nb_opens.specs.Notices.{tells, serial, sent_from}
-use Rattle.nb_opens.proofs.Bystanders.{EntersNone}
 use Rattle.nb_opens.proofs.HoldLemmas.{NotFreed}
 
 -- Of what happened in a call so much was told, and from here on the graph is seen so, this stands on the stack, and the
@@ -36,7 +35,6 @@ pub record Walk {S B C : Type 0} (svc : Service S B C) (now x : ℕ) (end : Scen
   pub uses : UsesStack obj_nature now s gs left end
   pub runs : LeadsTo svc v (entries_of x left) last
   pub stays : NotFreed x (events_of left)
-  pub apart : (y : ℕ) → (y ≡ x → ⊥) → entries_of y ds ≡ entries_of y left
 
 rest_free : (x : ℕ) (e : GraphEvent) (es : List GraphEvent) → NotFreed x (e ∷ es) → NotFreed x es
 rest_free x (Made y k) es h = h
@@ -75,7 +73,6 @@ module _ {S B C : Type 0} (svc : Service S B C) (now x : ℕ) (end : Scene) (las
     uses = f.2;
     runs = subst (λ z. LeadsTo svc v (entries_of x z) last) f.1 k.runs;
     stays = rest_free x e (events_of f.0) (subst (λ z. NotFreed x (events_of z)) f.1 k.stays);
-    apart = λ y a. k.apart y a ∙ ap (entries_of y) f.1;
   }
 
   -- a turn was
@@ -86,7 +83,6 @@ module _ {S B C : Type 0} (svc : Service S B C) (now x : ℕ) (end : Scene) (las
     uses = f.2;
     runs = subst (λ z. LeadsTo svc v (entries_of x z) last) f.1 k.runs;
     stays = subst (λ z. NotFreed x (events_of z)) f.1 k.stays;
-    apart = λ y a. k.apart y a ∙ ap (entries_of y) f.1;
   }
 
   pub as_stages : (s : Scene) (gs hs : List (Stage Obj Load)) (v : Exchange B C) (ns : List Notice) → gs ≡ hs → W s gs v ns → W s hs v ns
@@ -107,7 +103,6 @@ module _ {S B C : Type 0} (svc : Service S B C) (now x : ℕ) (end : Scene) (las
         uses = f.2;
         runs = led svc v last l (entries_of x f.0) run;
         stays = subst (λ z. NotFreed x (events_of z)) f.1 k.stays;
-        apart = λ y a. k.apart y a ∙ (ap (entries_of y) f.1 ∙ rw (ne_eqb y x a) refl);
       }
 
   past_loads : (s : Scene) (gs : List (Stage Obj Load)) (v : Exchange B C) (ns : List Notice) (ls : List Load) → W s (returns_of x ls ++ gs) v ns → W s gs v ns
@@ -159,7 +154,7 @@ module _ {S B C : Type 0} (svc : Service S B C) (now x : ℕ) (end : Scene) (las
       ]
 
   -- nothing is left
-  pub at_rest : (s : Scene) (v : Exchange B C) (ns : List Notice) → W s [] v ns → (told_of ds ≡ ns) × (s ≡ end) × (v ≡ last) × EntersNone x ds
+  pub at_rest : (s : Scene) (v : Exchange B C) (ns : List Notice) → W s [] v ns → (told_of ds ≡ ns) × (s ≡ end) × (v ≡ last)
   at_rest s v ns k =
       let z = nothing obj_nature now s end k.left k.uses in
-      (k.told ∙ (ap (λ w. ns ++ told_of w) z.0 ∙ append-nil ns), z.1, subst (λ w. LeadsTo svc v (entries_of x w) last) z.0 k.runs, λ y a. k.apart y a ∙ ap (entries_of y) z.0)
+      (k.told ∙ (ap (λ w. ns ++ told_of w) z.0 ∙ append-nil ns), z.1, subst (λ w. LeadsTo svc v (entries_of x w) last) z.0 k.runs)

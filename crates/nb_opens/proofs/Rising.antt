@@ -1,5 +1,5 @@
 -- What a call of the Tftp asks for runs: datagrams leave, bytes of the file go up, and the transfer ends or goes on.
-use Rattle.std.proofs.Common.{◌≡◌, inl, inr, ℕ, ◌<◌, ◌≤◌, Bool, true, false, List, [], ◌∷◌, ◌++◌, map, length, Option, Some, None, refl, sym, ap, ◌∙◌, subst, append_assoc, if◌then◌else◌, arith}
+use Rattle.std.proofs.Common.{◌≡◌, inl, inr, ℕ, ◌<◌, ◌≤◌, Bool, true, false, List, [], ◌∷◌, ◌++◌, map, length, Option, Some, None, sym, ap, ◌∙◌, subst, append_assoc, if◌then◌else◌, arith}
 use Rattle.std.specs.Option.{is_some}
 use Rattle.std.proofs.lemmas.List.{append-nil}
 use Rattle.std.proofs.lemmas.Bool.Decides.{leb_tells}
@@ -26,8 +26,9 @@ use Rattle.nb_nodes.specs.Tags.{tag_number}
 use Rattle.nb_nodes.specs.Carried.{EffectsOf, both_closes, up_emit, end_closes, downs_of}
 use Rattle.nb_nodes.specs.Conversations.{Conversation, under_way, over, talk_went_on}
 use Rattle.nb_nodes.specs.Fetches.{AsksOfFetch, body_too_large, gathers, taken_below, closed_well}
-use Rattle.nb_opens.specs.Notices.{tells, sent_from, up_notices, end_notices, down_notices, call_notices, large_notices, passed_on, closed_late, close_of, or_else, first_close}
+use Rattle.nb_opens.specs.Notices.{tells, sent_from, up_notices, end_notices, down_notices, call_notices, large_notices, passed_on, closed_late, first_close}
 use Rattle.nb_opens.specs.Pairs.{BodyFits}
+use Rattle.nb_opens.proofs.CloseLemmas.{behind_none, sent_closes}
 use Rattle.nb_opens.proofs.Going.{Case, sends-up, closes-up}
 use Rattle.nb_opens.proofs.Scenes.{Sees}
 use Rattle.nb_opens.proofs.Effects.{At, then_at, as_stages, past_close, past_fetch_end, past_returns, past_returns_above, sends_few, runs_closes, runs_effects}
@@ -126,22 +127,6 @@ module _ (c : Case) (s : Scene) (a : List (NodeEntry Obj Load)) (b : Begun) (sta
       rises_called m range x.0 x.1 x.2
       (then_at s (runs_of obj_nature c.fetch (up_said m range) x.0 x.1 ++ Holds (port_at c.fetch 1) way.Up (rest (up_said m range) x.0 x.1) ∷ others) (a ++ up 1 (up_said m range) c.now x.0 x.1 ∷ []) k.below talk (tells (Entered (port_at c.fetch 1) way.Up) ∷ []) k x.3)
 
--- The first close that is told is the one that counts: an entry and messages tell of none.
-or_assoc : (x y z : Option Cause) → or_else (or_else x y) z ≡ or_else x (or_else y z)
-or_assoc None y z = refl
-or_assoc (Some c) y z = refl
-
-first_close-append : (xs ys : List Notice) → first_close (xs ++ ys) ≡ or_else (first_close xs) (first_close ys)
-first_close-append [] ys = refl
-first_close-append (x ∷ xs) ys = ap (λ z. or_else (close_of x) z) (first_close-append xs ys) ∙ sym (or_assoc (close_of x) (first_close xs) (first_close ys))
-
-pub behind_none : (xs ys : List Notice) → first_close xs ≡ None → first_close (xs ++ ys) ≡ first_close ys
-behind_none xs ys h = first_close-append xs ys ∙ ap (λ z. or_else z (first_close ys)) h
-
-no_close_sent : (p : Port) (ms : List Said) → first_close (map (sent_from p) ms) ≡ None
-no_close_sent p [] = refl
-no_close_sent p (m ∷ ms) = no_close_sent p ms
-
 -- what a call that was done leaves of the two, by what was told in all
 pub data Does (c : Case) (rec : ℕ) (p : Port) (by : Way) (acts : Acts) (v last : Conversation) (body : List ℕ) (ns : List Notice) : Type 0 where
   does : BodyFits body → ns ≡ call_notices c.fetch c.tftp p by rec acts → Finishes c acts.over v body → Does c rec p by acts v last body ns
@@ -158,7 +143,7 @@ does_so c rec p by acts v last body ns (fits small told done) = does small told 
 does_so c rec p by acts v last body ns (large big told seen well end) = grows big told seen well end
 does_so c rec p by acts v last body ns (breaks more told) =
     let after : List Notice = tells (Entered (port_at c.fetch 1) way.Up) ∷ tells (Closed (port_at c.fetch 0) no_memory) ∷ more in
-    gives_up (ap first_close told ∙ behind_none (front_of c rec p by acts) after (no_close_sent (port_at c.tftp 1) (downs_of rec acts)))
+    gives_up (ap first_close told ∙ behind_none (front_of c rec p by acts) after (sent_closes (port_at c.tftp 1) (downs_of rec acts)))
 
 -- the entry of a transfer's call
 pub runs_call : (c : Case) (s : Scene) (a : List (NodeEntry Obj Load)) (b : Begun) (start : ℕ) (calls : List Step) (ds : List (Deed Obj Load)) (p : Port) (by : Way) (acts : Acts) (m : Said) (fx : Fx Obj Load) (body : List ℕ)

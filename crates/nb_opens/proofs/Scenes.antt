@@ -1,5 +1,5 @@
 -- What is seen of the two objects of an open, and what closes leave of that.
-use Rattle.std.proofs.Common.{◌≡◌, ℕ, ◌<◌, ◌≤◌, true, false, refl, ◌∙◌, subst, arith}
+use Rattle.std.proofs.Common.{◌≡◌, ℕ, ◌<◌, true, false, refl, ◌∙◌, subst, arith}
 use Rattle.std.proofs.lemmas.Bool.{eq-eqb, ne_eqb}
 use Rattle.nb_terms.specs.declared.cause.Cause.{Cause}
 use Rattle.nb_ledger.specs.declared.port.PortState.{PortState}
@@ -16,7 +16,6 @@ use Rattle.nb_opens.specs.Pairs.{AreTwo, AreJoined, AreShut}
 pub record Sees (s : Scene) (f t : ℕ) (user link back below : PortState) : Type 0 where
   pub older : f < t
   pub last : s.made ≡ t
-  pub room : 2 ≤ s.room
   pub fetch_lives : s.live f ≡ true
   pub tftp_lives : s.live t ≡ true
   pub alone : (x : ℕ) → (x ≡ f → ⊥) → (x ≡ t → ⊥) → s.live x ≡ false
@@ -51,7 +50,6 @@ module _ (s : Scene) (f t : ℕ) (user link back below : PortState) (h : Sees s 
   user_so v = record {
     older = h.older;
     last = h.last;
-    room = h.room;
     fetch_lives = h.fetch_lives;
     tftp_lives = h.tftp_lives;
     alone = h.alone;
@@ -69,7 +67,6 @@ module _ (s : Scene) (f t : ℕ) (user link back below : PortState) (h : Sees s 
   link_so v = record {
     older = h.older;
     last = h.last;
-    room = h.room;
     fetch_lives = h.fetch_lives;
     tftp_lives = h.tftp_lives;
     alone = h.alone;
@@ -88,7 +85,6 @@ module _ (s : Scene) (f t : ℕ) (user link back below : PortState) (h : Sees s 
   back_so v = record {
     older = h.older;
     last = h.last;
-    room = h.room;
     fetch_lives = h.fetch_lives;
     tftp_lives = h.tftp_lives;
     alone = h.alone;
@@ -106,7 +102,6 @@ module _ (s : Scene) (f t : ℕ) (user link back below : PortState) (h : Sees s 
   below_so v = record {
     older = h.older;
     last = h.last;
-    room = h.room;
     fetch_lives = h.fetch_lives;
     tftp_lives = h.tftp_lives;
     alone = h.alone;
@@ -147,7 +142,6 @@ pub sees_joined : (g : Objects Obj) (f t : ℕ) → AreJoined g f t → Sees (sc
 sees_joined g f t j = record {
   older = j.two.older;
   last = j.two.last;
-  room = j.two.room;
   fetch_lives = j.two.fetch_lives;
   tftp_lives = j.two.tftp_lives;
   alone = j.two.alone;
@@ -162,12 +156,11 @@ sees_joined g f t j = record {
 }
 
 -- and of which two that is seen
-two_seen : (h : Objects Obj) (f t : ℕ) (user link back below : PortState) → Sees (scene_of h.book) f t user link back below
+pub two_seen : (h : Objects Obj) (f t : ℕ) (user link back below : PortState) → Sees (scene_of h.book) f t user link back below
     → holds h.book f ≡ 1 → holds h.book t ≡ 1 → rank h.book f ≡ 5 → rank h.book t ≡ 2 → AreTwo h f t
 two_seen h f t user link back below s fh th fr tr = record {
   older = s.older;
   last = s.last;
-  room = s.room;
   fetch_lives = s.fetch_lives;
   tftp_lives = s.tftp_lives;
   alone = s.alone;

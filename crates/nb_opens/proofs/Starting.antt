@@ -25,7 +25,8 @@ use Rattle.nb_nodes.specs.Conversations.{Conversation, unbegun, RunsTo, TftpStan
 use Rattle.nb_nodes.specs.Fetches.{EachOf, AsksOfFetch, FetchStands}
 use Rattle.nb_nodes.specs.Standing.{ObjStands}
 use Rattle.nb_opens.specs.Entries.{entries_of}
-use Rattle.nb_opens.specs.Pairs.{AreTwo, IsUnharvested, AreUnharvested}
+use Rattle.nb_opens.specs.Marks.{IsOfKind}
+use Rattle.nb_opens.specs.Pairs.{AreTwo, AreUnharvested}
 use Rattle.nb_opens.proofs.HoldLemmas.{held_stays}
 use Rattle.nb_opens.proofs.TalkLemmas.{TalkMeets, talk_goes_on}
 use Rattle.nb_opens.proofs.QuietLemmas.{AreQuiet, LeavesObject, quiet_run, begins_none}
@@ -122,8 +123,8 @@ module _ (g h : Objects Obj) (m n : Heard) (now f t : ℕ) (asks : List (Stage O
       let rank-t : rank h.book t ≡ 2 = (k.ages.kept t (omega (arith, two.last)) lives-t).1 ∙ two.tftp_rank in
       let top-f : ObjectStands ObjStands h f (above ++ entries_of f ds) = subst (ObjectStands ObjStands h f) (ap (trace_after f above) all ∙ quiet-f.1 above) (k.keeps f above up) in
       let top-t : ObjectStands ObjStands h t (below ++ entries_of t ds) = subst (ObjectStands ObjStands h t) (ap (trace_after t below) all ∙ quiet-t.1 below) (k.keeps t below down) in
-      let keeps-f : IsUnharvested g f → IsUnharvested h f = mark_stays obj_nature ObjStands (node_at g) (node_at h) f 0 ds none hosts in
-      let keeps-t : IsUnharvested g t → IsUnharvested h t = mark_stays obj_nature ObjStands (node_at g) (node_at h) t 0 ds none-t hosts in
+      let keeps-f : IsOfKind g f 0 → IsOfKind h f 0 = mark_stays obj_nature ObjStands (node_at g) (node_at h) f 0 ds none hosts in
+      let keeps-t : IsOfKind g t 0 → IsOfKind h t 0 = mark_stays obj_nature ObjStands (node_at g) (node_at h) t 0 ds none-t hosts in
       let node-f = noded f lives-f in
       let node-t = noded t lives-t in
       let fe = fetch-node node-f.node (above ++ entries_of f ds) (node-f.at_rank ∙ rank-f) (keeps-f bare.0 node-f.node node-f.is_node) (top-f node-f.node node-f.is_node).0 in

@@ -158,18 +158,10 @@ one_end (e ∷ t) u v w (x, f, p) (y, g, q) h k =
     let same : x ≡ y = one_next u x y e f g (asks_back t x v p h) (asks_back t y w q k) in
     one_end t y v w (subst (λ (z : Conversation). RunsTo z t v) same p) q h k
 
--- from the beginning too
-pub one_talk : (t : List (NodeEntry Obj Load)) (v w : Conversation) → RunsTo unbegun t v → RunsTo unbegun t w → TalkMeets v → TalkMeets w → v ≡ w
-one_talk t v w p q h k = one_end t unbegun v w p q (asks_of v h) (asks_of w k)
-
 -- a run over two traces is one over the first and then one over the second
 pub runs_split : (v w : Conversation) (s t : List (NodeEntry Obj Load)) → RunsTo v (s ++ t) w → (u : Conversation) × RunsTo v s u × RunsTo u t w
 runs_split v w [] t run = (v, refl, run)
 runs_split v w (e ∷ s) t (x, goes, run) = let r = runs_split x w s t run in (r.0, (x, goes, r.1), r.2)
-
-pub runs_join : (v u w : Conversation) (s t : List (NodeEntry Obj Load)) → RunsTo v s u → RunsTo u t w → RunsTo v (s ++ t) w
-runs_join v u w [] t p q = subst (λ (z : Conversation). RunsTo z t w) (sym p) q
-runs_join v u w (e ∷ s) t (x, goes, p) q = (x, goes, runs_join x u w s t p q)
 
 -- after more entries, the conversation of those before was continued
 pub talk_goes_on : (s t : List (NodeEntry Obj Load)) (v w : Conversation) → RunsTo unbegun s v → TalkMeets v → RunsTo unbegun (s ++ t) w → TalkMeets w → RunsTo v t w

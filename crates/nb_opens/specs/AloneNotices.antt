@@ -34,10 +34,14 @@ alone_ignored p by = tells (Entered p by) ∷ tells (Left p) ∷ []
 abbrev pub alone_closed : ℕ → Cause → List Notice
 alone_closed x c = tells (Closed (port_at x 0) c) ∷ tells (Closed (port_at x 1) c) ∷ []
 
+-- all its ports are closed, by rising slot
+abbrev pub all_closed : ℕ → Cause → List Notice
+all_closed x c = alone_closed x c ++ (tells (Closed (port_at x 2) c) ∷ tells (Closed (port_at x 3) c) ∷ [])
+
 -- it is let go, and freed
 abbrev pub alone_freed : ℕ → List Notice
 alone_freed x = tells (LetGo (serial x)) ∷ tells (Freed (serial x)) ∷ []
 
--- the end of the graph: all four ports are closed by rising slot, and then it is let go
+-- the end of the graph
 abbrev pub alone_shut : ℕ → Cause → List Notice
-alone_shut x c = alone_closed x c ++ ((tells (Closed (port_at x 2) c) ∷ tells (Closed (port_at x 3) c) ∷ []) ++ alone_freed x)
+alone_shut x c = all_closed x c ++ alone_freed x

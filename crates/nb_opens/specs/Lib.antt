@@ -1,11 +1,6 @@
 pub mod Entries
+pub mod Marks
 pub mod Notices
 pub mod Pairs
-pub mod PairEvents
-pub mod Graphs
-pub mod Traces
 pub mod AloneNotices
-pub mod AloneEvents
-pub mod Waiters
-pub mod Companies
 pub mod Alones

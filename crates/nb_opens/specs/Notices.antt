@@ -25,12 +25,6 @@ serial x = record { 0 = x }
 abbrev pub sent_from : Port → Said → Notice
 sent_from p m = message p m.tag m.rec m.a m.b m.bytes
 
--- the two objects are made, and plugged
-abbrev pub made_notices : ℕ → ℕ → List Notice
-made_notices f t =
-    tells (Made (serial f) 1) ∷ tells (Held (serial f)) ∷ tells (Made (serial t) 4) ∷ tells (Held (serial t))
-    ∷ tells (Plugged (port_at f 1) (port_at t 0)) ∷ []
-
 -- the Tftp is made below a Fetch that waits, and plugged
 abbrev pub completed_notices : ℕ → ℕ → List Notice
 completed_notices f t = tells (Made (serial t) 4) ∷ tells (Held (serial t)) ∷ tells (Plugged (port_at f 1) (port_at t 0)) ∷ []
@@ -57,8 +51,13 @@ abbrev pub call_notices : ℕ → ℕ → Port → Way → ℕ → Acts → List
 call_notices f t p by rec acts =
     (tells (Entered p by) ∷ []) ++ (down_notices t rec acts ++ (up_notices f acts.give ++ (end_notices f t acts.over ++ (tells (Left p) ∷ []))))
 
--- The body has grown too large: the Fetch closes both ports, and the Tftp hears of it, which passes the close on if
--- its transfer goes on; else it closes its port below with the transfer's cause afterwards.
+-- The body has grown too large: the bytes go up, the Fetch closes both ports, and the Tftp hears of it.
+abbrev pub too_many_notices : ℕ → ℕ → List Notice
+too_many_notices f t =
+    tells (Entered (port_at f 1) way.Up) ∷ tells (Closed (port_at f 0) body_too_large) ∷ tells (Closed (port_at f 1) body_too_large)
+    ∷ tells (Closed (port_at t 0) body_too_large) ∷ tells (Entered (port_at t 0) way.Close) ∷ []
+
+-- It passes the close on if its transfer goes on; else it closes its port below with the transfer's cause afterwards.
 abbrev pub passed_on : ℕ → Option Cause → List Notice
 passed_on t None = tells (Closed (port_at t 1) body_too_large) ∷ []
 passed_on t (Some c) = []
@@ -67,14 +66,15 @@ abbrev pub closed_late : ℕ → Option Cause → List Notice
 closed_late t None = []
 closed_late t (Some c) = tells (Closed (port_at t 1) c) ∷ []
 
+-- the two are unplugged, and what is left of the message to the Fetch is dropped
+abbrev pub parted_notices : ℕ → ℕ → List Notice
+parted_notices f t = tells (Left (port_at t 0)) ∷ tells (Unplugged (port_at f 1) (port_at t 0)) ∷ tells (Dropped (port_at f 1)) ∷ tells (Left (port_at f 1)) ∷ []
+
+-- such a call
 abbrev pub large_notices : ℕ → ℕ → Port → Way → ℕ → Acts → List Notice
 large_notices f t p by rec acts =
     (tells (Entered p by) ∷ []) ++ (down_notices t rec acts
-    ++ ((tells (Entered (port_at f 1) way.Up) ∷ tells (Closed (port_at f 0) body_too_large) ∷ tells (Closed (port_at f 1) body_too_large)
-    ∷ tells (Closed (port_at t 0) body_too_large) ∷ tells (Entered (port_at t 0) way.Close) ∷ [])
-    ++ (passed_on t acts.over
-    ++ ((tells (Left (port_at t 0)) ∷ tells (Unplugged (port_at f 1) (port_at t 0)) ∷ tells (Dropped (port_at f 1)) ∷ tells (Left (port_at f 1)) ∷ [])
-    ++ (closed_late t acts.over ++ (tells (Left p) ∷ []))))))
+    ++ (too_many_notices f t ++ (passed_on t acts.over ++ (parted_notices f t ++ (closed_late t acts.over ++ (tells (Left p) ∷ []))))))
 
 -- the user asks, and the request leaves
 abbrev pub begun_notices : ℕ → ℕ → ℕ → Acts → List Notice

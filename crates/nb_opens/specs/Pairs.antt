@@ -6,13 +6,12 @@ use Rattle.nb_terms.specs.declared.cause.Cause.{Cause}
 use Rattle.nb_ledger.specs.declared.port.Port.{Port}
 use Rattle.nb_ledger.specs.declared.port.PortState.TheVariants.{Open, Linked, Closed}
 use Rattle.nb_ledger.specs.declared.event.Way.{Way}
-use Rattle.nb_ledger.specs.Flat.{Heard, Notice, Given}
+use Rattle.nb_ledger.specs.Flat.{Notice}
 use Rattle.nb_ledger.specs.Ledger.{port, holds, rank, object_lives}
-use Rattle.nb_graph.specs.Deeds.{Closes, no_memory}
+use Rattle.nb_graph.specs.Deeds.{no_memory}
 use Rattle.nb_graph.specs.Lived.{ObjectStands}
 use Rattle.nb_graph.specs.Trace.{NodeEntry}
-use Rattle.nb_graph.specs.Went.{WentOne}
-use Rattle.nb_graph.specs.Whole.{Objects, port_at, node_at}
+use Rattle.nb_graph.specs.Whole.{Objects, port_at}
 use Rattle.nb_tftp.specs.Asks.{Begun}
 use Rattle.nb_tftp.specs.History.{Call, Entry, entry, given_of}
 use Rattle.nb_tftp.specs.Sentences.{Meets}
@@ -21,22 +20,15 @@ use Rattle.nb_nodes.specs.declared.load.Load.TheVariants as load
 use Rattle.nb_nodes.specs.declared.obj.Obj.{Obj}
 use Rattle.nb_nodes.specs.Conversations.{unbegun, under_way, RunsTo, first_acts}
 use Rattle.nb_nodes.specs.Fetches.{gathers, closed_well, taken_below}
-use Rattle.nb_nodes.specs.Objects.{obj_nature, kind_of_obj, rank_of_obj, mark_of_obj}
+use Rattle.nb_nodes.specs.Objects.{kind_of_obj, rank_of_obj, mark_of_obj}
 use Rattle.nb_nodes.specs.Standing.{ObjStands}
+use Rattle.nb_opens.specs.Marks.{IsOfKind}
 use Rattle.nb_opens.specs.Notices.{call_notices, large_notices, begun_notices, first_close}
-
--- nothing lives, so many were made, and there is room for two
-pub record IsEmpty (g : Objects Obj) (made : ℕ) : Type 0 where
-  pub made_are : g.book.made ≡ made
-  pub dead : (x : ℕ) → object_lives g.book x ≡ false
-  pub none : length g.book.objects ≡ 0
-  pub room : 2 ≤ g.book.room
 
 -- both live, of which the Tftp was made last of all, with a hold each, and nothing else does; their slots 2 and 3 are open
 pub record AreTwo (g : Objects Obj) (f t : ℕ) : Type 0 where
   pub older : f < t
   pub last : g.book.made ≡ t
-  pub room : 2 ≤ g.book.room
   pub fetch_lives : object_lives g.book f ≡ true
   pub tftp_lives : object_lives g.book t ≡ true
   pub alone : (x : ℕ) → (x ≡ f → ⊥) → (x ≡ t → ⊥) → object_lives g.book x ≡ false
@@ -57,13 +49,9 @@ pub record AreJoined (g : Objects Obj) (f t : ℕ) : Type 0 where
   pub back : port g.book t 0 ≡ Linked (port_at f 1)
   pub below : port g.book t 1 ≡ Open
 
--- nothing was handed out by an object of a download
-abbrev pub IsUnharvested : Objects Obj → ℕ → Type 0
-IsUnharvested g x = (n : Obj) → node_at g x ≡ Some n → mark_of_obj n ≡ 0
-
--- nor by the two
+-- nothing was handed out by the two
 abbrev pub AreUnharvested : Objects Obj → ℕ → ℕ → Type 0
-AreUnharvested g f t = IsUnharvested g f × IsUnharvested g t
+AreUnharvested g f t = IsOfKind g f 0 × IsOfKind g t 0
 
 -- nothing was asked of them yet
 pub record AreMade (g : Objects Obj) (f t : ℕ) : Type 0 where
@@ -122,7 +110,7 @@ pub record HasEnded (g : Objects Obj) (f t : ℕ) (body : Option (List ℕ)) : T
 abbrev pub body_at_end : Cause → List ℕ → Option (List ℕ)
 body_at_end c body = if c.code == 0 then Some body else None
 
--- What a datagram or a time does to the two, by what the transfer asks then, and what the outside is told. Want of
+-- What a datagram or a time does to the two, by what the transfer asks then, and what the outside is told. Out of
 -- memory shows in the first close.
 pub data CallDoes (g : Objects Obj) (f t : ℕ) (b : Begun) (start : ℕ) (calls : List Entry) (body : List ℕ) (p : Port) (by : Way) (rec : ℕ) (call : Call) (ns : List Notice) : Type 0 where
   goes_on : (acts : Acts) → Meets b start (calls ++ entry call acts ∷ []) → acts.over ≡ None → BodyFits (body ++ given_of call acts.give) →
@@ -144,27 +132,7 @@ IsDownloading g f t = (b : Begun) × (start : ℕ) × (calls : List Entry) × (b
 abbrev pub AreGoing : Objects Obj → ℕ → ℕ → Type 0
 AreGoing g f t = AreMade g f t ⊎ IsDownloading g f t
 
--- an open has ended, with some body or none
-abbrev pub IsEnded : Objects Obj → ℕ → ℕ → Type 0
-IsEnded g f t = (body : Option (List ℕ)) × HasEnded g f t body
-
--- what a datagram or a time does, for each transfer that may be under way
-abbrev pub DoesCall : Objects Obj → Objects Obj → ℕ → ℕ → Port → Way → ℕ → Call → Heard → Heard → Type 0
-DoesCall old new f t p by rec call before after =
-    (ns : List Notice) × Given before after ns
-    × ((b : Begun) (start : ℕ) (calls : List Entry) (body : List ℕ) → Downloads old f t b start calls body → CallDoes new f t b start calls body p by rec call ns)
-
 -- what the user's asking does, by what the outside is told: the request leaves, or memory runs out
 pub data BeginDoes (g : Objects Obj) (f t : ℕ) (b : Begun) (now rec : ℕ) (ns : List Notice) : Type 0 where
   begins : ns ≡ begun_notices f t rec (first_acts b) → Downloads g f t b now [] [] → BeginDoes g f t b now rec ns
   fails_at_once : first_close ns ≡ Some no_memory → BeginDoes g f t b now rec ns
-
-abbrev pub DoesBegin : Objects Obj → ℕ → ℕ → Begun → ℕ → ℕ → Heard → Heard → Type 0
-DoesBegin new f t b now rec before after = (ns : List Notice) × Given before after ns × BeginDoes new f t b now rec ns
-
--- slots 2 and 3 of an object are closed, one after the other
-abbrev pub ClosesFree : Objects Obj → Objects Obj → Heard → Heard → ℕ → ℕ → Cause → Type 0
-ClosesFree old new before after x now cause =
-    (mid : Objects Obj) × (told : Heard)
-    × WentOne ObjStands obj_nature now (Closes (port_at x 2) cause ∷ []) old mid before told
-    × WentOne ObjStands obj_nature now (Closes (port_at x 3) cause ∷ []) mid new told after
