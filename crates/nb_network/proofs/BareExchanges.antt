@@ -10,9 +10,9 @@ use Rattle.nb_nodes.specs.Exchanges.{Service}
 use Rattle.nb_nodes.specs.LookupExchanges.{lookup_service}
 use Rattle.nb_nodes.specs.LeaseExchanges.{lease_service}
 use Rattle.nb_nodes.specs.EchoExchanges.{ping_service}
-use Rattle.nb_opens.specs.Alones.{alone_number}
-use Rattle.nb_opens.specs.declared.alone.AloneKind.TheVariants as alone
-use Rattle.nb_opens.specs.Graphs.{without_graph}
+use Rattle.nb_chains.specs.declared.kind.ChainKind.TheVariants as chain
+use Rattle.nb_chains.specs.Kinds.{top_mark}
+use Rattle.nb_traced.specs.Plain.{without_graph}
 use Rattle.nb_stack.specs.Client.{Client}
 use Rattle.nb_tftp.specs.Blocks.{file}
 use Rattle.nb_tftp.specs.History.{Entry, entry, got}
@@ -103,9 +103,9 @@ under_way_bare tftp c g l x i = record {
   exchanged = bare_exchanged l.number l.server i.entries (l.exchanges ++ x ∷ []) i.exchanged l.exchanges x refl;
   short = i.short;
 }
-under_way_bare (dns id) c g l x i = asking_bare lookup_service (alone_number alone.Resolver) (look_up_of id l) c g l x i
-under_way_bare (dhcp a) c g l x i = asking_bare lease_service (alone_number alone.Dhcp) a c g l x i
-under_way_bare ping c g l x i = asking_bare ping_service (alone_number alone.Ping) (ping_of l) c g l x i
+under_way_bare (dns id) c g l x i = asking_bare lookup_service (top_mark chain.Name) (look_up_of id l) c g l x i
+under_way_bare (dhcp a) c g l x i = asking_bare lease_service (top_mark chain.Lease) a c g l x i
+under_way_bare ping c g l x i = asking_bare ping_service (top_mark chain.Echo) (ping_of l) c g l x i
 
 pub open_bare : (g : Objects Obj) (o : Open) (l : Live) (x : Exchange) → IsOpenOf g o (continued l x) → IsOpenOf g o (continued l (bared x))
 open_bare g o l x i = record {

@@ -9,7 +9,7 @@ use Rattle.nb_graph.specs.Whole.{Objects}
 use Rattle.nb_ledger.specs.GraphRun.{GraphState, GraphRunOf}
 use Rattle.nb_ledger.specs.Ledger.{run_state}
 use Rattle.nb_nodes.specs.declared.obj.Obj.{Obj}
-use Rattle.nb_opens.specs.Graphs.{without_graph}
+use Rattle.nb_traced.specs.Plain.{without_graph}
 use Rattle.nb_stack.specs.Client.{Client}
 use Rattle.nb_machine.specs.Lives.{Live, kind_number, open_record}
 use Rattle.nb_machine.specs.States.{State, bare}

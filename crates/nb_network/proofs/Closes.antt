@@ -5,8 +5,8 @@ use Rattle.nb_terms.specs.declared.cause.Cause.{Cause}
 use Rattle.nb_defs.specs.Records.{Out, out_texts, ended}
 use Rattle.nb_graph.specs.Whole.{Objects}
 use Rattle.nb_nodes.specs.declared.obj.Obj.{Obj}
-use Rattle.nb_opens.specs.Graphs.{without_graph}
-use Rattle.nb_opens.proofs.Plain.{plain_append}
+use Rattle.nb_traced.specs.Plain.{without_graph}
+use Rattle.nb_traced.proofs.Plain.{plain_append}
 use Rattle.nb_record.specs.Logged.{Logged, Puts}
 use Rattle.nb_runner.proofs.Puts.{Puts-nothing, Puts-outs}
 use Rattle.nb_stack.specs.Client.{Client}

@@ -7,7 +7,7 @@ use Rattle.nb_ipv4.specs.PacketText.{PacketParts}
 use Rattle.nb_ipv4.specs.UdpText.{UdpParts}
 use Rattle.nb_ipv4.specs.EchoText.{EchoParts}
 use Rattle.nb_nodes.specs.declared.obj.Obj.{Obj}
-use Rattle.nb_opens.specs.declared.alone.Arrival.{Arrival}
+use Rattle.nb_chains.specs.declared.arrival.Arrival.{Arrival}
 use Rattle.nb_wire.specs.declared.address.Ip4.{Ip4}
 use Rattle.nb_machine.specs.Kinds.{is_for, is_ping, is_reply_for, takes_from}
 use Rattle.nb_machine.specs.Lives.{OpenKind, tftp, dns, dhcp, ping, Live}

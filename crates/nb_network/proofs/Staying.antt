@@ -11,8 +11,9 @@ use Rattle.nb_nodes.specs.Exchanges.{Service}
 use Rattle.nb_nodes.specs.LookupExchanges.{lookup_service}
 use Rattle.nb_nodes.specs.LeaseExchanges.{lease_service}
 use Rattle.nb_nodes.specs.EchoExchanges.{ping_service}
-use Rattle.nb_opens.specs.Alones.{Talks, alone_number}
-use Rattle.nb_opens.specs.declared.alone.AloneKind.TheVariants as alone
+use Rattle.nb_opens.specs.Alones.{Talks}
+use Rattle.nb_chains.specs.declared.kind.ChainKind.TheVariants as chain
+use Rattle.nb_chains.specs.Kinds.{top_mark}
 use Rattle.nb_opens.specs.Pairs.{Downloads}
 use Rattle.nb_tftp.specs.Blocks.{file}
 use Rattle.nb_tftp.specs.History.{got}
@@ -55,9 +56,9 @@ under_way_stays tftp c g h l e i = record {
   exchanged = i.exchanged;
   short = i.short;
 }
-under_way_stays (dns id) c g h l e i = asking_stays lookup_service (alone_number alone.Resolver) (look_up_of id l) c g h l e i
-under_way_stays (dhcp a) c g h l e i = asking_stays lease_service (alone_number alone.Dhcp) a c g h l e i
-under_way_stays ping c g h l e i = asking_stays ping_service (alone_number alone.Ping) (ping_of l) c g h l e i
+under_way_stays (dns id) c g h l e i = asking_stays lookup_service (top_mark chain.Name) (look_up_of id l) c g h l e i
+under_way_stays (dhcp a) c g h l e i = asking_stays lease_service (top_mark chain.Lease) a c g h l e i
+under_way_stays ping c g h l e i = asking_stays ping_service (top_mark chain.Echo) (ping_of l) c g h l e i
 
 -- an open whose objects stay as they are stays what it is
 pub open_stays : (g h : Objects Obj) (o : Open) (l : Live) → AreNoded rank_of_obj h → ((x : ℕ) → is_one_of (chain_ids o.chain) x ≡ true → KeepsObject g h x) → g.book.made ≤ h.book.made → IsOpenOf g o l → IsOpenOf h o l

@@ -12,8 +12,8 @@ use Rattle.nb_ledger.specs.Ledger.{run_state}
 use Rattle.nb_ledger.specs.declared.event.Way.{Way}
 use Rattle.nb_nodes.specs.declared.obj.Obj.{Obj}
 use Rattle.nb_nodes.specs.Objects.{rank_of_obj}
-use Rattle.nb_opens.specs.Graphs.{without_graph}
-use Rattle.nb_opens.proofs.Plain.{plain_append}
+use Rattle.nb_traced.specs.Plain.{without_graph}
+use Rattle.nb_traced.proofs.Plain.{plain_append}
 use Rattle.nb_record.specs.Logged.{Logged, Puts}
 use Rattle.nb_stack.specs.Bound.{without}
 use Rattle.nb_stack.specs.Client.{Client}

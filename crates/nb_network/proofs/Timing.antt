@@ -6,8 +6,8 @@ use Rattle.std.proofs.lemmas.List.{length-append}
 use Rattle.std.proofs.lemmas.List.Folds.{find-append}
 use Rattle.nb_defs.specs.Records.{Out, out_texts, step, tick}
 use Rattle.nb_ledger.specs.declared.event.Way.TheVariants.{Time}
-use Rattle.nb_opens.specs.Graphs.{without_graph}
-use Rattle.nb_opens.proofs.Plain.{plain_append}
+use Rattle.nb_traced.specs.Plain.{without_graph}
+use Rattle.nb_traced.proofs.Plain.{plain_append}
 use Rattle.nb_record.specs.Logged.{Logged, Puts}
 use Rattle.nb_runner.proofs.Puts.{Puts-nothing, Puts-outs}
 use Rattle.nb_stack.specs.Client.{Client}

@@ -3,7 +3,7 @@ use Rattle.std.specs.Prelude.{◌≡◌, ◌⊎◌, ℕ, true, false, List, Opti
 use Rattle.std.specs.List.{AllByRecursion}
 use Rattle.nb_wire.specs.declared.address.Ip4.{Ip4}
 use Rattle.nb_ledger.specs.declared.event.Way.TheVariants.{Up}
-use Rattle.nb_opens.specs.declared.alone.Arrival.{Arrival}
+use Rattle.nb_chains.specs.declared.arrival.Arrival.{Arrival}
 use Rattle.nb_record.specs.Logged.{Logged}
 use Rattle.nb_stack.specs.Client.{Client}
 use Rattle.nb_stack.specs.Takes.{Outcome, handed}

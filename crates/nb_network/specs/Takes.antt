@@ -12,7 +12,7 @@ use Rattle.nb_ledger.specs.declared.event.Way.TheVariants.{Up, Time}
 use Rattle.nb_ipv4.specs.PacketText.{PacketParts}
 use Rattle.nb_ipv4.specs.UdpText.{UdpParts}
 use Rattle.nb_ipv4.specs.EchoText.{EchoParts}
-use Rattle.nb_opens.specs.Graphs.{without_graph}
+use Rattle.nb_traced.specs.Plain.{without_graph}
 use Rattle.nb_stack.specs.Client.{Client}
 use Rattle.nb_stack.specs.Brings.{Brought, datagram, echo_reply, Brings}
 use Rattle.nb_machine.specs.Lives.{Live}

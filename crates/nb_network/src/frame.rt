@@ -14,9 +14,8 @@ ghost use Rattle.nb_stack.specs.Takes.{outcome};
 ghost use Rattle.nb_teller.specs.Put.{IsFrameOrNothing};
 
 use crate::{HasEnded, Opens};
-use nb_chains::ChainKind;
+use nb_chains::{Arrival, ChainKind};
 use nb_open::Open;
-use nb_opens::Arrival;
 use nb_record::Log;
 use nb_stack::{Stack, Taken};
 use nb_teller::{Carrier, Desk, put_reply, put_step};

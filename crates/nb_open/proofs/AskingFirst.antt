@@ -10,8 +10,8 @@ use Rattle.nb_nodes.proofs.AskLemmas.{path_short}
 use Rattle.nb_nodes.specs.EchoExchanges.{ping_service, pinged_by}
 use Rattle.nb_nodes.specs.LeaseExchanges.{asker_of, lease_service}
 use Rattle.nb_nodes.specs.LookupExchanges.{lookup_ask_value, lookup_for, lookup_service}
-use Rattle.nb_opens.specs.declared.alone.AloneKind.TheVariants as alone
-use Rattle.nb_opens.specs.Alones.{Begins, alone_number, starts, fails_at_once as fails_alone}
+use Rattle.nb_chains.specs.declared.kind.ChainKind.TheVariants as chain
+use Rattle.nb_opens.specs.Alones.{Begins, starts, fails_at_once as fails_alone}
 use Rattle.nb_opens.specs.Notices.{first_close}
 use Rattle.nb_opens.specs.Pairs.{BeginDoes, begins, fails_at_once}
 use Rattle.nb_stack.specs.Client.{Client}
@@ -27,6 +27,7 @@ use Rattle.nb_machine.specs.Sendings.{request_of}
 use Rattle.nb_machine.specs.Transfers.{at_first as transfer_at_first, transfer_of}
 use Rattle.nb_chains.specs.Calls.{BeginsChain, IsAsk}
 use Rattle.nb_chains.specs.Chains.{AreChained, IsReadyChain, chain_ids, own_graph}
+use Rattle.nb_chains.specs.Kinds.{top_mark}
 use Rattle.nb_teller.specs.Tellings.{any_lacks_route}
 use Rattle.nb_teller.proofs.TellingLemmas.{SpeaksFor, one as one_send}
 use Rattle.nb_open.specs.declared.open.Open.{Open}
@@ -122,7 +123,7 @@ module _ (number now : ℕ) (link : Client) (o : Open) (old new : Objects Obj) (
       by (fails_at_once memory) = runs_short memory
   begins_by (Name a) can asks ready called = by (k.lookup (lookup_for (lookup_ask_value a)) asks ready.1)
     where
-      by : Begins lookup_service (alone_number alone.Resolver) (own_graph o.chain new) o.chain.top.0 (lookup_for (lookup_ask_value a)) now rec k.ns → SetsOrFails (Name a) number now link o new k.ns
+      by : Begins lookup_service (top_mark chain.Name) (own_graph o.chain new) o.chain.top.0 (lookup_for (lookup_ask_value a)) now rec k.ns → SetsOrFails (Name a) number now link o new k.ns
       by (starts same talks) =
           let l = live_by (Name a) number now in
           let first = query_to (look_up_of a.id l) in
@@ -132,7 +133,7 @@ module _ (number now : ℕ) (link : Client) (o : Open) (old new : Objects Obj) (
       by (fails_alone memory) = runs_short memory
   begins_by (Lease a) can asks ready called = by (k.lease (asker_of a) asks ready.1)
     where
-      by : Begins lease_service (alone_number alone.Dhcp) (own_graph o.chain new) o.chain.top.0 (asker_of a) now rec k.ns → SetsOrFails (Lease a) number now link o new k.ns
+      by : Begins lease_service (top_mark chain.Lease) (own_graph o.chain new) o.chain.top.0 (asker_of a) now rec k.ns → SetsOrFails (Lease a) number now link o new k.ns
       by (starts same talks) =
           let l = live_by (Lease a) number now in
           let body = message_text (asker_of a) None in
@@ -142,7 +143,7 @@ module _ (number now : ℕ) (link : Client) (o : Open) (old new : Objects Obj) (
       by (fails_alone memory) = runs_short memory
   begins_by (Echo a) can asks ready called = by (k.echo (pinged_by a) asks ready.1)
     where
-      by : Begins ping_service (alone_number alone.Ping) (own_graph o.chain new) o.chain.top.0 (pinged_by a) now rec k.ns → SetsOrFails (Echo a) number now link o new k.ns
+      by : Begins ping_service (top_mark chain.Echo) (own_graph o.chain new) o.chain.top.0 (pinged_by a) now rec k.ns → SetsOrFails (Echo a) number now link o new k.ns
       by (starts same talks) =
           let l = live_by (Echo a) number now in
           sets (sets_by (Echo a) number now link o new k.ns (echo_request (ping_of l)) called.number refl

@@ -18,7 +18,7 @@ use Rattle.nb_teller.specs.declared.speaker.Speaker.{Speaker}
 use Rattle.nb_teller.specs.declared.teller.Teller.{Teller}
 use Rattle.nb_teller.specs.Spelling.{IsBlank, IsSpelled, IsWhole, Spelling}
 use Rattle.nb_teller.specs.Tellings.{told_records}
-use Rattle.nb_teller.proofs.SpellingLemmas.{first_close-append}
+use Rattle.nb_opens.proofs.CloseLemmas.{first_close-append}
 use Rattle.nb_teller.proofs.Tellers.{told_is}
 use Rattle.nb_open.specs.declared.open.Open.{Open}
 use Rattle.nb_open.specs.Ends.{ClosesOpen}

@@ -7,7 +7,7 @@ use Rattle.nb_ledger.specs.Flat.{Notice}
 use Rattle.nb_graph.specs.Deeds.{no_memory}
 use Rattle.nb_graph.specs.Whole.{Objects}
 use Rattle.nb_nodes.specs.declared.obj.Obj.{Obj}
-use Rattle.nb_opens.specs.Graphs.{without_graph}
+use Rattle.nb_traced.specs.Plain.{without_graph}
 use Rattle.nb_opens.specs.Notices.{first_close}
 use Rattle.nb_stack.specs.Client.{Client}
 use Rattle.nb_machine.specs.CommandRecords.{no_route}

@@ -1,12 +1,12 @@
 -- What goes down of what a core asks: its records, and whether a message of it finds no route.
 use Rattle.std.proofs.Common.{◌≡◌, ℕ, not, List, [], ◌∷◌, ◌++◌, map, Option, Some, None, refl, ◌∙◌, ap, subst, append-nil}
-use Rattle.std.specs.List.{list_any}
+use Rattle.std.specs.List.{AllByRecursion, list_any}
 use Rattle.nb_terms.specs.declared.acts.Acts.{Acts}
 use Rattle.nb_terms.specs.declared.acts.SendTo.{SendTo}
 use Rattle.nb_defs.specs.Records.{advanced}
 use Rattle.nb_ledger.specs.declared.port.Port.{Port}
+use Rattle.nb_graph.specs.Trace.{Said}
 use Rattle.nb_nodes.specs.Carried.{advance_said, datagram_said, downs_of}
-use Rattle.nb_opens.specs.Graphs.{without_graph}
 use Rattle.nb_opens.specs.Notices.{sent_from}
 use Rattle.nb_stack.specs.Client.{Client}
 use Rattle.nb_tftp.specs.Asks.{Begun, datagram}
@@ -14,8 +14,13 @@ use Rattle.nb_machine.specs.Sendings.{acts_records, advance_records, has_route, 
 use Rattle.nb_machine.specs.Transfers.{finds_none}
 use Rattle.nb_teller.specs.declared.speaker.Speaker.{Speaker}
 use Rattle.nb_teller.specs.Speakers.{datagram_of}
-use Rattle.nb_teller.specs.Tellings.{any_lacks_route, told_records}
-use Rattle.nb_teller.proofs.TellingLemmas.{aside_messages, without_aside, SpeaksFor, AreSendsOf, none as no_send, one as one_send}
+use Rattle.nb_traced.specs.Pieces.{IsOfOpen}
+use Rattle.nb_traced.specs.Plain.{without_graph}
+use Rattle.nb_traced.proofs.Plain.{plain_aside}
+use Rattle.nb_traced.proofs.RecordLemmas.{puts_aside}
+use Rattle.nb_teller.specs.Tellings.{any_lacks_route, message_records, told_records}
+use Rattle.nb_teller.proofs.TellingLemmas.{SpeaksFor, AreSendsOf, none as no_send, one as one_send}
+use Rattle.nb_open.proofs.Callings.{each_append, of_message}
 
 -- the messages that a core asks for: at most one, from who speaks
 pub data AreSendsBy (who : Speaker) : List SendTo → Type 0 where
@@ -51,9 +56,14 @@ module _ (net : Client) (who : Speaker) (p : Port) (rec : ℕ) where
       by None = all_told acts.tried acts.sends.items sends
       by (Some place) = ap (λ r. advanced who.number place ∷ r) (all_told acts.tried acts.sends.items sends)
 
+  messages_own : (ms : List Said) → AllByRecursion (IsOfOpen who.number) (told_records net who (map (sent_from p) ms))
+  messages_own [] = tt
+  messages_own (m ∷ ms) =
+      each_append (IsOfOpen who.number) (message_records net who m.tag m.a m.b m.bytes) (told_records net who (map (sent_from p) ms)) (of_message net who m.tag m.a m.b m.bytes) (messages_own ms)
+
   -- what goes down of what a core asks are its records
   pub downs_others : (acts : Acts) → AreSendsBy who acts.sends.items → without_graph (told_records net who (map (sent_from p) (downs_of rec acts))) ≡ acts_records net who.number acts
-  downs_others acts sends = without_aside (told_records net who (map (sent_from p) (downs_of rec acts))) (aside_messages net who p (downs_of rec acts)) ∙ downs_told acts sends
+  downs_others acts sends = plain_aside (told_records net who (map (sent_from p) (downs_of rec acts))) (puts_aside who.number _ (messages_own (downs_of rec acts))) ∙ downs_told acts sends
 
   one_lacks : (try : Option ℕ) (port : ℕ) (body : List ℕ) →
       any_lacks_route net who (map (sent_from p) (map (datagram_said rec try) (datagram_of who port body ∷ []))) ≡ list_any (λ m. not (has_route net m)) (datagram_of who port body ∷ [])

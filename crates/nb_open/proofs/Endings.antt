@@ -13,13 +13,15 @@ use Rattle.nb_ledger.specs.Ledger.{run_state}
 use Rattle.nb_graph.specs.Whole.{Objects}
 use Rattle.nb_frames.specs.Frames.{is_one_of}
 use Rattle.nb_nodes.specs.declared.obj.Obj.{Obj}
-use Rattle.nb_opens.specs.Graphs.{without_graph}
 use Rattle.nb_opens.specs.Notices.{first_close, tells}
 use Rattle.nb_stack.specs.Client.{Client}
 use Rattle.nb_machine.specs.Takings.{end_among, end_told}
 use Rattle.nb_traced.specs.Holdings.{lowest_of, serials}
 use Rattle.nb_traced.specs.Outputs.{CallsOpen, own_serials}
 use Rattle.nb_traced.specs.Pieces.{IsCallOn, IsOfOpen, first_close_of}
+use Rattle.nb_traced.specs.Plain.{without_graph}
+use Rattle.nb_traced.proofs.Plain.{plain_append, plain_aside}
+use Rattle.nb_traced.proofs.RecordLemmas.{puts_aside}
 use Rattle.nb_chains.specs.declared.chain.Chain.{Chain}
 use Rattle.nb_chains.specs.Calls.{closing_notices}
 use Rattle.nb_chains.specs.Chains.{GoesOn, IsReleased, below_ids, chain_ids, last_below, last_serial, released_by}
@@ -28,7 +30,6 @@ use Rattle.nb_chains.specs.Shapes.{HasShape, SendsNone, StaysAbove}
 use Rattle.nb_chains.proofs.GoingOn.{others_both}
 use Rattle.nb_teller.specs.declared.speaker.Speaker.{Speaker}
 use Rattle.nb_teller.specs.Tellings.{message_records, told_records}
-use Rattle.nb_teller.proofs.TellingLemmas.{without-append}
 use Rattle.nb_open.specs.declared.open.Open.{Open}
 use Rattle.nb_open.specs.Open.{kin_of, pieces_below}
 use Rattle.nb_open.proofs.Callings.{GoesBy, IsEntryBy, call_on, each_append, of_message}
@@ -110,25 +111,6 @@ no_end : (k j : ℕ) (outs more : List Out) → AllByRecursion (IsOfOpen j) outs
 no_end k j [] more h = refl
 no_end k j (o ∷ outs) more h = no_end_in k j o (end_among k (outs ++ more)) h.0 ∙ no_end k j outs more h.1
 
-stays_in : (j : ℕ) (o : Out) (outs : List Out) → IsOfOpen j o → without_graph (o ∷ outs) ≡ o ∷ without_graph outs
-stays_in j (sent bytes) outs h = refl
-stays_in j (tried number count) outs h = refl
-stays_in j (advanced number place) outs h = refl
-stays_in j (graph happens) outs h = absurd h
-stays_in j (opened number kind server port own target) outs h = absurd h
-stays_in j (ended number cause) outs h = absurd h
-stays_in j (step number) outs h = absurd h
-stays_in j (text bytes) outs h = absurd h
-stays_in j (command depth line place expanded words) outs h = absurd h
-stays_in j (result cause) outs h = absurd h
-stays_in j (script what depth cause) outs h = absurd h
-stays_in j (part kind index offset bytes) outs h = absurd h
-stays_in j (done status) outs h = absurd h
-
-stays_so : (j : ℕ) (outs : List Out) → AllByRecursion (IsOfOpen j) outs → without_graph outs ≡ outs
-stays_so j [] h = refl
-stays_so j (o ∷ outs) h = stays_in j o outs h.0 ∙ ap (λ z. o ∷ z) (stays_so j outs h.1)
-
 -- all that an open puts but the graph's records is its own
 pub put_of_open : (link : Client) (who : Speaker) (ns : List Notice) → AllByRecursion (IsOfOpen who.number) (without_graph (told_records link who ns))
 put_of_open link who [] = tt
@@ -136,7 +118,7 @@ put_of_open link who (event e ∷ ns) = put_of_open link who ns
 put_of_open link who (message from tag rec a b bytes ∷ ns) =
     let ms = message_records link who tag a b bytes in
     let own = of_message link who tag a b bytes in
-    subst (AllByRecursion (IsOfOpen who.number)) (sym (without-append ms (told_records link who ns) ∙ ap (λ z. z ++ without_graph (told_records link who ns)) (stays_so who.number ms own)))
+    subst (AllByRecursion (IsOfOpen who.number)) (sym (plain_append ms (told_records link who ns) ∙ ap (λ z. z ++ without_graph (told_records link who ns)) (plain_aside ms (puts_aside who.number ms own))))
     (each_append (IsOfOpen who.number) ms (without_graph (told_records link who ns)) own (put_of_open link who ns))
 
 -- no end is among them, and with ENDED that is

@@ -11,7 +11,7 @@ use Rattle.nb_graph.specs.Whole.{Objects}
 use Rattle.nb_frames.specs.Frames.{is_one_of}
 use Rattle.nb_frames.specs.Within.{IsEventWithin}
 use Rattle.nb_nodes.specs.declared.obj.Obj.{Obj}
-use Rattle.nb_opens.specs.Graphs.{without_graph}
+use Rattle.nb_traced.specs.Plain.{without_graph}
 use Rattle.nb_opens.specs.Notices.{first_close, or_else}
 use Rattle.nb_stack.specs.Client.{Client}
 use Rattle.nb_machine.specs.CommandRecords.{no_route}
@@ -25,7 +25,7 @@ use Rattle.nb_chains.proofs.GivingLemmas.{gives_both}
 use Rattle.nb_teller.specs.Deliveries.{delivered_bytes, delivered_address}
 use Rattle.nb_teller.specs.Spelling.{HasSpelled, IsSpelled, Spelling}
 use Rattle.nb_teller.specs.Tellings.{any_lacks_route, told_records}
-use Rattle.nb_teller.proofs.SpellingLemmas.{first_close-append}
+use Rattle.nb_opens.proofs.CloseLemmas.{first_close-append}
 use Rattle.nb_open.specs.declared.ended.Ended.{Ended}
 use Rattle.nb_open.specs.declared.open.Open.{Open}
 use Rattle.nb_open.specs.Exchanges.{Exchanges, HandsOut, IsLeaseMessage, last_put, with_exchange}

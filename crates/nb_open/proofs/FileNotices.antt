@@ -12,8 +12,7 @@ use Rattle.nb_ledger.specs.Flat.{Notice}
 use Rattle.nb_graph.specs.Whole.{port_at}
 use Rattle.nb_nodes.specs.Carried.{downs_of}
 use Rattle.nb_nodes.specs.Fetches.{body_too_large}
-use Rattle.nb_opens.specs.Notices.{call_notices, closed_late, down_notices, end_notices, first_close, large_notices, passed_on, tells, up_notices}
-use Rattle.nb_opens.specs.PairEvents.{call_back, large_back, large_front}
+use Rattle.nb_opens.specs.Notices.{call_notices, closed_late, down_notices, end_notices, first_close, large_notices, parted_notices, passed_on, tells, too_many_notices, up_notices}
 use Rattle.nb_stack.specs.Client.{Client}
 use Rattle.nb_tftp.specs.Asks.{Begun, datagram}
 use Rattle.nb_tftp.specs.History.{Call, Entry, entry}
@@ -56,7 +55,7 @@ abbrev up_back : ℕ → ℕ → Port → Acts → List Notice
 up_back f t p acts = up_notices f acts.give ++ (end_notices f t acts.over ++ (tells (Left p) ∷ []))
 
 abbrev large_rest : ℕ → ℕ → Port → Acts → List Notice
-large_rest f t p acts = map tells (large_front f t body_too_large) ++ (passed_on t acts.over ++ (map tells (large_back f t) ++ (closed_late t acts.over ++ map tells (call_back p))))
+large_rest f t p acts = too_many_notices f t ++ (passed_on t acts.over ++ (parted_notices f t ++ (closed_late t acts.over ++ (tells (Left p) ∷ []))))
 
 module _ (f t : ℕ) (p : Port) where
   call_events : (give : Option (ℕ × ℕ)) (over : Option Cause) → AreEvents (up_notices f give ++ (end_notices f t over ++ (tells (Left p) ∷ [])))
@@ -65,7 +64,7 @@ module _ (f t : ℕ) (p : Port) where
   call_events (Some r) None = (tt, (tt, (tt, tt)))
   call_events (Some r) (Some c) = (tt, (tt, (tt, (tt, (tt, (tt, (tt, (tt, (tt, (tt, tt))))))))))
 
-  large_events : (over : Option Cause) → AreEvents (map tells (large_front f t body_too_large) ++ (passed_on t over ++ (map tells (large_back f t) ++ (closed_late t over ++ map tells (call_back p)))))
+  large_events : (over : Option Cause) → AreEvents (too_many_notices f t ++ (passed_on t over ++ (parted_notices f t ++ (closed_late t over ++ (tells (Left p) ∷ [])))))
   large_events None = (tt, (tt, (tt, (tt, (tt, (tt, (tt, (tt, (tt, (tt, (tt, tt)))))))))))
   large_events (Some c) = (tt, (tt, (tt, (tt, (tt, (tt, (tt, (tt, (tt, (tt, (tt, tt)))))))))))
 
@@ -75,7 +74,7 @@ module _ (f t : ℕ) (p : Port) where
   call_quiet (Some r) None = (tt, (tt, (tt, tt)))
   call_quiet (Some r) (Some c) = (tt, (tt, (tt, (tt, (tt, (tt, (tt, (tt, (tt, (tt, tt))))))))))
 
-  large_quiet : (over : Option Cause) → AreQuiet (map tells (large_front f t body_too_large) ++ (passed_on t over ++ (map tells (large_back f t) ++ (closed_late t over ++ map tells (call_back p)))))
+  large_quiet : (over : Option Cause) → AreQuiet (too_many_notices f t ++ (passed_on t over ++ (parted_notices f t ++ (closed_late t over ++ (tells (Left p) ∷ [])))))
   large_quiet None = (tt, (tt, (tt, (tt, (tt, (tt, (tt, (tt, (tt, (tt, (tt, tt)))))))))))
   large_quiet (Some c) = (tt, (tt, (tt, (tt, (tt, (tt, (tt, (tt, (tt, (tt, (tt, tt)))))))))))
 

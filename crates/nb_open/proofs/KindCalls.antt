@@ -20,9 +20,9 @@ use Rattle.nb_nodes.specs.Exchanges.{Service}
 use Rattle.nb_nodes.specs.LookupExchanges.{dns_datagram_in, lookup_service}
 use Rattle.nb_nodes.specs.LeaseExchanges.{handed_in, lease_service}
 use Rattle.nb_nodes.specs.EchoExchanges.{ping_service, reply_in}
-use Rattle.nb_opens.specs.declared.alone.AloneKind.TheVariants as alone
-use Rattle.nb_opens.specs.declared.alone.Arrival.{Arrival}
-use Rattle.nb_opens.specs.Alones.{Receives, alone_number, arrival_said, fails_before, is_ignored, is_taken}
+use Rattle.nb_chains.specs.declared.kind.ChainKind.TheVariants as chain
+use Rattle.nb_chains.specs.declared.arrival.Arrival.{Arrival}
+use Rattle.nb_opens.specs.Alones.{Receives, fails_before, is_ignored, is_taken}
 use Rattle.nb_stack.specs.Client.{Client}
 use Rattle.nb_tftp.specs.Blocks.{file}
 use Rattle.nb_tftp.specs.History.{came as comes, got, ticked}
@@ -31,8 +31,9 @@ use Rattle.nb_machine.specs.Cores.{CoreExchanged, core_records, look_up_of, ping
 use Rattle.nb_machine.specs.Kinds.{KeepsBy}
 use Rattle.nb_machine.specs.Lives.{OpenInput, OpenKind, tftp, dns, dhcp, ping, Live, exchange, message, time}
 use Rattle.nb_machine.specs.Transfers.{transfer_of}
-use Rattle.nb_chains.specs.Calls.{CallsTwo, ReceivesOne, TicksOne}
+use Rattle.nb_chains.specs.Calls.{CallsTwo, ReceivesOne, TicksOne, arrival_said}
 use Rattle.nb_chains.specs.Chains.{own_graph}
+use Rattle.nb_chains.specs.Kinds.{top_mark}
 use Rattle.nb_chains.proofs.ShapesDone.{lease_gives, lookup_gives, ping_gives}
 use Rattle.nb_open.specs.declared.open.Open.{Open}
 use Rattle.nb_open.specs.Exchanges.{SuitsBy, with_exchange}
@@ -62,8 +63,8 @@ module _ (o : Open) (l : Live) (old new : Objects Obj) (link : Client) (ns : Lis
     by_time now put acts e =
         subst (λ z. CoreExchanged s l.number l.server (calls ++ s.timed now acts ∷ []) (l.exchanges ++ exchange (time now) link z ∷ [])) (sym e) (takes_time calls l.exchanges link now acts h)
 
-  name_core : (id : ℕ) (e : l.kind ≡ dns id) (k : IsAsking lookup_service (alone_number alone.Resolver) (look_up_of id l) o.chain old l) (came : OpenInput) (call : LookupCall) (p : Port) (by : Way) (rec : ℕ) →
-      More lookup_service k.calls (λ acts. lookup_entry call acts) came → CoreCall lookup_service (alone_number alone.Resolver) (look_up_of id l) o l came link new k.calls (λ acts. lookup_entry call acts) p by rec
+  name_core : (id : ℕ) (e : l.kind ≡ dns id) (k : IsAsking lookup_service (top_mark chain.Name) (look_up_of id l) o.chain old l) (came : OpenInput) (call : LookupCall) (p : Port) (by : Way) (rec : ℕ) →
+      More lookup_service k.calls (λ acts. lookup_entry call acts) came → CoreCall lookup_service (top_mark chain.Name) (look_up_of id l) o l came link new k.calls (λ acts. lookup_entry call acts) p by rec
   name_core id e k came call p by rec more = record {
     alone = k.below;
     called = is.called;
@@ -75,8 +76,8 @@ module _ (o : Open) (l : Live) (old new : Objects Obj) (link : Client) (ns : Lis
     finds = λ put acts given exchanged gives. name_finds (with_exchange l came link put) o.chain.top.0 p by rec acts given id (k.calls ++ lookup_entry call acts ∷ []) e exchanged gives;
   }
 
-  lease_core : (a : Asker) (e : l.kind ≡ dhcp a) (k : IsAsking lease_service (alone_number alone.Dhcp) a o.chain old l) (came : OpenInput) (call : LeaseCall) (p : Port) (by : Way) (rec : ℕ) →
-      More lease_service k.calls (λ acts. lease_entry call acts) came → CoreCall lease_service (alone_number alone.Dhcp) a o l came link new k.calls (λ acts. lease_entry call acts) p by rec
+  lease_core : (a : Asker) (e : l.kind ≡ dhcp a) (k : IsAsking lease_service (top_mark chain.Lease) a o.chain old l) (came : OpenInput) (call : LeaseCall) (p : Port) (by : Way) (rec : ℕ) →
+      More lease_service k.calls (λ acts. lease_entry call acts) came → CoreCall lease_service (top_mark chain.Lease) a o l came link new k.calls (λ acts. lease_entry call acts) p by rec
   lease_core a e k came call p by rec more = record {
     alone = k.below;
     called = is.called;
@@ -88,8 +89,8 @@ module _ (o : Open) (l : Live) (old new : Objects Obj) (link : Client) (ns : Lis
     finds = λ put acts given exchanged gives. lease_finds (with_exchange l came link put) o.chain.top.0 p by rec acts given a (k.calls ++ lease_entry call acts ∷ []) e exchanged gives;
   }
 
-  echo_core : (e : l.kind ≡ ping) (k : IsAsking ping_service (alone_number alone.Ping) (ping_of l) o.chain old l) (came : OpenInput) (call : PingCall) (p : Port) (by : Way) (rec : ℕ) →
-      More ping_service k.calls (λ acts. ping_entry call acts) came → CoreCall ping_service (alone_number alone.Ping) (ping_of l) o l came link new k.calls (λ acts. ping_entry call acts) p by rec
+  echo_core : (e : l.kind ≡ ping) (k : IsAsking ping_service (top_mark chain.Echo) (ping_of l) o.chain old l) (came : OpenInput) (call : PingCall) (p : Port) (by : Way) (rec : ℕ) →
+      More ping_service k.calls (λ acts. ping_entry call acts) came → CoreCall ping_service (top_mark chain.Echo) (ping_of l) o l came link new k.calls (λ acts. ping_entry call acts) p by rec
   echo_core e k came call p by rec more = record {
     alone = k.below;
     called = is.called;
@@ -121,17 +122,17 @@ module _ (o : Open) (l : Live) (old new : Objects Obj) (link : Client) (ns : Lis
         (two k.tftp k.below (transfer_of l) l.since k.entries (file (got k.entries)) k.downloads)
     received_by_kind (dns id) e k suits =
         let input : OpenInput = message rec a.port a.body.now now in
-        core_receives lookup_service (alone_number alone.Resolver) (look_up_of id l) k.calls (arrival_said rec a) now input
+        core_receives lookup_service (top_mark chain.Name) (look_up_of id l) k.calls (arrival_said rec a) now input
         (name_core id e k input (arrived (dns_datagram_in (arrival_said rec a)) now) (port_at o.chain.top.0 1) way.Up rec (by_message lookup_service k.calls k.exchanged rec a.port a.body.now now a.source.0 suits.0))
         (subst (λ z. lookup_service.takes 1 (record { tag = tag_number Datagram; rec = rec; a = z; b = a.source.0; bytes = a.body.now }) ≡ true) (sym suits.1) refl) ((one k.below).lookup (look_up_of id l) l.since k.calls k.talks)
     received_by_kind (dhcp who) e k suits =
         let input : OpenInput = message rec a.port a.body.now now in
-        core_receives lease_service (alone_number alone.Dhcp) who k.calls (arrival_said rec a) now input
+        core_receives lease_service (top_mark chain.Lease) who k.calls (arrival_said rec a) now input
         (lease_core who e k input (replied (handed_in (arrival_said rec a)) now) (port_at o.chain.top.0 1) way.Up rec (by_message lease_service k.calls k.exchanged rec a.port a.body.now now l.server refl))
         (subst (λ z. lease_service.takes 1 (record { tag = tag_number Datagram; rec = rec; a = z; b = a.source.0; bytes = a.body.now }) ≡ true) (sym suits) (is_short (length a.body.now) short)) ((one k.below).lease who l.since k.calls k.talks)
     received_by_kind ping e k suits =
         let input : OpenInput = message rec a.port a.body.now now in
-        core_receives ping_service (alone_number alone.Ping) (ping_of l) k.calls (arrival_said rec a) now input
+        core_receives ping_service (top_mark chain.Echo) (ping_of l) k.calls (arrival_said rec a) now input
         (echo_core e k input (echoed (reply_in (arrival_said rec a)) now) (port_at o.chain.top.0 1) way.Up rec (by_message ping_service k.calls k.exchanged rec a.port a.body.now now a.source.0 suits.0))
         (is_port a.port small) ((one k.below).ping (ping_of l) l.since k.calls k.talks)
 
@@ -143,13 +144,13 @@ module _ (o : Open) (l : Live) (old new : Objects Obj) (link : Client) (ns : Lis
     ticked_by_kind tftp e k =
         file_did o l old new link (ticked now) (port_at k.tftp.0 4) way.Time 0 ns e is.called k (two k.tftp k.below (transfer_of l) l.since k.entries (file (got k.entries)) k.downloads)
     ticked_by_kind (dns id) e k =
-        core_did lookup_service (alone_number alone.Resolver) (look_up_of id l) o l (time now) link new k.calls (lookup_service.timed now) (port_at o.chain.top.0 4) way.Time 0
+        core_did lookup_service (top_mark chain.Name) (look_up_of id l) o l (time now) link new k.calls (lookup_service.timed now) (port_at o.chain.top.0 4) way.Time 0
         (name_core id e k (time now) (clocked now) (port_at o.chain.top.0 4) way.Time 0 (by_time lookup_service k.calls k.exchanged now)) ns ((one k.below).lookup (look_up_of id l) l.since k.calls k.talks)
     ticked_by_kind (dhcp who) e k =
-        core_did lease_service (alone_number alone.Dhcp) who o l (time now) link new k.calls (lease_service.timed now) (port_at o.chain.top.0 4) way.Time 0
+        core_did lease_service (top_mark chain.Lease) who o l (time now) link new k.calls (lease_service.timed now) (port_at o.chain.top.0 4) way.Time 0
         (lease_core who e k (time now) (elapsed now) (port_at o.chain.top.0 4) way.Time 0 (by_time lease_service k.calls k.exchanged now)) ns ((one k.below).lease who l.since k.calls k.talks)
     ticked_by_kind ping e k =
-        core_did ping_service (alone_number alone.Ping) (ping_of l) o l (time now) link new k.calls (ping_service.timed now) (port_at o.chain.top.0 4) way.Time 0
+        core_did ping_service (top_mark chain.Echo) (ping_of l) o l (time now) link new k.calls (ping_service.timed now) (port_at o.chain.top.0 4) way.Time 0
         (echo_core e k (time now) (waited now) (port_at o.chain.top.0 4) way.Time 0 (by_time ping_service k.calls k.exchanged now)) ns ((one k.below).ping (ping_of l) l.since k.calls k.talks)
 
     pub passed : Did o l (time now) link new ns

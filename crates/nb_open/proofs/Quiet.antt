@@ -7,13 +7,14 @@ use Rattle.nb_ledger.specs.declared.event.GraphEvent.{GraphEvent}
 use Rattle.nb_ledger.specs.declared.port.Port.{Port}
 use Rattle.nb_ledger.specs.Flat.{Notice, event, message}
 use Rattle.nb_graph.specs.Trace.{Said}
-use Rattle.nb_opens.specs.Graphs.{without_graph}
+use Rattle.nb_traced.specs.Plain.{without_graph}
 use Rattle.nb_opens.specs.Notices.{sent_from, tells}
 use Rattle.nb_stack.specs.Client.{Client}
 use Rattle.nb_chains.specs.Shapes.{IsTagUp, SendsNone}
 use Rattle.nb_teller.specs.declared.speaker.Speaker.{Speaker}
 use Rattle.nb_teller.specs.Tellings.{any_lacks_route, lacks_route, message_records, message_lacks_route, told_records}
-use Rattle.nb_teller.proofs.TellingLemmas.{told-append, without-append}
+use Rattle.nb_traced.proofs.Plain.{plain_append}
+use Rattle.nb_teller.proofs.TellingLemmas.{told-append}
 
 -- an event, or a message to the user
 abbrev pub IsQuiet : Notice → Type 0
@@ -62,7 +63,7 @@ module _ (net : Client) (who : Speaker) where
   -- what stands after notices by which something goes down, or before them, and on both sides
   pub others_then : (xs ys : List Notice) → AreQuiet ys → without_graph (told_records net who (xs ++ ys)) ≡ without_graph (told_records net who xs)
   others_then xs ys h =
-      ap without_graph (told-append net who xs ys) ∙ (without-append (told_records net who xs) (told_records net who ys)
+      ap without_graph (told-append net who xs ys) ∙ (plain_append (told_records net who xs) (told_records net who ys)
       ∙ (ap (λ z. without_graph (told_records net who xs) ++ z) (quiet_others ys h) ∙ append-nil (without_graph (told_records net who xs))))
 
   pub lacks_then : (xs ys : List Notice) → AreQuiet ys → any_lacks_route net who (xs ++ ys) ≡ any_lacks_route net who xs
@@ -71,7 +72,7 @@ module _ (net : Client) (who : Speaker) where
 
   pub others_within : (xs downs ys : List Notice) → AreQuiet xs → AreQuiet ys → without_graph (told_records net who (xs ++ (downs ++ ys))) ≡ without_graph (told_records net who downs)
   others_within xs downs ys p q =
-      ap without_graph (told-append net who xs (downs ++ ys)) ∙ (without-append (told_records net who xs) (told_records net who (downs ++ ys))
+      ap without_graph (told-append net who xs (downs ++ ys)) ∙ (plain_append (told_records net who xs) (told_records net who (downs ++ ys))
       ∙ (ap (λ z. z ++ without_graph (told_records net who (downs ++ ys))) (quiet_others xs p) ∙ others_then downs ys q))
 
   pub lacks_within : (xs downs ys : List Notice) → AreQuiet xs → AreQuiet ys → any_lacks_route net who (xs ++ (downs ++ ys)) ≡ any_lacks_route net who downs

@@ -7,8 +7,7 @@ use Rattle.nb_ledger.specs.Flat.{Given, Notice}
 use Rattle.nb_graph.specs.Whole.{Objects, port_at}
 use Rattle.nb_nodes.specs.declared.obj.Obj.{Obj}
 use Rattle.nb_nodes.specs.Exchanges.{Service}
-use Rattle.nb_opens.specs.declared.alone.Arrival.{Arrival}
-use Rattle.nb_opens.specs.Alones.{arrival_said}
+use Rattle.nb_chains.specs.declared.arrival.Arrival.{Arrival}
 use Rattle.nb_stack.specs.Client.{Client}
 use Rattle.nb_tftp.specs.Blocks.{file}
 use Rattle.nb_tftp.specs.History.{came as comes, got, ticked}
@@ -17,7 +16,7 @@ use Rattle.nb_machine.specs.Lives.{OpenKind, tftp, dns, dhcp, ping, Live, messag
 use Rattle.nb_machine.specs.Transfers.{transfer_of}
 use Rattle.nb_chains.specs.declared.chain.Chain.{Chain}
 use Rattle.nb_chains.specs.declared.kind.ChainKind.{ChainKind}
-use Rattle.nb_chains.specs.Calls.{ComesOf, IsChainUnderWay, IsTalking, ReceivesChain, TicksChain, stays_under_way, has_closed, has_failed}
+use Rattle.nb_chains.specs.Calls.{ComesOf, IsChainUnderWay, IsTalking, ReceivesChain, TicksChain, arrival_said, stays_under_way, has_closed, has_failed}
 use Rattle.nb_chains.specs.Chains.{GoesOn, chain_ids, last_serial, own_graph}
 use Rattle.nb_chains.proofs.Opened.{under_way_open}
 use Rattle.nb_teller.specs.declared.teller.Teller.{Teller}

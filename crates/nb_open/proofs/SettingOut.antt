@@ -21,7 +21,7 @@ use Rattle.nb_chains.proofs.GivingLemmas.{gives_both}
 use Rattle.nb_teller.specs.declared.teller.Teller.{Teller}
 use Rattle.nb_teller.specs.Spelling.{HasSpelled, IsBlank, IsSpelled, IsWhole, Spelling}
 use Rattle.nb_teller.specs.Tellings.{any_lacks_route, told_records}
-use Rattle.nb_teller.proofs.SpellingLemmas.{first_close-append}
+use Rattle.nb_opens.proofs.CloseLemmas.{first_close-append}
 use Rattle.nb_teller.proofs.Tellers.{told_is}
 use Rattle.nb_open.specs.declared.ended.Ended.{Ended}
 use Rattle.nb_open.specs.declared.open.Open.{Open}

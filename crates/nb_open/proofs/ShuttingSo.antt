@@ -13,8 +13,7 @@ use Rattle.nb_graph.specs.Whole.{Objects, port_at}
 use Rattle.nb_frames.specs.Frames.{KeepsOthers, is_one_of}
 use Rattle.nb_nodes.specs.declared.obj.Obj.{Obj}
 use Rattle.nb_nodes.specs.Objects.{rank_of_obj}
-use Rattle.nb_opens.specs.AloneNotices.{alone_freed}
-use Rattle.nb_opens.specs.Companies.{all_closed}
+use Rattle.nb_opens.specs.AloneNotices.{all_closed, alone_freed}
 use Rattle.nb_opens.specs.Notices.{first_close, tells}
 use Rattle.nb_stack.specs.Client.{Client}
 use Rattle.nb_machine.specs.Lives.{Live}

@@ -12,7 +12,7 @@ use Rattle.nb_graph.specs.Whole.{Objects}
 use Rattle.nb_nodes.specs.declared.obj.Obj.{Obj}
 use Rattle.nb_frames.specs.Frames.{KeepsOthers, is_one_of}
 use Rattle.nb_frames.specs.Within.{IsEventWithin}
-use Rattle.nb_opens.specs.Graphs.{without_graph}
+use Rattle.nb_traced.specs.Plain.{without_graph}
 use Rattle.nb_stack.specs.Client.{Client}
 use Rattle.nb_machine.specs.Lives.{close, Live, exchange, continued}
 use Rattle.nb_traced.specs.Holdings.{serials}

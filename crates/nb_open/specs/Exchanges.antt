@@ -7,8 +7,8 @@ use Rattle.nb_ledger.specs.declared.event.Way.{Way}
 use Rattle.nb_ledger.specs.Ledger.{run_state}
 use Rattle.nb_graph.specs.Whole.{Objects}
 use Rattle.nb_nodes.specs.declared.obj.Obj.{Obj}
-use Rattle.nb_opens.specs.Graphs.{without_graph}
-use Rattle.nb_opens.specs.declared.alone.Arrival.{Arrival}
+use Rattle.nb_traced.specs.Plain.{without_graph}
+use Rattle.nb_chains.specs.declared.arrival.Arrival.{Arrival}
 use Rattle.nb_stack.specs.Client.{Client}
 use Rattle.nb_machine.specs.Lives.{OpenInput, OpenKind, tftp, dns, dhcp, ping, Live, exchange, continued}
 use Rattle.nb_machine.specs.Kinds.{Keeps, fetched, granted, resolved}

@@ -7,8 +7,7 @@ use Rattle.nb_nodes.specs.Exchanges.{Service}
 use Rattle.nb_nodes.specs.LookupExchanges.{lookup_service}
 use Rattle.nb_nodes.specs.LeaseExchanges.{lease_service}
 use Rattle.nb_nodes.specs.EchoExchanges.{ping_service}
-use Rattle.nb_opens.specs.declared.alone.AloneKind.TheVariants as alone
-use Rattle.nb_opens.specs.Alones.{Talks, alone_number}
+use Rattle.nb_opens.specs.Alones.{Talks}
 use Rattle.nb_opens.specs.Pairs.{Downloads}
 use Rattle.nb_tftp.specs.Blocks.{file}
 use Rattle.nb_tftp.specs.History.{Entry, got}
@@ -20,7 +19,7 @@ use Rattle.nb_traced.specs.Holdings.{Kin, Piece}
 use Rattle.nb_chains.specs.declared.chain.Chain.{Chain}
 use Rattle.nb_chains.specs.declared.kind.ChainKind.{ChainKind}
 use Rattle.nb_chains.specs.declared.kind.ChainKind.TheVariants as chain
-use Rattle.nb_chains.specs.Kinds.{top_number}
+use Rattle.nb_chains.specs.Kinds.{top_mark, top_number}
 use Rattle.nb_chains.specs.Chains.{AreChained, chain_ids, own_graph}
 use Rattle.nb_teller.specs.declared.speaker.Carrier.{Carrier}
 use Rattle.nb_teller.specs.declared.speaker.Carrier.TheVariants.{Udp, Icmp}
@@ -44,9 +43,9 @@ pub record IsAsking {S B C : Type 0} (s : Service S B C) (kind : ℕ) (b : B) (c
 
 abbrev pub IsUnderWay : OpenKind → Chain → Objects Obj → Live → Type 0
 IsUnderWay tftp c g l = IsFetching c g l
-IsUnderWay (dns id) c g l = IsAsking lookup_service (alone_number alone.Resolver) (look_up_of id l) c g l
-IsUnderWay (dhcp a) c g l = IsAsking lease_service (alone_number alone.Dhcp) a c g l
-IsUnderWay ping c g l = IsAsking ping_service (alone_number alone.Ping) (ping_of l) c g l
+IsUnderWay (dns id) c g l = IsAsking lookup_service (top_mark chain.Name) (look_up_of id l) c g l
+IsUnderWay (dhcp a) c g l = IsAsking lease_service (top_mark chain.Lease) a c g l
+IsUnderWay ping c g l = IsAsking ping_service (top_mark chain.Echo) (ping_of l) c g l
 
 -- the kind of its objects, and what carries its messages
 abbrev pub kind_for : OpenKind → ChainKind

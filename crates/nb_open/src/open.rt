@@ -8,11 +8,10 @@ ghost use Rattle.nb_open.specs.Open.{IsOpenOf, LivesSome};
 ghost use Rattle.nb_open.specs.Settling.{HandsFile, LetsChainGo, MaySettle, SettlesOpen, told_so_far};
 
 use crate::Ended;
-use nb_chains::{Chain, ChainKind};
+use nb_chains::{Arrival, Chain, ChainKind};
 use nb_graph::Graph;
 use nb_image::Body;
 use nb_nodes::Obj;
-use nb_opens::Arrival;
 use nb_stack::Stack;
 use nb_teller::{Desk, Speaker, Teller};
 use nb_terms::{Cause, NoMemory};

@@ -7,28 +7,19 @@ use Rattle.nb_terms.specs.declared.cause.Cause.{Cause}
 use Rattle.nb_terms.specs.declared.event.Event.{Event}
 use Rattle.nb_wire.specs.declared.address.Ip4.{Ip4}
 use Rattle.nb_defs.specs.Records.{out_text, out_texts, graph}
-use Rattle.nb_graph.specs.Deeds.{no_memory}
 use Rattle.nb_ledger.specs.Flat.{Notice, Given, unknown, shows, event, message}
 use Rattle.nb_ledger.specs.declared.port.Port.{Port}
 use Rattle.nb_nodes.specs.Tags.{tag_number}
 use Rattle.nb_nodes.specs.declared.tag.Tag.TheVariants.{Bytes, Address}
 use Rattle.nb_opens.specs.Notices.{close_of, first_close, or_else}
+use Rattle.nb_opens.proofs.CloseLemmas.{first_close-append}
 use Rattle.nb_stack.specs.Client.{Client}
 use Rattle.nb_teller.specs.declared.speaker.Speaker.{Speaker}
 use Rattle.nb_teller.specs.Deliveries.{delivered_bytes, delivered_address}
-use Rattle.nb_teller.specs.Spelling.{Spelling, rows_of, rows_in, heard_by, IsSpelled, IsBlank, HasSpelled, IsWhole, TellsMore, SpellsMore, SpellsMessage, FindsNothing, bytes_after, address_after}
+use Rattle.nb_teller.specs.Spelling.{Spelling, rows_of, rows_in, heard_by, IsSpelled, IsBlank, SpellsMore, SpellsMessage, FindsNothing, bytes_after, address_after}
 use Rattle.nb_teller.specs.Tellings.{notice_records, told_records, lacks_route, any_lacks_route}
 use Rattle.nb_teller.proofs.TellingLemmas.{told-append}
 use Rattle.nb_teller.proofs.RowLemmas.{are_rows, rows_are}
-
--- the cause of the first close in two parts
-pub first_close-append : (xs ys : List Notice) → first_close (xs ++ ys) ≡ or_else (first_close xs) (first_close ys)
-first_close-append [] ys = refl
-first_close-append (x ∷ xs) ys = ap (or_else (close_of x)) (first_close-append xs ys) ∙ sym (or_else-assoc (close_of x) (first_close xs) (first_close ys))
-  where
-    or_else-assoc : (a b c : Option Cause) → or_else (or_else a b) c ≡ or_else a (or_else b c)
-    or_else-assoc None b c = refl
-    or_else-assoc (Some x) b c = refl
 
 pub or_none : (a : Option Cause) → or_else a None ≡ a
 or_none None = refl
@@ -152,19 +143,8 @@ given_shown net net' who who' s t ns more kept shown g = by s.is_lost refl
     by true e = absurd (at true e).0
     by false e = let it = at false e in ap (λ f. f (ns ++ more)) (sym it.0) ∙ it.1 ns shown
 
-pub spelled_more : (net net' : Client) (who who' : Speaker) (s t : Spelling) (more : List Notice) → Given (heard_by net who s) (heard_by net' who' t) more → t.is_lost ≡ false → TellsMore net who s t more
-spelled_more net net' who who' s t more g kept = λ ns is. are_rows net who t (ns ++ more) kept (given_shown net net' who who' s t ns more kept (rows_are net who s ns is) g)
-
 -- what was given to one that had nothing is spelled
 pub spelled_is : (net net' : Client) (who who' : Speaker) (s t : Spelling) (ns : List Notice) → IsBlank s → Given (heard_by net who s) (heard_by net' who' t) ns → t.is_lost ≡ false → IsSpelled net who t ns
 spelled_is net net' who who' s t ns blank g kept =
     let shown : rows_of net who [] ≡ rows_in s = rw (blank.0, blank.1, blank.2, blank.3, blank.4, none_delivered.0, none_delivered.1) refl in
     are_rows net who t ns kept (given_shown net net' who who' s t [] ns kept shown g)
-
--- the first close of what was told
-pub spelled_close : (net : Client) (who : Speaker) (s : Spelling) (ns : List Notice) (cause : Option Cause) → HasSpelled s cause → IsSpelled net who s ns → first_close ns ≡ cause
-spelled_close net who s ns cause was is = sym is.2 ∙ was.1
-
--- where nothing is lost memory didn't run out
-pub no_want : (net : Client) (who : Speaker) (s : Spelling) (ns : List Notice) → IsWhole s → IsSpelled net who s ns → first_close ns ≡ Some no_memory → ⊥
-no_want net who s ns whole is memory = whole.2 (is.2 ∙ memory)

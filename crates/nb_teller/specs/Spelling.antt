@@ -72,10 +72,6 @@ HasSpelled s cause = (s.is_lost ≡ false) × (s.closed ≡ cause) × (cause ≡
 abbrev pub IsWhole : Spelling → Type 0
 IsWhole s = HasSpelled s s.closed
 
--- this was told after what was told before
-abbrev pub TellsMore : Client → Speaker → Spelling → Spelling → List Notice → Type 0
-TellsMore net who before after more = (ns : List Notice) → IsSpelled net who before ns → IsSpelled net who after (ns ++ more)
-
 -- these records were added, unless some are lost
 abbrev pub SpellsMore : Spelling → Spelling → List Out → Type 0
 SpellsMore s t outs = t.is_lost ≡ false → (s.is_lost ≡ false) × (t.text ≡ s.text ++ out_texts outs)
