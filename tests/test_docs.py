@@ -5,6 +5,7 @@ from __future__ import annotations
 import re
 import unittest
 
+from shared.ipxe import NOT_BUILT, NOT_SET
 from tests import TOP
 
 DOCS = TOP / "docs"
@@ -98,6 +99,15 @@ class Layout(unittest.TestCase):
             self.assertTrue(path.stat().st_mode & 0o111, f"{path} can't be run")
             is_named = f"tools/{path.name}" in (TOP / "README.md").read_text()
             self.assertTrue(is_named, f"README.md doesn't name tools/{path.name}")
+
+
+class NotBuilt(unittest.TestCase):
+    def test_all_that_ipxe_has_is_listed(self) -> None:
+        """The page lists the commands and settings by which `--why` says that something isn't built, and no others."""
+        section = (DOCS / "SCRIPTS.md").read_text().split("## What iPXE has and this hasn't yet")[1].split("\n## ")[0]
+        _, commands, settings = re.split(r"^(?:Commands, each|Settings that)", section, flags=re.M)
+        for listed, known in ((commands.split("\n\n")[1], NOT_BUILT), (settings.split("\n\n")[1], NOT_SET)):
+            self.assertEqual(re.findall(r"`([^`]+)`", listed), [name.decode() for name in sorted(known)])
 
 
 if __name__ == "__main__":

@@ -298,6 +298,17 @@ class LocalCommands(unittest.TestCase):
             begins = f"line 2 begins: {words.decode()} (as written, since they can't be expanded)"
             self.assertEqual(lines[3], f"  step 1 at 0 ms: {begins}")
 
+    def test_settings_that_ipxe_alone_has(self) -> None:
+        """A test that isn't true names the setting that is asked for there; one that a script may set isn't named."""
+        alone = "the word of `isset` is empty; `platform` is a setting of iPXE that isn't built yet"
+        for line, said in (
+            (b"isset ${platform}", f"nothing is set there: {alone}"),
+            (b"isset ${net0/platform:string}", f"nothing is set there: {alone}"),
+            (b"isset ${platforms}", "nothing is set there: the word of `isset` is empty"),
+        ):
+            lines = why(local_failure(b"isset ", Cause(Code.FALSE)), [made.start(b"#!ipxe\n" + line)])
+            self.assertEqual(lines[0].split(". To do")[0], f"line 2: {said}")
+
     def test_words_as_they_are_written(self) -> None:
         """They are shown where they are others, and the list has more than them."""
         outputs = local_failure(b"iseq a b", Cause(Code.FALSE))

@@ -2,8 +2,12 @@
 
 from __future__ import annotations
 
+import re
+
 from shared.records import Command
 
+# a part of a word that stands for a setting in no block, or in that of the device, of whatever kind
+PART = re.compile(rb"\$\{(?:net0/)?([A-Za-z0-9_-]+)(?::[a-z0-9]+)?\}")
 # Commands of iPXE that aren't run here.
 NOT_BUILT = frozenset(
     b"autoboot cert certfree certstat certstore choose colour config console cpair cpuid digest fcels fcstat "
@@ -12,6 +16,11 @@ NOT_BUILT = frozenset(
     b"neighbour netboot nstat ntp param params pciscan poweroff present profstat prompt pxebs pxeboot read reboot "
     b"route sanboot sanhook sanunhook sha1sum sha224sum sha256sum sha384sum sha512_224sum sha512_256sum sha512sum shell "
     b"shim startpxe stoppxe sync time usbscan vcreate vdestroy".split()
+)
+# Settings that iPXE has of itself and that are never set here, unless a script sets them.
+NOT_SET = frozenset(
+    b"asset board-serial buildarch busloc bustype chip cwduri cwuri errno linktype loglevel manufacturer memsize netX "
+    b"platform product scriptlet serial ssid sysmac syslog unixtime vendor-class vlan".split()
 )
 # Options of the commands that are run here, by which iPXE knows them; all commands have --help.
 OF_ALL = (b"--help", b"-h")
@@ -44,6 +53,12 @@ def target_of(command: Command) -> bytes:
 def is_ipxe(name: bytes) -> bool:
     """Whether this is a command of iPXE that isn't run here."""
     return name in NOT_BUILT
+
+
+def unset_in(words: tuple[bytes, ...]) -> bytes | None:
+    """The first setting of iPXE in words as they are written that is never set here."""
+    named = (found for text in words for found in PART.findall(text))
+    return next((name for name in named if name in NOT_SET), None)
 
 
 def option_of(command: Command) -> bytes | None:

@@ -8,11 +8,11 @@ from typing import NamedTuple
 
 from shared.causes import MEANING, WHAT, Cause, Code
 from shared.host_names import host_fault
-from shared.ipxe import EXECUTES, FETCHES, is_ipxe, option_of, target_of
+from shared.ipxe import EXECUTES, FETCHES, is_ipxe, option_of, target_of, unset_in
 from shared.leases import Lease
 from shared.links import Link, no_name_server, no_route
 from shared.records import Command, Start
-from shared.script_text import lines_of
+from shared.script_text import command_of, lines_of, script_of
 from shared.setting_names import BLOCKS, LEASED, MOST_SETTINGS, MOST_VALUE, READS, block_of, kind_of
 from shared.setting_names import name_fault, part_fault, place_of
 from shared.texts import word
@@ -100,7 +100,8 @@ def of_local(cause: Cause, command: Command | None, start: Start | None, met: Me
     name, option = command.words[0], option_of(command)
     if option and cause.code in BY_OPTION:
         return f"the option `{shown(option)}` of `{shown(name)}` isn't built yet"
-    said = _of_file(cause, command) or _of_images(cause, command) or _of_setting(cause, command) or _of_name(cause, command, met)
+    said = _of_file(cause, command) or _of_images(cause, command) or _of_setting(cause, command, start)
+    said = said or _of_name(cause, command, met)
     return said or _of_command(cause, command, start) or f"{word(name)}: {MEANING[cause.code]}"
 
 
@@ -145,7 +146,7 @@ def _of_images(cause: Cause, command: Command) -> str:
     return ""
 
 
-def _of_setting(cause: Cause, command: Command) -> str:
+def _of_setting(cause: Cause, command: Command, start: Start | None) -> str:
     """On a setting; empty if it isn't about one."""
     name, words = command.words[0], command.words
     match cause.code:
@@ -154,7 +155,7 @@ def _of_setting(cause: Cause, command: Command) -> str:
         case Code.BAD_VALUE if name in OF_SETTINGS and len(words) > 1:
             return _bad_value(words)
         case Code.FALSE:
-            return _false(words)
+            return _false(words) + _of_unset(command, start)
         case Code.TOO_LONG if cause.a == LONG_VALUE and len(words) > 1:
             return f"the value for `{shown(words[1])}` has more than {MOST_VALUE} bytes"
         case Code.TOO_MANY if cause.a == MANY_SETTINGS and name == b"dhcp":
@@ -279,6 +280,13 @@ def _false(words: tuple[bytes, ...]) -> str:
     if words[0] == b"iseq" and len(words) > 2:
         return f"{word(words[1])} and {word(words[2])} aren't equal"
     return "nothing is set there: the word of `isset` is empty"
+
+
+def _of_unset(command: Command, start: Start | None) -> str:
+    """What a test ends with where the first script asks there for a setting that iPXE alone has; else nothing."""
+    line = script_of(start.script).get(command.line) if start and command.depth == 1 else None
+    name = unset_in(command_of(line.text, command.place)) if line else None
+    return f"; `{shown(name)}` is a setting of iPXE that isn't built yet" if name else ""
 
 
 def seconds_of_sleep(command: Command) -> int | None:
