@@ -1,5 +1,6 @@
 -- From a run of the client to what the top call shows.
-use Rattle.std.proofs.Common.{◌≡◌, ◌⊎◌, inl, inr, ℕ, Bool, true, false, cond, List, [], ◌++◌, subst}
+use Rattle.std.proofs.Common.{◌≡◌, ◌⊎◌, inl, inr, ℕ, Bool, true, false, cond, List, [], ◌++◌, subst, sym}
+use Rattle.std.specs.List.{AllByRecursion}
 use Rattle.nb_defs.specs.Causes.{is_ok_cause}
 use Rattle.nb_defs.specs.Records.{In, Out}
 use Rattle.nb_record.specs.Outside.{Outside}
@@ -9,7 +10,8 @@ use Rattle.nb_traced.specs.Plain.{without_graph}
 use Rattle.nb_machine.specs.States.{State}
 use Rattle.nb_machine.specs.Courses.{Standing, handed_off, stands, Progress, Course}
 use Rattle.nb_laws.specs.Events.{Event}
-use Rattle.nb_laws.specs.HandOff.{HandsOff}
+use Rattle.nb_image.specs.Images.{ImageList}
+use Rattle.nb_laws.specs.HandOff.{HandsOff, IsFileOf}
 use Rattle.nb_laws.specs.Histories.{IsHistory}
 use Rattle.nb_laws.proofs.Theirs.{brings_theirs}
 use Rattle.nb_openlaws.specs.Standings.{AgreesStanding}
@@ -82,6 +84,7 @@ shown_by before after r =
       history = es;
       is_history = is;
       is_lawful = keeps_todays r.ins (without_graph r.outs) r.progress es course is;
+      brings = brings_theirs es;
       in_turn = r.in_turn;
       stepped = (run_agrees r.ins r.outs r.closing r.progress r.came r.holdings r.at_end es r.follows r.traced r.traced_all is).0;
       shuts = either_shuts es r.progress.standing r.closing (stands_so r.ins (without_graph r.outs) r.progress es course is).0 r.shuts;
@@ -121,7 +124,8 @@ theirs : (before after : Outside) (r : Run before after) → EndsWhere r.progres
 theirs before after r e =
     let (s, at) = has_handed_off r.progress r.rest after e in
     let t = history_of before after r in
-    (hands_all r.ins (without_graph r.outs) r.progress t.0 s at (follows_course r.ins r.outs r.progress r.came r.follows) t.1, brings_theirs t.0)
+    let hands = hands_all r.ins (without_graph r.outs) r.progress t.0 s at (follows_course r.ins r.outs r.progress r.came r.follows) t.1 in
+    (hands, λ store honest. subst (λ (z : ImageList). AllByRecursion (IsFileOf store t.0) z.images) (sym hands.list_is) (brings_theirs t.0 store honest))
 
 said : (s : Status) (before after : Outside) (r : Run before after) → Says s before after r → IsSaid s before after (shown_by before after r)
 said status.HandedOff before after r h = (ended_by before after r 0 h, theirs before after r h.ends)

@@ -11,7 +11,7 @@ use Rattle.nb_runner.specs.declared.status.Status.TheVariants as status
 use Rattle.nb_machine.specs.Courses.{Standing, ready, running, waiting, reaching, yielded, handing, left, handed_off, stopped, Progress, Course}
 use Rattle.nb_laws.specs.Events.{Event}
 use Rattle.nb_laws.specs.Histories.{IsHistory}
-use Rattle.nb_laws.specs.HandOff.{HandsOff, BringTheirs}
+use Rattle.nb_laws.specs.HandOff.{HandsOff, HandsTheirs, BringTheirs}
 use Rattle.nb_laws.specs.Lawful.{IsLawful}
 use Rattle.nb_machine.specs.States.{State}
 use Rattle.nb_machine.specs.Closings.{Shuts}
@@ -145,6 +145,8 @@ pub record Shown (before after : Outside) : Type 0 where
   pub history : List Event
   pub is_history : IsHistory ins (without_graph outs) history
   pub is_lawful : IsLawful history
+  -- where servers send what they hold, each image in the list is, byte for byte, the file of the open that brought it
+  pub brings : BringTheirs history
   -- all output was taken before more was read
   pub in_turn : AreInTurn before after ins outs
   -- each record's step begins as the record says, of the records of the graph too
@@ -176,7 +178,7 @@ pub record WasUnread (before after : Outside) (r : Shown before after) : Type 0 
 -- The output ends with the hand-off of all the images that the commands have left in the list, the selected one first; and
 -- where servers send what they hold, each is, byte for byte, the file of the open that brought it.
 abbrev pub HandsTrueFiles : (before after : Outside) → Shown before after → Type 0
-HandsTrueFiles before after r = HandsOff r.history (without_graph r.outs) [] × BringTheirs r.history
+HandsTrueFiles before after r = (hands : HandsOff r.history (without_graph r.outs) []) × HandsTheirs r.history (without_graph r.outs) [] hands
 
 -- memory ran out: nothing closes the output, or some of it is missing
 abbrev pub LeftUnclosed : (before after : Outside) → Shown before after → Type 0

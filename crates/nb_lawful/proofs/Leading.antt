@@ -211,6 +211,8 @@ boots_goes es outs s inner outer list kernel more p k (over, all, leads) =
             boots = said_is (boots list kernel) (λ cause e. absurd (cc e)) k.concluded;
           };
           place = k.fits;
+          list_is = sym (ap (λ (z : List Event). (so_far z).images) at ∙ ap (λ (m : CommandsSoFar). m.images) (quiet_so_far es1 more quiet)
+              ∙ (result_agrees es outs s (with_images s list) inner outer (boots list kernel) ok k (with_list s list)).2.list);
           before = outs ++ o ∷ more;
           none = parts_more outs (o ∷ more) k.images.none (tt, quiet_parts more quiet);
           ends = refl;

@@ -238,6 +238,7 @@ hands_goes es outs s r rest still (silent, over, hands) = record {
         boots = hands.booted.boots;
       };
       place = hands.place;
+      list_is = hands.list_is ∙ sym (ap (λ (m : CommandsSoFar). m.images) (so_far_more es (puts r) ∙ silent_so_far es (so_far es) r silent.0));
       before = hands.before;
       none = hands.none;
       ends = append_assoc outs (r ∷ []) rest ∙ hands.ends;

@@ -33,6 +33,8 @@ pub record HasBooted (es : List Event) : Type 0 where
 pub record HandsOff (es : List Event) (outs rest : List Out) : Type 0 where
   pub booted : HasBooted es
   pub place : booted.list.selected ≡ Some booted.kernel
+  -- the list is the one of which it is said what each image is
+  pub list_is : booted.list ≡ (so_far es).images
   pub before : List Out
   pub none : HaveNoParts before
   pub ends : outs ++ rest ≡ before ++ handoff_records booted.kernel booted.list.images
@@ -82,3 +84,7 @@ pub record IsFileOf (store : Store) (es : List Event) (image : Image) : Type 0 w
 -- so is each image that the commands have left in the list
 abbrev pub BringTheirs : List Event → Type 0
 BringTheirs es = (store : Store) → StayHonest store es → AllByRecursion (IsFileOf store es) (so_far es).images.images
+
+-- and each that is handed off
+abbrev pub HandsTheirs : (es : List Event) (outs rest : List Out) → HandsOff es outs rest → Type 0
+HandsTheirs es outs rest h = (store : Store) → StayHonest store es → AllByRecursion (IsFileOf store es) h.booted.list.images
