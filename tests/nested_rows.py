@@ -18,7 +18,7 @@ from tests.graph_records import Pair, asked, came, passed, shut
 from tests.script_rows import FIRST, MOST, UNFINISHED, Row
 
 URI = b"tftp://10.0.0.1/"
-BLOCK = 512
+BLOCK, PIECE = 512, 65_536
 ELF = b"\x7fELF a kernel"
 # a Linux kernel for x86 says so at byte 514
 LINUX = bytes(514) + b"HdrS" + b" a kernel"
@@ -140,14 +140,19 @@ class Run:
     def boots(self, kernel: tuple[bytes, bytes, bytes], *others: tuple[bytes, bytes]) -> Row:
         """A kernel with its name and arguments is handed off, and these images after it."""
         name, body, args = kernel
-        self.put(Result(OK), Part(PartKind.KERNEL_NAME, 0, 0, name), Part(PartKind.KERNEL, 0, 0, body))
+        self.put(Result(OK), Part(PartKind.KERNEL_NAME, 0, 0, name), *pieces(PartKind.KERNEL, 0, body))
         self.put(Part(PartKind.COMMAND_LINE, 0, 0, args))
         for index, (other, held) in enumerate(others):
-            self.put(Part(PartKind.INITRD_NAME, index, 0, other), Part(PartKind.INITRD, index, 0, held))
+            self.put(Part(PartKind.INITRD_NAME, index, 0, other), *pieces(PartKind.INITRD, index, held))
         return self.put(Done(Status.HANDED_OFF)).row()
 
     def row(self) -> Row:
         return Row(self.inputs, self.outputs)
+
+
+def pieces(kind: PartKind, index: int, body: bytes) -> list[Part]:
+    """An image's bytes, at most 65,536 in each record; one without bytes has an empty record."""
+    return [Part(kind, index, at, body[at : at + PIECE]) for at in range(0, max(len(body), 1), PIECE)]
 
 
 def uri(path: bytes) -> bytes:
@@ -394,8 +399,17 @@ def hand_offs() -> dict[str, Row]:
             order.begins(b"boot", line=5).boots((b"k", LINUX, b"one two"), (b"i", b"i"), (b"j", b"")),
         "from_within": within.boots((b"k", ELF, b"x"), (b"i", b"i")),
         "what_is_selected_is_not_bootable": none.ends(NOT_BOOTABLE),
+        "images_of_several_pages": pages(),
         "the_usual_boot": usual(),
     }
+
+
+def pages() -> Row:
+    """A kernel and two initrds of several records each, one of them of whole records alone."""
+    kernel, first, second = LINUX.ljust(200_000, b"k"), b"i" * (PIECE + 1), b"j" * (2 * PIECE)
+    run = Run(K + b" a\n" + I + b"\n" + J + b"\nboot\n").keeps(K + b" a", b"k", kernel)
+    run.keeps(I, b"i", first, line=3).keeps(J, b"j", second, line=4)
+    return run.begins(b"boot", line=5).boots((b"k", kernel, b"a"), (b"i", first), (b"j", second))
 
 
 def usual() -> Row:
