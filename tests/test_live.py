@@ -11,10 +11,12 @@ from typing import Callable
 from shared.records import Off, Tick, spell
 from tests import made
 from tests.graph_run import fault_in
+from tests.nested_rows import ROWS
 from tests.replays import Replayed, can_run, replay_all
 
 MOST_SECONDS = 30
 BOOT = made.spelled(made.BOOT_INPUT)
+USUAL = ROWS["hand_off_the_usual_boot"]
 SILENT = made.spelled([made.start(b"#!ipxe\nimgfetch tftp://10.0.0.1/f\n"), Tick(250)])
 
 
@@ -98,6 +100,7 @@ def sends_in_pieces(data: bytes) -> Callable[[socket.socket], None]:
 PEERS: dict[str, tuple[Callable[[socket.socket], None], int, str, str]] = {
     "boots": (sends(BOOT), 0, "", ""),
     "by-byte": (sends_in_pieces(BOOT), 0, "", ""),
+    "usual": (sends(made.spelled(USUAL.inputs)), 0, "", ""),
     "goes-on": (sends_on, 0, "", ""),
     "nothing": (sends(b""), 6, "netboot: bad record", "record 1, at byte 0"),
     "half": (sends(BOOT[:60]), 6, "netboot: bad record", "record 1, at byte 0"),
@@ -184,6 +187,10 @@ class Live(unittest.TestCase):
         for case, file in pairs:
             self.assertEqual(bytes(self.peers[case].taken), self.ran[file].output, case)
         self.assertEqual(self.ran["file"].output, made.spelled(made.BOOT_OUTPUT))
+
+    def test_the_usual_boot(self) -> None:
+        """A lease, the script that it names, and the hand-off of what that boots."""
+        self.assertEqual(bytes(self.peers["usual"].taken), made.spelled(USUAL.outputs))
 
     def test_bad_words(self) -> None:
         """Words that are no peer's: the usage line stands alone, and nobody is called."""

@@ -1,5 +1,5 @@
 use nb_boot::{Status, netboot};
-use nb_record::{MemLine, NoMemory, ReadNote};
+use nb_record::{MemLine, NoMemory, ReadNote, SureLine};
 use std::alloc::Global;
 use std::test::*;
 
@@ -22,13 +22,32 @@ const OUTPUT: &[u8] = b"\x00\x00\x00\x05\x81\x00\x00\x00\x01\
 \x00\x00\x00\x0c\x86\x01\x01\x00\x00\x00\x00\x00\x00\x00\x00\x00\
 \x00\x00\x00\x02\x8d\x03";
 
-/// The words of a replay.
-fn replay(alloc: Global) -> Result<Vec<String>, NoMemory> {
+fn words_of(alloc: Global, texts: &[&str]) -> Result<Vec<String>, NoMemory> {
     let mut words = Vec::new(alloc);
-    for word in ["replay", "in", "out"] {
-        words.push(String::from_str(alloc, word)?)?;
+    for text in texts {
+        words.push(String::from_str(alloc, text)?)?;
     }
     Ok(words)
+}
+
+/// The words of a replay.
+fn replay(alloc: Global) -> Result<Vec<String>, NoMemory> {
+    words_of(alloc, &["replay", "in", "out"])
+}
+
+// A line that never fails, by the words of a replay and of a live run.
+#[test]
+fn hello_over_a_sure_line(rt: HostRuntime) -> Result<(), Fail> {
+    for words in [["replay", "in", "out"].as_slice(), &["live", "h:1"]] {
+        let words = words_of(rt.alloc(), words)?;
+        let mut line = SureLine::new(rt.alloc(), INPUT, &[], 1000)?;
+        assert_eq!(rt;
+            netboot(rt.alloc(), words.as_slice(), &mut line),
+            Status::Ended
+        );
+        assert_eq!(rt; line.output(), OUTPUT);
+    }
+    Ok(())
 }
 
 // A script is run whole, in three calls of its line, and byte by byte. Where a call of its line fails, or its room ends, a prefix of the output is written.
