@@ -121,7 +121,7 @@ class Bridging(Spaced):
         self.assertNotRegex(said, "[Bb]roken pipe|write fault|Traceback")
 
     def test_each_command_and_failure_is_a_line(self) -> None:
-        self.put("fail.ipxe", b"#!ipxe\nimgfetch tftp://10.9.9.9/k || echo going on\nimgstat\n")
+        self.put("fail.ipxe", b"#!ipxe\nimgfetch tftp://10.9.9.9/k || echo going on\nifstat\n")
         printed, said, status = self.ends("tools/bridge.py fail.ipxe --device near --run")
         self.assertEqual((printed, status), ("going on\n", 4), said)
         lines = [line for line in said.splitlines() if not line.startswith("bridge.py:")]
@@ -132,8 +132,8 @@ class Bridging(Spaced):
                 "imgfetch tftp://10.9.9.9/k",
                 "line 2: imgfetch failed: NoRoute(10.9.9.9): why",
                 "echo going on",
-                "imgstat",
-                "line 3: imgstat failed: Unknown: why",
+                "ifstat",
+                "line 3: ifstat failed: Unknown: why",
             ],
         )
 
