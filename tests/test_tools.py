@@ -63,15 +63,15 @@ class Examples(Case):
     def test_the_boots_are_made_anew(self) -> None:
         (self.folder / "inner").mkdir()
         shutil.copy(EXAMPLES / "stations.py", self.folder / "inner")
-        for name in ("fallback", "settings", "dhcp", "lookup", "name-boot"):
+        for name in ("fallback", "chained", "settings", "dhcp", "lookup", "name-boot"):
             shutil.copy(EXAMPLES / f"{name}.ipxe", self.folder / "inner")
-        for name in ("tftp-boot", "fallback", "settings", "dhcp", "lookup", "name-boot"):
+        for name in ("tftp-boot", "fallback", "chained", "settings", "dhcp", "lookup", "name-boot"):
             maker = f"make_{name.replace('-', '_')}"
             shutil.copy(EXAMPLES / f"{maker}.py", self.folder / "inner")
             with self.start(f"inner/{maker}.py") as process:
                 self.assertEqual(process.communicate()[1], "")
         made_anew = sorted((self.folder / "inner").glob("*.rec"))
-        self.assertEqual(len(made_anew), 7)
+        self.assertEqual(len(made_anew), 8)
         for path in made_anew:
             self.assertEqual(path.read_bytes(), (EXAMPLES / path.name).read_bytes(), path.name)
 

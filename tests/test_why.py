@@ -196,7 +196,7 @@ class LocalCommands(unittest.TestCase):
 
     def test_sentences_on_commands(self) -> None:
         for words, cause, said in (
-            (b"imgstat", Cause(Code.UNKNOWN), "the command `imgstat` isn't built yet"),
+            (b"imgmem", Cause(Code.UNKNOWN), "the command `imgmem` isn't built yet"),
             (b"imgfetch http://10.0.0.1/f", Cause(Code.NO_SCHEME),
              "http://10.0.0.1/f isn't fetched: only `tftp://HOST/PATH` is built yet"),
             (b"imgexec iscsi:10.0.0.1::::iqn.x:t", Cause(Code.NO_SCHEME),
@@ -219,7 +219,7 @@ class LocalCommands(unittest.TestCase):
              "one"),
             (b"imgfetch tftp://10.0.0.1/" + b"a" * 256, Cause(Code.TOO_LONG, 7), "the path of tftp://10.0.0.1/"
              + "a" * 256 + " has more than 1024 bytes, or its image's name more than 255"),
-            (b"imgexec", Cause(Code.USAGE), "the words don't fit the command: `imgexec URI`"),
+            (b"imgexec", Cause(Code.USAGE), "the words don't fit the command: `imgexec [--name NAME] [--autofree] [--replace] [URI] [ARGUMENTS]`"),
             (b"exit 3", Cause(Code.EXIT, 3), "the script itself ended in failure, by `exit 3`"),
             (b"set y:int8 200", Cause(Code.BAD_VALUE), "200 is no value for `y:int8` of the kind int8, which "
              "takes a number from -128 to 127"),
@@ -268,7 +268,19 @@ class LocalCommands(unittest.TestCase):
             (b"set", Cause(Code.USAGE), "the words don't fit the command: `set NAME [VALUE]`"),
             (b" a", Cause(Code.UNKNOWN), "the command has no name: its first word is empty, as expanded"),
             (b"imgexec tftp://10.0.0.1/k", Cause(Code.NOT_BOOTABLE), "tftp://10.0.0.1/k can't be "
-             "booted: it isn't a kernel for x86, an ELF file or an EFI program"),
+             "booted: it isn't a script, a kernel for x86, an ELF file or an EFI program"),
+            (b"boot", Cause(Code.NOT_BOOTABLE), "the selected image can't be booted: it isn't a script, a kernel for x86, "
+             "an ELF file or an EFI program"),
+            (b"boot", Cause(Code.NO_IMAGE), "no image is selected"),
+            (b"imgargs k a", Cause(Code.NO_IMAGE), "there is no image k"),
+            (b"imgfree k i", Cause(Code.NO_IMAGE), "one of k, i is no image, and none is freed"),
+            (b"initrd --name i i.img a", Cause(Code.BAD_URI), "i.img is only the end of a URI, and it doesn't go with "
+             "`next-server`; `tftp://HOST/PATH` is a whole one"),
+            (b"imgfetch i", Cause(Code.TOO_MANY, 3), "there are 32 images, the most, and this is another"),
+            (b"chain a", Cause(Code.TOO_MANY, 4), "eight scripts are within one another, the most, and this would be "
+             "another"),
+            (b"chain a", Cause(Code.TOO_LONG, 1), "a line of the script that it runs has more than 4096 bytes"),
+            (b"imgstat a", Cause(Code.USAGE), "the words don't fit the command: `imgstat`"),
         ):
             self.assertEqual(sentence(local_failure(words, cause)), f"line 2: {said}")
 

@@ -68,9 +68,9 @@ class PassedOver(unittest.TestCase):
                          'script itself ended in failure, by `exit 1`. To do: leave it out (docs/SCRIPTS.md, "Commands")')
 
     def test_a_script_that_ended_well_and_booted_nothing(self) -> None:
-        records = [*ran(b"imgstat", UNKNOWN, 2), *ran(b"echo no", OK, 2, 1), made.leave(OK), Done(Status.ENDED)]
+        records = [*ran(b"imgmem", UNKNOWN, 2), *ran(b"echo no", OK, 2, 1), made.leave(OK), Done(Status.ENDED)]
         said = first_line([Step(1), made.enter(), *records])
-        self.assertTrue(said.startswith("line 2: the command `imgstat` isn't built yet; the script went on, and ended well"))
+        self.assertTrue(said.startswith("line 2: the command `imgmem` isn't built yet; the script went on, and ended well"))
 
     def test_a_test_that_is_false_is_no_failure(self) -> None:
         exits = Cause(Code.EXIT, 1)
@@ -95,13 +95,14 @@ class PassedOver(unittest.TestCase):
 
 class NotBuilt(unittest.TestCase):
     def test_commands_of_ipxe(self) -> None:
-        for name in (b"cpuid", b"prompt", b"chain", b"certstat", b"md5sum", b"imgset"):
+        for name in (b"cpuid", b"prompt", b"sanboot", b"certstat", b"md5sum", b"imgset"):
             said = first_line(failed(ran(name + b" --x", UNKNOWN, 2), end=UNKNOWN))
             self.assertTrue(said.startswith(f"line 2: the command `{name.decode()}` isn't built yet"), said)
 
     def test_options_of_ipxe(self) -> None:
         for words, cause, option, name in (
-            (b"imgfetch --name k tftp://10.0.0.1/k", Code.USAGE, "--name", "imgfetch"),
+            (b"imgfetch -n k tftp://10.0.0.1/k", Code.USAGE, "-n", "imgfetch"),
+            (b"kernel --name k --autofree tftp://10.0.0.1/k", Code.USAGE, "--autofree", "kernel"),
             (b"imgfetch --timeout=5 tftp://10.0.0.1/k", Code.USAGE, "--timeout", "imgfetch"),
             (b"imgexec -n k tftp://10.0.0.1/k", Code.USAGE, "-n", "imgexec"),
             (b"imgexec -a", Code.BAD_URI, "-a", "imgexec"),

@@ -30,7 +30,8 @@ from shared.servers import Leases, Names, Service, Tftp, dnsmasq
 SKIPPED = 77
 MOST_SECONDS = 600
 KERNEL_BYTES = 300_001
-FILE = "kernel"
+FILE, SCRIPT, INITRD = "kernel", "boot.ipxe", "initrd.img"
+INITRD_BYTES = bytes(range(256)) * 9
 ELF = b"\x7fELF"
 NUMBERS = ("key", "w", "uuid")
 BRIDGE = Path(__file__).with_name("bridge.py")
@@ -38,10 +39,10 @@ BRIDGE = Path(__file__).with_name("bridge.py")
 DESCRIPTION = """\
 Makes two network namespaces with a wire between them, starts dnsmasq as a server in one, and boots
 over the wire from the other, in several ways: from an address that is given; by a lease, which says
-what to boot from where; and from a server whose name is looked up. bridge.py leads the built
-program there, which runs a script for each. The kernel that it hands off is compared with the one
-that was served, and the run that was recorded is replayed and compared byte for byte. Then all of
-it is taken away.
+what to boot from where; from a server whose name is looked up; and by a script that is fetched and
+boots a kernel with an initrd. bridge.py leads the built program there, which runs a script for
+each. What it hands off is compared with what was served, and the run that was recorded is replayed
+and compared byte for byte. Then all of it is taken away.
 
 It needs root, iproute2, dnsmasq, and the built program or the toolchain's `rt`. Where one isn't
 there it says so and ends with 77. It ends with 0 where all that passed, with 1 where something
@@ -129,13 +130,16 @@ class Boot:
         return again.read_bytes()
 
 
-def compare_kernel(booted: Boot, served: bytes) -> None:
+def compare_kernel(booted: Boot, served: bytes, initrd: bytes | None) -> None:
     parts = booted.folder / "parts"
     write_parts(output_of(booted.output), parts)
     if (parts / "kernel").read_bytes() != served:
         raise Refused("the kernel that was handed off isn't the one that was served")
     say(f"the kernel is the one that was served: {len(served)} bytes, "
         f"sha256 {hashlib.sha256(served).hexdigest()}")
+    initrds = [path.read_bytes() for path in sorted(parts.glob("initrd*"))]
+    if initrds != ([] if initrd is None else [initrd]):
+        raise Refused("what was handed off beside the kernel isn't what was served")
 
 
 def compare_replay(booted: Boot) -> None:
@@ -146,17 +150,21 @@ def compare_replay(booted: Boot) -> None:
 
 @dataclass(frozen=True, slots=True)
 class Way:
-    """A way to boot: the script's commands, the client's address by START, and what is served beside the file."""
+    """A way to boot: the script's commands, the client's address by START, the services beside TFTP, and the script
+    that is chained, which has an initrd beside it."""
 
     commands: tuple[str, ...]
     ip: str | None = None
     services: tuple[Service, ...] = ()
+    chained: bytes | None = None
 
 
 NET = IPv4Network(f"{SERVER_ADDRESS}/{PREFIX}", strict=False)
 SERVER = IPv4Address(SERVER_ADDRESS)
 LEASES = Leases(SERVER + 99, SERVER + 149, NET.netmask, FILE)
 NAMES = Names("boot.test", SERVER)
+
+CHAINED = f"#!ipxe\nkernel {FILE} console=ttyS0\ninitrd {INITRD}\nboot\n".encode()
 
 # What is booted over; HTTP joins here.
 WAYS = {
@@ -173,6 +181,7 @@ WAYS = {
         None,
         (LEASES, NAMES),
     ),
+    "script": Way((f"chain tftp://{SERVER_ADDRESS}/{SCRIPT}",), f"{CLIENT_ADDRESS}/{PREFIX}", chained=CHAINED),
 }
 
 
@@ -181,8 +190,10 @@ def boot_by(name: str, joined: Network, folder: Path, kernel: bytes, numbers: li
     way, root = WAYS[name], folder / "tftp"
     root.mkdir()
     root.chmod(0o755)
-    with naming(root / FILE):
-        (root / FILE).write_bytes(kernel)
+    served = {FILE: kernel} if way.chained is None else {FILE: kernel, SCRIPT: way.chained, INITRD: INITRD_BYTES}
+    for file, content in served.items():
+        with naming(root / file):
+            (root / file).write_bytes(content)
     booted = Boot(joined, folder, numbers)
     with dnsmasq(joined, Tftp(root), *way.services):
         status = booted.run("\n".join(("#!ipxe", *way.commands, "")), way.ip)
@@ -190,7 +201,7 @@ def boot_by(name: str, joined: Network, folder: Path, kernel: bytes, numbers: li
         raise SwitchedOff
     if status != 0:
         raise Refused(f"the boot by {name} ended with status {status}: {boot.STATUSES.get(status)}")
-    compare_kernel(booted, kernel)
+    compare_kernel(booted, kernel, served.get(INITRD))
     compare_replay(booted)
 
 

@@ -14,7 +14,7 @@ from shared.describe import Lines
 from shared.drawing import pictures
 from shared.frames import ends_of, packet_of
 from shared.full_steps import MOST_COMMANDS, FullSteps
-from shared.kinds import GraphEvent, ObjectKind, OpenKind
+from shared.kinds import GraphEvent, ObjectKind, OpenKind, ScriptMove
 from shared.objects import MOST_OBJECTS, SOLE_KINDS
 from shared.pairing import check_pair
 from shared.parts import write_parts
@@ -29,6 +29,7 @@ from shared.records import (
     Open,
     Received,
     Record,
+    Script,
     Sent,
     Start,
     Step,
@@ -134,6 +135,11 @@ class Written:
     def __init__(self) -> None:
         self.script: dict[int, Line] = {}
 
+    def see(self, record: Record) -> None:
+        """Another script may take the place of the first, whose lines aren't known."""
+        if isinstance(record, Script) and record.move is ScriptMove.REPLACED and record.depth == 1:
+            self.script = {}
+
     def watch(self, inputs: Iterator[Timed]) -> Iterator[Timed]:
         for timed in inputs:
             if isinstance(timed.record, Start):
@@ -173,6 +179,7 @@ def output_lines(
     for record in records:
         is_chosen = of_open is None or of_open.has(record)
         full.take(record)
+        script.see(record)
         if isinstance(record, Step):
             text = step_line(record, inputs, lines) + after_full(full.before)
             waiting_step = text if of_open else None

@@ -18,7 +18,7 @@ OF_TEXT = {
     Code.NO_SCHEME: f"serve the file by TFTP, and write it as `tftp://HOST/PATH` ({FILES})",
     Code.BAD_VALUE: f"mend the value ({SETTINGS})",
     Code.NO_LABEL: "add that line, or mend the name",
-    Code.NOT_BOOTABLE: "name a kernel there",
+    Code.NOT_BOOTABLE: "name a script or a kernel there",
 }
 OF_SILENCE = {
     OpenKind.TFTP: "see that a TFTP server runs there, and that no firewall stops it",

@@ -8,7 +8,7 @@ from typing import NamedTuple
 
 from shared.causes import MEANING, WHAT, Cause, Code
 from shared.host_names import host_fault
-from shared.ipxe import is_ipxe, option_of
+from shared.ipxe import EXECUTES, FETCHES, is_ipxe, option_of, target_of
 from shared.leases import Lease
 from shared.links import Link, no_name_server, no_route
 from shared.records import Command, Start
@@ -23,9 +23,12 @@ MOST_WORDS_BYTES = 4_096
 MOST_OPENS = 16_384
 # the numbers of TooLong and TooMany for a setting, of TooLong for a URI, and of Full for opens
 LONG_VALUE, MANY_SETTINGS, LONG_URI, NO_OPEN = 2, 5, 7, 2
+# of TooMany for images and scripts, and of TooLong for a script's line and text
+MANY_IMAGES, MANY_SCRIPTS, LONG_LINE, LONG_TEXT = 3, 4, 1, 5
+MOST_IMAGES, MOST_BODIES, MOST_LINE, MOST_SCRIPT = 32, 536_870_912, 4_096, 1_048_576
 OF_SETTINGS = (b"set", b"clear", b"show", b"inc")
 OF_DEVICES = (b"ifopen", b"ifclose", b"dhcp")
-OF_FILES = (b"imgfetch", b"imgexec")
+OF_FILES = (*FETCHES, *EXECUTES)
 # the URIs that are fetched
 BUILT_URI = "`tftp://HOST/PATH`"
 # the host of a URI, after a user's name if there is one
@@ -38,8 +41,11 @@ USAGES = {
     b"echo": "echo [-n] [text]",
     b"exit": "exit [n], n from 0 to 255",
     b"goto": "goto LABEL",
-    b"imgfetch": "imgfetch URI",
-    b"imgexec": "imgexec URI",
+    **{name: f"{name.decode()} [--name NAME] URI [ARGUMENTS]" for name in FETCHES},
+    **{name: f"{name.decode()} [--name NAME] [--autofree] [--replace] [URI] [ARGUMENTS]" for name in EXECUTES},
+    b"imgargs": "imgargs NAME [ARGUMENTS]",
+    b"imgfree": "imgfree [NAMES]",
+    b"imgstat": "imgstat",
     b"isset": "isset [WORD]",
     b"iseq": "iseq A B",
     b"set": "set NAME [VALUE]",
@@ -94,13 +100,13 @@ def of_local(cause: Cause, command: Command | None, start: Start | None, met: Me
     name, option = command.words[0], option_of(command)
     if option and cause.code in BY_OPTION:
         return f"the option `{shown(option)}` of `{shown(name)}` isn't built yet"
-    said = _of_file(cause, command) or _of_setting(cause, command) or _of_name(cause, command, met)
+    said = _of_file(cause, command) or _of_images(cause, command) or _of_setting(cause, command) or _of_name(cause, command, met)
     return said or _of_command(cause, command, start) or f"{word(name)}: {MEANING[cause.code]}"
 
 
 def _of_file(cause: Cause, command: Command) -> str:
     """On a file's URI, or on what the file is; empty if it isn't about these."""
-    name, uri = command.words[0], command.words[-1]
+    name, uri = command.words[0], target_of(command) if command.words[0] in OF_FILES else command.words[-1]
     match cause.code:
         case Code.BAD_URI:
             return _bad_uri(uri)
@@ -111,7 +117,31 @@ def _of_file(cause: Cause, command: Command) -> str:
         case Code.TOO_LONG if name in OF_FILES and cause.a == LONG_URI:
             return f"the path of {word(uri)} has more than 1024 bytes, or its image's name more than 255"
         case Code.NOT_BOOTABLE:
-            return f"{word(uri)} can't be booted: it isn't a kernel for x86, an ELF file or an EFI program"
+            which = word(uri) if uri else "the selected image"
+            return f"{which} can't be booted: it isn't a script, a kernel for x86, an ELF file or an EFI program"
+    return ""
+
+
+def _of_images(cause: Cause, command: Command) -> str:
+    """On the list of images, or on a script that runs from it; empty if it isn't about these."""
+    name, words = command.words[0], command.words
+    match cause.code:
+        case Code.NO_IMAGE if name in EXECUTES:
+            return "no image is selected"
+        case Code.NO_IMAGE if len(words) > 2 and name == b"imgfree":
+            return f"one of {', '.join(word(text) for text in words[1:])} is no image, and none is freed"
+        case Code.NO_IMAGE if len(words) > 1:
+            return f"there is no image {word(words[1])}"
+        case Code.TOO_MANY if cause.a == MANY_IMAGES:
+            return f"there are {MOST_IMAGES} images, the most, and this is another"
+        case Code.TOO_MANY if cause.a == MANY_SCRIPTS:
+            return "eight scripts are within one another, the most, and this would be another"
+        case Code.TOO_LARGE if name in OF_FILES and cause.a == 2:
+            return f"all images together would have more than {MOST_BODIES} bytes"
+        case Code.TOO_LONG if name in EXECUTES and cause.a == LONG_LINE:
+            return f"a line of the script that it runs has more than {MOST_LINE} bytes"
+        case Code.TOO_LONG if name in EXECUTES and cause.a == LONG_TEXT:
+            return f"the script that it runs has more than {MOST_SCRIPT} bytes"
     return ""
 
 
@@ -212,7 +242,7 @@ def _bad_name_of(host: bytes) -> str:
 
 def _host_in(command: Command) -> bytes:
     """The host that a command names: in its URI, or as its last word."""
-    found = HOST_OF.search(command.words[-1]) if command.words[0] in OF_FILES else None
+    found = HOST_OF.search(target_of(command)) if command.words[0] in OF_FILES else None
     return found.group(1) if found else command.words[-1]
 
 

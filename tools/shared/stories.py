@@ -47,6 +47,8 @@ class Evidence:
     frame: Sent | None = None
     closed: Close | None = None
     is_found: bool = False
+    # a COMMAND of a script that another of depth 1 was replaced by
+    in_place: bool = False
 
 
 @dataclass(slots=True)
@@ -167,6 +169,8 @@ class Trace:
         self.sources: list[str] = []
         self.done: Done | None = None
         self.full = FullSteps()
+        # the first script was replaced by another
+        self.is_replaced = False
         self.last: Command | None = None
         self.link = Link()
         self._last_cause: Cause | None = None
@@ -211,6 +215,7 @@ class Trace:
     def _command(self, here: Evidence, command: Command) -> None:
         if len(self.running) == MOST_NESTED:
             raise Refused(f"more than {MOST_NESTED} commands run at once in step {self.step}")
+        here.in_place = self.is_replaced and command.depth == 1
         self.running.append(CommandStory(here, self._drives(command)))
         self.waiting = None
 
@@ -240,6 +245,7 @@ class Trace:
         self.failures.append(failure)
 
     def _script(self, here: Evidence, script: Script) -> None:
+        self.is_replaced |= script.move is ScriptMove.REPLACED and script.depth == 1
         if script.move is not ScriptMove.LEAVE:
             self.last, self._last_cause = None, None
         elif self.running:

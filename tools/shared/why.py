@@ -265,7 +265,8 @@ class Account:
     def _sleeping(self, story: CommandStory) -> Iterator[str]:
         """The command that sleeps, and until when."""
         yield f"  {self.inputs.at(story.command.step)}: {self._plainly(story.command)}"
-        yield from self.inputs.command_lines(story.words)
+        if not story.command.in_place:
+            yield from self.inputs.command_lines(story.words)
         if story.command.step in self.inputs.times and self.trace.done:
             slept = seconds_of_sleep(story.words) or 0
             end = self.inputs.times[story.command.step] / 1_000 + slept
@@ -289,7 +290,7 @@ class Account:
         yield f"  meaning: {MEANING[failure.cause.code]}"
         for evidence in failure.evidence():
             yield from self._shown(evidence, failure.cause)
-            if isinstance(evidence.record, Command):
+            if isinstance(evidence.record, Command) and not evidence.in_place:
                 yield from self.inputs.command_lines(evidence.record)
         fault = self.inputs.fault(failure)
         if fault:
@@ -322,7 +323,7 @@ class Account:
 
     def _waiting(self, story: OpenStory) -> Iterator[str]:
         """What a command waited for, and the records that show it."""
-        if self.trace.running:
+        if self.trace.running and not self.trace.running[-1].command.in_place:
             yield from self.inputs.command_lines(self.trace.running[-1].words)
         for evidence in self._wait_evidence(story):
             yield from self._shown(evidence)

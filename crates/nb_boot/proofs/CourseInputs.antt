@@ -1,13 +1,17 @@
 -- The records that a course has used.
-use Rattle.std.proofs.Common.{◌≡◌, ℕ, ◌+◌, ◌<◌, List, [], ◌∷◌, ◌++◌, length, refl, sym, ◌∙◌, ap, subst, arith, append_assoc, length-append}
+use Rattle.std.proofs.Common.{◌≡◌, ℕ, ◌+◌, ◌<◌, Bool, true, false, List, [], ◌∷◌, ◌++◌, length, Option, Some, None, refl, sym, ◌∙◌, ap, subst, arith, append_assoc, length-append}
+use Rattle.nb_terms.specs.declared.cause.Cause.{Cause}
 use Rattle.nb_defs.specs.Records.{Start, In, start, IsIn, Out}
-use Rattle.nb_machine.specs.Conclusions.{Conclusion, keeps, fails, boots}
-use Rattle.nb_machine.specs.Running.{Running, anew}
-use Rattle.nb_machine.specs.States.{State}
+use Rattle.nb_defs.specs.ScriptLines.{script_reading}
+use Rattle.nb_imagecmd.specs.declared.outcome.ScriptImage.{ScriptImage}
+use Rattle.nb_machine.specs.Conclusions.{Conclusion, keeps, tells, fails, boots, runs_script}
+use Rattle.nb_machine.specs.FirstText.{text_refusal, lines_of}
+use Rattle.nb_machine.specs.Running.{Running, anew, entered, script_within, script_in_place}
+use Rattle.nb_machine.specs.States.{State, with_images}
 use Rattle.nb_machine.specs.Scripts.{Upshot, concludes, settles, goes_onward, concluded_by}
 use Rattle.nb_machine.specs.Takings.{Over}
 use Rattle.nb_machine.specs.Network.{on_net0, Network, passes_by, brings, brings_reply, passes_time}
-use Rattle.nb_machine.specs.Courses.{Standing, ready, running, waiting, reaching, yielded, handing, left, handed_off, stopped, Progress, ConclusionLeads, LeadsTo, StepBegins, runs, refuses, waits_on, is_answered, switches_off, resumes, goes_off, Proceeds, passes, is_left, yields, does, closes_device, leaves, jumps, finds_no_label, falls_asleep, opens_one, finds_no_route, opens_onward, finds_no_way, opens_no_more, hands, has_handed, Course, begins, uses, goes_on}
+use Rattle.nb_machine.specs.Courses.{Standing, ready, running, waiting, reaching, yielded, handing, left, handed_off, stopped, Progress, text_standing, ScriptLeads, ConclusionLeads, LeadsTo, StepBegins, runs, refuses, waits_on, is_answered, switches_off, resumes, goes_off, Proceeds, passes, is_left, hands_back, yields, does, closes_device, concludes_there, leaves, jumps, finds_no_label, falls_asleep, opens_one, finds_no_route, opens_onward, finds_no_way, opens_no_more, hands, has_handed, Course, begins, uses, goes_on}
 use Rattle.nb_onecourse.proofs.Nexts.{what_next}
 use Rattle.nb_onecourse.proofs.OneNext.{still_proceeds}
 use Rattle.nb_onecourse.proofs.Ends.{snoc_same, snoc_some}
@@ -27,10 +31,22 @@ HasStarted (left s outer cause) = Unit {0}
 HasStarted (handed_off s) = Unit {0}
 HasStarted (stopped s) = Unit {0}
 
+text_starts : (s : State) (new : Running) (outer : List Running) (refusal : Option Cause) → HasStarted (text_standing s new outer refusal)
+text_starts s new outer None = tt
+text_starts s new outer (Some cause) = tt
+
+script_starts : (s : State) (inner : Running) (outer : List Running) (image : ScriptImage) (replaces : Bool) (put : List Out) (p : Standing) → ScriptLeads s inner outer image replaces put p → HasStarted p
+script_starts s inner outer image false put p h =
+    subst HasStarted (sym h.1) (text_starts s (script_within inner image.uri (lines_of (script_reading image.text))) (inner ∷ outer) (text_refusal (script_reading image.text)))
+script_starts s inner outer image true put p h =
+    subst HasStarted (sym h.1) (text_starts s (script_in_place inner image.uri (lines_of (script_reading image.text))) outer (text_refusal (script_reading image.text)))
+
 concluded_starts : (s : State) (inner : Running) (outer : List Running) (c : Conclusion) (put : List Out) (p : Standing) → ConclusionLeads s inner outer c put p → HasStarted p
 concluded_starts s inner outer (keeps list) put p h = subst HasStarted (sym h.1) tt
+concluded_starts s inner outer (tells list lines) put p h = subst HasStarted (sym h.1) tt
 concluded_starts s inner outer (fails cause) put p h = subst HasStarted (sym h.1) tt
 concluded_starts s inner outer (boots list kernel) put p h = subst HasStarted (sym h.2) tt
+concluded_starts s inner outer (runs_script list image replaces) put p h = script_starts (with_images s list) inner outer image replaces put p h
 
 leads_started : (s : State) (inner : Running) (outer : List Running) (x : Upshot) (put : List Out) (p : Standing) → LeadsTo s inner outer x put p → HasStarted p
 leads_started s inner outer (concludes c) put p h = concluded_starts s inner outer c put p h
@@ -48,7 +64,7 @@ begins_counted m r a m' (runs n s code valid plain) = record { valid = valid; us
 begins_counted m r a m' (refuses n s cause valid plain) = record { valid = valid; used = refl; started = tt }
 begins_counted m r a m' (waits_on n s s' w _ put over valid acts none) = record { valid = valid; used = refl; started = tt }
 begins_counted m r a m' (is_answered n s s' w _ put more over x p valid acts some leads) =
-    record { valid = valid; used = refl; started = leads_started s' (anew w.script) w.outer (concluded_by s' w.job x) more p leads }
+    record { valid = valid; used = refl; started = leads_started s' (anew w.script) w.outer (concluded_by s' w.script.depth w.job x) more p leads }
 begins_counted m r a m' (switches_off n s w put over all) = record { valid = tt; used = refl; started = tt }
 begins_counted m r a m' (resumes n s s' inner outer _ put over valid acts) = record { valid = valid; used = refl; started = tt }
 begins_counted m r a m' (goes_off n s inner outer put over all) = record { valid = tt; used = refl; started = tt }
@@ -57,9 +73,11 @@ begins_counted m r a m' (goes_off n s inner outer put over all) = record { valid
 proceeds_counted : (m : Progress) (a : List Out) (m' : Progress) → Proceeds m a m' → (m'.used ≡ m.used) × HasStarted m'.standing
 proceeds_counted m a m' (passes n s inner next outer h) = (refl, tt)
 proceeds_counted m a m' (is_left n s inner outer cause h) = (refl, tt)
+proceeds_counted m a m' (hands_back n s inner outer cause) = (refl, tt)
 proceeds_counted m a m' (yields n s inner outer c cs h full) = (refl, tt)
 proceeds_counted m a m' (does n s s' inner outer c cs o h early e k) = (refl, tt)
 proceeds_counted m a m' (closes_device n s s' inner outer c cs put over h early e all) = (refl, tt)
+proceeds_counted m a m' (concludes_there n s inner outer c cs x put p h early e leads) = (refl, concluded_starts s (entered inner) outer x put p leads)
 proceeds_counted m a m' (leaves n s s' inner outer c cs o h early e k) = (refl, tt)
 proceeds_counted m a m' (jumps n s inner outer c cs name line h early e k) = (refl, tt)
 proceeds_counted m a m' (finds_no_label n s inner outer c cs name h early e k) = (refl, tt)

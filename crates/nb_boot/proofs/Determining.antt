@@ -25,7 +25,8 @@ says_rests (waiting s w) more number h = tt
 says_rests (reaching s inner outer next) more number h = absurd h
 says_rests (yielded s inner outer) more number h = tt
 says_rests (handing s rest) more number h = absurd h
-says_rests (left s outer cause) more number h = tt
+says_rests (left s [] cause) more number h = tt
+says_rests (left s (inner ∷ outer) cause) more number h = absurd (let no : inner ∷ outer ≡ [] = h.0 in cc)
 says_rests (handed_off s) more number h = tt
 says_rests (stopped s) more number h = tt
 

@@ -67,9 +67,10 @@ pub none_where_on : (es : List Event) (outs : List Out) (p : Standing) → Solit
 none_where_on es outs ready a s on = absurd on
 none_where_on es outs (running x inner outer) a s on = none_lives es a (a.idle s.1.is_open)
 none_where_on es outs (waiting x w) a s on = absurd on
-none_where_on es outs (reaching x inner outer next) a s on = none_lives es a (settled_ok (command_open es) s.3.finds.ended)
+none_where_on es outs (reaching x inner outer next) a s on = none_lives es a (settled_ok (command_open es) s.4.finds.ended)
 none_where_on es outs (yielded x inner outer) a s on = absurd on
 none_where_on es outs (handing x rest) a s on = none_lives es a (a.idle s.1)
-none_where_on es outs (left x outer cause) a s on = absurd on
+none_where_on es outs (left x [] cause) a s on = absurd on
+none_where_on es outs (left x (inner ∷ outer) cause) a s on = none_lives es a (a.handed cause s.2.1)
 none_where_on es outs (handed_off x) a s on = absurd on
 none_where_on es outs (stopped x) a s on = absurd on

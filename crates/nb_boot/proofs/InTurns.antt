@@ -19,7 +19,8 @@ not_both (running s inner outer) u b = b
 not_both (waiting s w) u b = u
 not_both (yielded s inner outer) u b = u
 not_both (handing s rest) u b = b
-not_both (left s outer cause) u b = u
+not_both (left s [] cause) u b = u
+not_both (left s (inner ∷ outer) cause) u b = b
 not_both (handed_off s) u b = u
 not_both (stopped s) u b = u
 

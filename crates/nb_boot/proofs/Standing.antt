@@ -3,7 +3,7 @@ use Rattle.std.proofs.Common.{◌≡◌, ℕ, ◌<◌, ◌⊎◌, List, length, 
 use Rattle.nb_defs.specs.Records.{In, start, frame, tick, off, IsPartial, IsBroken}
 use Rattle.nb_record.specs.Outside.{Outside, IsAtEnd}
 use Rattle.nb_machine.specs.Courses.{Progress}
-use Rattle.nb_client.specs.Snapshots.{Snapshot, StandsForProgress, at_ready, at_running, at_waiting, at_reaching, at_yielded, at_handing, at_left, at_handed_off, at_stopped}
+use Rattle.nb_client.specs.Snapshots.{Snapshot, StandsForProgress, at_ready, at_running, at_waiting, at_reaching, at_yielded, at_returning, at_handing, at_left, at_handed_off, at_stopped}
 use Rattle.nb_client.specs.Progressing.{IsFinal, IsAtWork, AwaitsRecord, RunEndsWith, CanUse}
 use Rattle.nb_client.specs.declared.stage.Stage.{Stage}
 use Rattle.nb_runner.specs.StatusNumber.{status_number}
@@ -21,6 +21,7 @@ stands_used c m (at_running n w y r live are) = refl
 stands_used c m (at_waiting n w y r e live are) = refl
 stands_used c m (at_reaching n w y r k live next are same) = refl
 stands_used c m (at_yielded n w y r live are) = refl
+stands_used c m (at_returning n w y r cause live are) = refl
 stands_used c m (at_handing n w y x s left1 none empty is) = refl
 stands_used c m (at_left n w y cause live are) = refl
 stands_used c m (at_handed_off n w y s none empty) = refl
@@ -33,6 +34,7 @@ stands_awaits c m (at_running n w y r live are) h = absurd h
 stands_awaits c m (at_waiting n w y r e live are) h = tt
 stands_awaits c m (at_reaching n w y r k live next are same) h = absurd h
 stands_awaits c m (at_yielded n w y r live are) h = tt
+stands_awaits c m (at_returning n w y r cause live are) h = absurd h
 stands_awaits c m (at_handing n w y x s left1 none empty is) h = absurd h
 stands_awaits c m (at_left n w y cause live are) h = absurd h
 stands_awaits c m (at_handed_off n w y s none empty) h = absurd h
@@ -44,6 +46,7 @@ stands_between c m (at_running n w y r live are) h = absurd h
 stands_between c m (at_waiting n w y r e live are) h = tt
 stands_between c m (at_reaching n w y r k live next are same) h = absurd h
 stands_between c m (at_yielded n w y r live are) h = tt
+stands_between c m (at_returning n w y r cause live are) h = absurd h
 stands_between c m (at_handing n w y x s left1 none empty is) h = absurd h
 stands_between c m (at_left n w y cause live are) h = absurd h
 stands_between c m (at_handed_off n w y s none empty) h = absurd h
@@ -56,6 +59,7 @@ stands_at_work c m (at_running n w y r live are) h = tt
 stands_at_work c m (at_waiting n w y r e live are) h = absurd h
 stands_at_work c m (at_reaching n w y r k live next are same) h = tt
 stands_at_work c m (at_yielded n w y r live are) h = absurd h
+stands_at_work c m (at_returning n w y r cause live are) h = tt
 stands_at_work c m (at_handing n w y x s left1 none empty is) h = tt
 stands_at_work c m (at_left n w y cause live are) h = absurd h
 stands_at_work c m (at_handed_off n w y s none empty) h = absurd h
@@ -69,6 +73,7 @@ stands_bad c m rest o (at_running n w y r live are) h b = absurd h
 stands_bad c m rest o (at_waiting n w y r e live are) h b = b
 stands_bad c m rest o (at_reaching n w y r k live next are same) h b = absurd h
 stands_bad c m rest o (at_yielded n w y r live are) h b = b
+stands_bad c m rest o (at_returning n w y r cause live are) h b = absurd h
 stands_bad c m rest o (at_handing n w y x s left1 none empty is) h b = absurd h
 stands_bad c m rest o (at_left n w y cause live are) h b = absurd h
 stands_bad c m rest o (at_handed_off n w y s none empty) h b = absurd h
@@ -81,6 +86,7 @@ over_ends status1 c m rest o (at_running n w y r live are) h = absurd h
 over_ends status1 c m rest o (at_waiting n w y r e live are) h = absurd h
 over_ends status1 c m rest o (at_reaching n w y r k live next are same) h = absurd h
 over_ends status1 c m rest o (at_yielded n w y r live are) h = absurd h
+over_ends status1 c m rest o (at_returning n w y r cause live are) h = absurd h
 over_ends status1 c m rest o (at_handing n w y x s left1 none empty is) h = absurd h
 over_ends status1 c m rest o (at_left n w y cause live are) h = was_left _ cause refl h
 over_ends status1 c m rest o (at_handed_off n w y s none empty) h = was_handed s refl (ap status_number h)

@@ -7,7 +7,7 @@ use Rattle.nb_traced.specs.Entries.{IsOutside}
 use Rattle.nb_traced.specs.Outputs.{Arrived}
 use Rattle.nb_client.specs.Progressing.{BeginsStep, ProceedsTo}
 
--- a step has begun, and isn't over
+-- a step has begun, and isn't over; a script that was left within another moves that
 abbrev pub StepGoesOn : Standing → Type 0
 StepGoesOn ready = ⊥
 StepGoesOn (running s inner outer) = Unit {0}
@@ -15,7 +15,8 @@ StepGoesOn (waiting s w) = ⊥
 StepGoesOn (reaching s inner outer next) = Unit {0}
 StepGoesOn (yielded s inner outer) = ⊥
 StepGoesOn (handing s rest) = Unit {0}
-StepGoesOn (left s outer cause) = ⊥
+StepGoesOn (left s [] cause) = ⊥
+StepGoesOn (left s (inner ∷ outer) cause) = Unit {0}
 StepGoesOn (handed_off s) = ⊥
 StepGoesOn (stopped s) = ⊥
 

@@ -173,7 +173,7 @@ pub record WasUnread (before after : Outside) (r : Shown before after) : Type 0 
   pub all : r.lost ≡ []
   pub rose : Rose before.read_faults after.read_faults
 
--- The output ends with the hand-off of all the images that the history says were brought, the last one of each name; and
+-- The output ends with the hand-off of all the images that the commands have left in the list, the selected one first; and
 -- where servers send what they hold, each is, byte for byte, the file of the open that brought it.
 abbrev pub HandsTrueFiles : (before after : Outside) → Shown before after → Type 0
 HandsTrueFiles before after r = HandsOff r.history (without_graph r.outs) [] × BringTheirs r.history

@@ -11,7 +11,7 @@ use Rattle.nb_traced.specs.Plain.{without_graph}
 use Rattle.nb_traced.proofs.Plain.{plain_behind}
 use Rattle.nb_record.specs.Logged.{Logged}
 use Rattle.nb_runner.specs.CommandWords.{onward_of}
-use Rattle.nb_runner.specs.Steps.{moves_in}
+use Rattle.nb_runner.specs.Steps.{moves_in, moves_outside}
 use Rattle.nb_runner.specs.declared.errand.Onward.{Onward}
 use Rattle.nb_runner.specs.declared.errand.Onward.TheVariants as onward
 use Rattle.nb_runner.specs.declared.world.World.{World}
@@ -30,26 +30,26 @@ use Rattle.nb_client.proofs.Moves.{one_move}
 use Rattle.nb_client.proofs.Standing.{stands_at}
 
 leads_next : (n : ℕ) (w : World) (live : List Live) (s : Running) (x : Onward) (put : List Out) (after : Snapshot) → w.opens < 16384 →
-    IsOpenedIn (state_of_world w live) (live_asked (state_of_world w live) (asked_onward x)) (job_asked (asked_onward x)) s n put after →
-    LeadsTo [] (stands n (reaching (state_of_world w live) s [] (onward_of x))) put after
+    IsOpenedIn (state_of_world w live) (live_asked (state_of_world w live) (asked_onward x)) (job_asked (asked_onward x)) s w.outer n put after →
+    LeadsTo [] (stands n (reaching (state_of_world w live) s w.outer (onward_of x))) put after
 leads_next n w live s (onward.File wanted) put after few (sets_out link more to dev first stood) = record {
   progress = stands n (waiting _ _);
-  steps = one_move _ _ _ (opens_onward n (state_of_world w live) s [] (onward_of (onward.File wanted)) link more few dev first);
+  steps = one_move _ _ _ (opens_onward n (state_of_world w live) s w.outer (onward_of (onward.File wanted)) link more few dev first);
   stands = stood;
 }
 leads_next n w live s (onward.File wanted) put after few (turns_back link to dev first stood) = record {
-  progress = stands n (running _ _ []);
-  steps = one_move _ _ _ (finds_no_way n (state_of_world w live) s [] (onward_of (onward.File wanted)) link few dev first);
+  progress = stands n (running _ _ w.outer);
+  steps = one_move _ _ _ (finds_no_way n (state_of_world w live) s w.outer (onward_of (onward.File wanted)) link few dev first);
   stands = stood;
 }
 leads_next n w live s (onward.Echo server) put after few (sets_out link more to dev first stood) = record {
   progress = stands n (waiting _ _);
-  steps = one_move _ _ _ (opens_onward n (state_of_world w live) s [] (onward_of (onward.Echo server)) link more few dev first);
+  steps = one_move _ _ _ (opens_onward n (state_of_world w live) s w.outer (onward_of (onward.Echo server)) link more few dev first);
   stands = stood;
 }
 leads_next n w live s (onward.Echo server) put after few (turns_back link to dev first stood) = record {
-  progress = stands n (running _ _ []);
-  steps = one_move _ _ _ (finds_no_way n (state_of_world w live) s [] (onward_of (onward.Echo server)) link few dev first);
+  progress = stands n (running _ _ w.outer);
+  steps = one_move _ _ _ (finds_no_way n (state_of_world w live) s w.outer (onward_of (onward.Echo server)) link few dev first);
   stands = stood;
 }
 
@@ -76,7 +76,9 @@ next_goes {old} {new} s k before after sound (opens_it few o) = record {
   };
   nearer = λ at_work.
       let same = o.same_script at_work in
-      subst (λ st. most_moves st after < moves_in s + 1) (sym same.1) (with_result_near s same.0);
+      let less : moves_in (with_result s same.0) + moves_outside after.world.outer < moves_in s + moves_outside before.world.outer + 1 =
+      rw same.2 (omega (arith, with_result_near s same.0)) in
+      subst (λ st. most_moves st after < moves_in s + moves_outside before.world.outer + 1) (sym same.1) less;
 }
 next_goes {old} {new} s k before after sound (opens_none now full used world is lets) =
     let s' = with_result s full_opens in
@@ -96,9 +98,9 @@ next_goes {old} {new} s k before after sound (opens_none now full used world is 
               came = [];
               puts = lets.puts;
               leads = subst (λ y. LeadsTo [] y (without_graph records) then_at) (sym at.2)
-                  (subst (λ xs. LeadsTo [] (stands before.used (reaching (state_of_world w live) s [] (onward_of k.onward))) xs then_at) (sym plain) (record {
-                    progress = stands before.used (running (state_of_world w live) s' []);
-                    steps = one_move _ _ _ (opens_no_more before.used (state_of_world w live) s [] (onward_of k.onward) full);
+                  (subst (λ xs. LeadsTo [] (stands before.used (reaching (state_of_world w live) s w.outer (onward_of k.onward))) xs then_at) (sym plain) (record {
+                    progress = stands before.used (running (state_of_world w live) s' w.outer);
+                    steps = one_move _ _ _ (opens_no_more before.used (state_of_world w live) s w.outer (onward_of k.onward) full);
                     stands = at_running before.used w now.opens s' live (lets.state w.net w.time (state_of_world w live) (record { devices = refl; time = refl; live = at.1 })).live;
                   }));
               begins = refl;
@@ -117,9 +119,10 @@ next_goes {old} {new} s k before after sound (opens_none now full used world is 
           leases = subst (λ xs. sum_by (λ x. lease_count x.kind) xs ≡ 0) (sym lets.same_list) sound.leases;
           well = tt;
           short = sound.short;
+          named = sound.named;
           linked = sound.linked;
         };
         under_way = tt;
       };
-      nearer = λ x. with_result_near s full_opens;
+      nearer = λ x. omega (arith, with_result_near s full_opens);
     })

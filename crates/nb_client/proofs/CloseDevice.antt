@@ -65,18 +65,18 @@ trace_down {before} {after} {l0} {l1} s s' ws n k outs h so_far tr fits =
 -- the machine's move
 down_move : {before after : Site} {l0 l1 : Logged} (n : ℕ) (w : World) (s : Running) (ws : List (List ℕ)) (live : List Live) (k : ClosesDown before after l0 l1) → s.begun < 4096 →
     IsCarriedOutBy w deed.Shuts s ws before.world → AreOpensOf before.opens.graph before.opens.list live →
-    Proceeds (stands n (running (state_of_world w live) s [])) (down_records s ws (without_graph k.records)) (stands n (running (state_of_world after.world []) (further s ok) []))
+    Proceeds (stands n (running (state_of_world w live) s w.outer)) (down_records s ws (without_graph k.records)) (stands n (running (state_of_world after.world []) (further s ok) after.world.outer))
 down_move {before} {after} n w s ws live k early d are =
     let words = d.name ∷ d.args in
     let from : State = state_of_world w live in
     let down : State = state_of_world (left_by w words) live in
     let all = subst (λ (v : World). closes_with (state_of_world v live) down_cause (without_graph k.records)) d.world_is (k.closes (state_of_world before.world live) (state_is before.world before.opens live are)) in
-    let to : stands n (running (with_live down []) (further s ok) []) ≡ stands n (running (state_of_world after.world []) (further s ok) []) =
-    ap (λ (v : World). stands n (running (state_of_world v []) (further s ok) [])) (sym d.world_is)
-    ∙ ap (λ (v : World). stands n (running (state_of_world v []) (further s ok) [])) (sym k.world) in
-    subst (λ p. Proceeds (stands n (running from s [])) (down_records s ws (without_graph k.records)) p) to
-    (subst (λ x. Proceeds (stands n (running from s [])) (command_record s x ∷ (without_graph k.records ++ (result ok ∷ []))) (stands n (running (with_live down []) (further s ok) []))) d.shows
-    (closes_device n from down s [] d.name d.args (without_graph k.records) all.0 d.comes early
+    let to : stands n (running (with_live down []) (further s ok) w.outer) ≡ stands n (running (state_of_world after.world []) (further s ok) after.world.outer) =
+    ap (λ (v : World). stands n (running (state_of_world v []) (further s ok) v.outer)) (sym d.world_is)
+    ∙ ap (λ (v : World). stands n (running (state_of_world v []) (further s ok) v.outer)) (sym k.world) in
+    subst (λ p. Proceeds (stands n (running from s w.outer)) (down_records s ws (without_graph k.records)) p) to
+    (subst (λ x. Proceeds (stands n (running from s w.outer)) (command_record s x ∷ (without_graph k.records ++ (result ok ∷ []))) (stands n (running (with_live down []) (further s ok) w.outer))) d.shows
+    (closes_device n from down s w.outer d.name d.args (without_graph k.records) all.0 d.comes early
     (ap (doing_by from (table_after w.state.table words) (up_after w.state.table w.state.up words)) d.deed_is) all.1))
 
 pub down_goes : {before after : Site} {l0 l1 old new : Logged} (n : ℕ) (w : World) (s : Running) (ws : List (List ℕ)) → IsSound n before.world before.opens (stage.Running s) → s.begun < 4096 →
@@ -85,7 +85,7 @@ pub down_goes : {before after : Site} {l0 l1 old new : Logged} (n : ℕ) (w : Wo
 down_goes {before} {after} {l0} {l1} {old} {new} n w s ws sound early d k puts =
     let c = closed_sound n (stage.Running s) sound k (omega arith) in
     let next = further s ok in
-    let to : Progress = stands n (running (state_of_world after.world []) next []) in
+    let to : Progress = stands n (running (state_of_world after.world []) next after.world.outer) in
     let same : before.world.opens ≡ w.opens = ap (λ (v : World). v.opens) d.world_is in
     record {
       goes = record {
@@ -105,8 +105,10 @@ down_goes {before} {after} {l0} {l1} {old} {new} n w s ws sound early d k puts =
               traces = λ outs h so_far tr fits. trace_down s next ws n k outs h so_far tr
                   (record { state = fits.state; living = fits.living; waiting = fits.waiting; numbered = subst (λ x. h.begun ≤ x) (sym same) fits.numbered });
             };
-        sound = record { time = c.time; opens = c.opens; serials = c.serials; leases = c.leases; well = tt; short = c.short; linked = c.linked };
+        sound = record { time = c.time; opens = c.opens; serials = c.serials; leases = c.leases; well = tt; short = c.short; named = c.named; linked = c.linked };
         under_way = tt;
       };
-      nearer = λ _. further_nearer s ok early;
+      nearer = λ _.
+          let same_outer : after.world.outer ≡ w.outer = ap (λ (v : World). v.outer) k.world ∙ ap (λ (v : World). v.outer) d.world_is in
+          rw same_outer (omega (arith, further_nearer s ok early));
     }

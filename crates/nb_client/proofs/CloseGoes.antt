@@ -33,6 +33,7 @@ closed_sound {cause} {first} {front} {before} {after} {old} {new} {used} n at so
   leases = rw k.none refl;
   well = k.none;
   short = rw k.world sound.short;
+  named = rw k.world sound.named;
   linked = rw k.world (record { address = sound.linked.address; up = sound.linked.up });
 }
 
@@ -66,10 +67,10 @@ pub record GoesOff (c : Snapshot) (p : Progress) (put : List Out) : Type 0 where
 goes_off_at : (c : Snapshot) (p : Progress) (closing : List Out) → StandsForProgress c p → AwaitsRecord c.stage → ShutsMany c.world c.many closing → GoesOff c p (without_graph closing)
 goes_off_at c p closing (at_waiting n w m s e live are) awaits k =
     let all = k.closes (state_of_world w live) (state_is w m live are) in
-    record { state = state_of_world w live; begins = switches_off n (state_of_world w live) (waiting_for s e) (without_graph closing) all.0 all.1; same_used = refl }
+    record { state = state_of_world w live; begins = switches_off n (state_of_world w live) (waiting_for w s e) (without_graph closing) all.0 all.1; same_used = refl }
 goes_off_at c p closing (at_yielded n w m s live are) awaits k =
     let all = k.closes (state_of_world w live) (state_is w m live are) in
-    record { state = state_of_world w live; begins = goes_off n (state_of_world w live) s [] (without_graph closing) all.0 all.1; same_used = refl }
+    record { state = state_of_world w live; begins = goes_off n (state_of_world w live) s w.outer (without_graph closing) all.0 all.1; same_used = refl }
 goes_off_at c p closing _ awaits k = absurd awaits
 
 pub off_goes : {first : List Piece} {before after : Site} {l0 l1 old new : Logged} (used n : ℕ) (at : Stage) → IsSound used before.world before.opens at → AwaitsRecord at → first ≡ pieces_waiting at → n ≡ used + 1 →

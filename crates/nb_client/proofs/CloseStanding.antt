@@ -20,7 +20,7 @@ use Rattle.nb_network.specs.Many.{AreOpensOf, IsStateOf, Many, WaitsBeside}
 use Rattle.nb_network.specs.Takes.{ClosesFirst}
 use Rattle.nb_client.specs.Closings.{IsWaitingAt}
 use Rattle.nb_client.specs.Progressing.{ShutsStanding}
-use Rattle.nb_client.specs.Snapshots.{Snapshot, StandsForProgress, at_ready, at_running, at_waiting, at_reaching, at_yielded, at_handing, at_left, at_handed_off, at_stopped, pieces_waiting, state_of_world}
+use Rattle.nb_client.specs.Snapshots.{Snapshot, StandsForProgress, at_ready, at_running, at_waiting, at_reaching, at_yielded, at_handing, at_left, at_returning, at_handed_off, at_stopped, pieces_waiting, state_of_world}
 use Rattle.nb_client.specs.Soundness.{StandsWell}
 use Rattle.nb_client.specs.declared.closing.WaitingChain.{WaitingChain}
 use Rattle.nb_client.specs.declared.pending.Expected.TheVariants.{Open, Moment}
@@ -39,6 +39,7 @@ pieces_at stage.Ready w none = no_pieces w none
 pieces_at (stage.Running s) w none = no_pieces w none
 pieces_at (stage.Waiting s (Moment time)) w none = no_pieces w none
 pieces_at (stage.Yielded s) w none = no_pieces w none
+pieces_at (stage.Returning s cause) w none = no_pieces w none
 pieces_at (stage.HandingOff h) w none = no_pieces w none
 pieces_at (stage.Left cause) w none = no_pieces w none
 pieces_at stage.HandedOff w none = no_pieces w none
@@ -55,6 +56,7 @@ beside_at stage.Ready w world m c at well is = none_waits w m c at is
 beside_at (stage.Running s) w world m c at well is = none_waits w m c at is
 beside_at (stage.Waiting s (Moment time)) w world m c at well is = none_waits w m c at is
 beside_at (stage.Yielded s) w world m c at well is = none_waits w m c at is
+beside_at (stage.Returning s cause) w world m c at well is = none_waits w m c at is
 beside_at (stage.HandingOff h) w world m c at well is = none_waits w m c at is
 beside_at (stage.Left cause) w world m c at well is = none_waits w m c at is
 beside_at stage.HandedOff w world m c at well is = none_waits w m c at is
@@ -95,6 +97,7 @@ shuts_at c p closing (at_reaching n w m s x live next are is) well k = k.closes 
 shuts_at c p closing (at_yielded n w m s live are) well k = k.closes (state_of_world w live) (state_is w m live are)
 shuts_at c p closing (at_handing n w m h s rest none list is) well k = none_closed s (without_graph closing) none (none_put w m closing list k)
 shuts_at c p closing (at_left n w m cause live are) well k = k.closes (state_of_world w live) (state_is w m live are)
+shuts_at c p closing (at_returning n w m s cause live are) well k = k.closes (state_of_world w live) (state_is w m live are)
 shuts_at c p closing (at_handed_off n w m s none list) well k = none_closed s (without_graph closing) none (none_put w m closing list k)
 shuts_at c p closing (at_stopped n w m s none list) well k = none_closed s (without_graph closing) none (none_put w m closing list k)
 
@@ -106,5 +109,6 @@ shuts_first c p closing (at_reaching n w m s x live next are is) k = λ some. k.
 shuts_first c p closing (at_yielded n w m s live are) k = λ some. k.closes_first (some_list m.graph m.list live are some)
 shuts_first c p closing (at_handing n w m h s rest none list is) k = λ some. absurd (some none)
 shuts_first c p closing (at_left n w m cause live are) k = λ some. k.closes_first (some_list m.graph m.list live are some)
+shuts_first c p closing (at_returning n w m s cause live are) k = λ some. k.closes_first (some_list m.graph m.list live are some)
 shuts_first c p closing (at_handed_off n w m s none list) k = λ some. absurd (some none)
 shuts_first c p closing (at_stopped n w m s none list) k = λ some. absurd (some none)

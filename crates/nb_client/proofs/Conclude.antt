@@ -1,41 +1,60 @@
 -- What comes of a file whose open has ended.
-use Rattle.std.proofs.Common.{◌≡◌, ℕ, Bool, true, false, List, [], ◌∷◌, ◌++◌, None, refl, sym, ◌∙◌, ap, subst, append-nil, append_assoc}
+use Rattle.std.proofs.Common.{◌≡◌, ℕ, ◌+◌, ◌<◌, ◌≤◌, Bool, true, false, cond, List, [], ◌∷◌, ◌++◌, length, Option, Some, None, refl, sym, ◌∙◌, ap, subst, arith, append-nil, append_assoc}
 use Rattle.std.specs.Prelude.{unwrap_or, Result, Ok, Err, IfOk, OnOk}
 use Rattle.nb_terms.specs.declared.cause.Cause.{Cause}
 use Rattle.nb_defs.specs.Causes.{is_ok_cause, ok}
-use Rattle.nb_defs.specs.Records.{out_texts, result}
+use Rattle.nb_defs.specs.Records.{Out, out_texts, result}
 use Rattle.nb_record.specs.Logged.{Logged, Puts}
 use Rattle.nb_traced.specs.Plain.{without_graph}
+use Rattle.nb_image.specs.declared.error.ImageError.{ImageError}
 use Rattle.nb_image.specs.declared.image.Image.{Image}
-use Rattle.nb_image.specs.Images.{ImageList, image_of}
-use Rattle.nb_machine.specs.Conclusions.{Conclusion, conclusion, handoff_records}
-use Rattle.nb_machine.specs.Courses.{running, handing, LeadsTo}
+use Rattle.nb_image.specs.declared.kind.ImageKind.{ImageKind}
+use Rattle.nb_image.specs.declared.kind.ImageKind.TheVariants.{Script, BzImage, Elf, Efi, Other}
+use Rattle.nb_image.specs.Images.{ImageList, refusal}
+use Rattle.nb_image.specs.Kinds.{kind_of}
+use Rattle.nb_imagecmd.specs.declared.arriving.Arrival.{Arrival}
+use Rattle.nb_imagecmd.specs.declared.asking.After.{After}
+use Rattle.nb_imagecmd.specs.declared.asking.After.TheVariants as after
+use Rattle.nb_imagecmd.specs.declared.asking.Asking.{Asking}
+use Rattle.nb_imagecmd.specs.declared.error.ImageFailure.{ImageFailure}
+use Rattle.nb_imagecmd.specs.declared.error.ImageFailure.TheVariants.{ManyScripts}
+use Rattle.nb_imagecmd.specs.Arriving.{ArrivalAnswer, arrived, arrived_image, arrives_as, listed_place, runs_kind, script_gone, selected_listed, taken_unless}
+use Rattle.nb_imagecmd.specs.Executing.{is_too_deep, script_of}
+use Rattle.nb_imagecmd.specs.declared.arriving.Arrival.TheVariants as arrival
+use Rattle.nb_machine.specs.Conclusions.{conclusion, conclusion_records, file_conclusion, handoff_records}
+use Rattle.nb_machine.specs.Courses.{ConclusionLeads, LeadsTo, Standing, handing}
 use Rattle.nb_machine.specs.Kinds.{fetched}
 use Rattle.nb_machine.specs.Lives.{Live}
-use Rattle.nb_machine.specs.Running.{Running, with_result}
-use Rattle.nb_machine.specs.Scripts.{by_end, concluded_by, concludes, upshot_records}
+use Rattle.nb_machine.specs.Running.{Running}
+use Rattle.nb_machine.specs.Scripts.{Upshot, by_end, concluded_by, concludes, upshot_records}
 use Rattle.nb_machine.specs.States.{State, with_images, with_live}
 use Rattle.nb_machine.specs.Takings.{Over}
-use Rattle.nb_runner.specs.Handings.{AreShort}
+use Rattle.nb_runner.specs.CommandWords.{FitsFile}
+use Rattle.nb_runner.specs.Handings.{IsShort, AreShort, records_left}
+use Rattle.nb_runner.specs.ImageDeeds.{IsConcludedWell, conclusion_of}
+use Rattle.nb_runner.specs.Steps.{moves_between, moves_in, moves_outside}
+use Rattle.nb_runner.specs.World.{world_with_images}
 use Rattle.nb_client.specs.Asked.{job_asked, pieces_beside}
 use Rattle.nb_client.specs.declared.pending.Expected.TheVariants.{Open}
 use Rattle.nb_runner.specs.declared.errand.Wanted.{Wanted}
+use Rattle.nb_runner.specs.declared.images.Conclusion.{Conclusion}
+use Rattle.nb_runner.specs.declared.images.Conclusion.TheVariants as concluded
 use Rattle.nb_runner.specs.declared.world.World.{World}
 use Rattle.nb_traced.specs.Holdings.{Holdings}
 use Rattle.nb_traced.specs.Outputs.{Traced, apart}
 use Rattle.nb_network.specs.Many.{AreSound, FitsHoldings}
 use Rattle.nb_network.specs.Takes.{IsEndOf}
 use Rattle.nb_network.specs.declared.over.HasEnded.{HasEnded}
-use Rattle.nb_client.specs.Concluding.{IsConclusion, conclusion_of, handing_of}
+use Rattle.nb_client.specs.Concluding.{ArrivesWell, handing_of}
 use Rattle.nb_client.specs.Closings.{ShutsAll}
-use Rattle.nb_runner.proofs.HandingLemmas.{begins_at}
+use Rattle.nb_client.specs.Leading.{LeadsBy}
+use Rattle.nb_runner.proofs.HandingLemmas.{all_remove, begins_at, handoff_few, with_short}
+use Rattle.nb_runner.proofs.ImageLaws.{deep_enough}
 use Rattle.nb_client.proofs.Served.{state_is}
 use Rattle.nb_client.specs.Serving.{Concludes}
-use Rattle.nb_client.specs.Snapshots.{at_running, at_handing, snapshot, state_of_world}
+use Rattle.nb_client.specs.Snapshots.{Snapshot, at_handing, state_of_world}
 use Rattle.nb_client.specs.Soundness.{IsSound, snapshot_at}
 use Rattle.nb_client.specs.declared.asked.Asked.TheVariants.{File}
-use Rattle.nb_client.specs.declared.concluding.Conclusion.{Conclusion as Concluded}
-use Rattle.nb_client.specs.declared.concluding.Conclusion.TheVariants as concluded
 use Rattle.nb_client.specs.declared.pending.Pending.{Pending}
 use Rattle.nb_client.specs.declared.site.Site.{Site}
 use Rattle.nb_client.specs.declared.stage.Stage.TheVariants as stage
@@ -45,131 +64,140 @@ pub if_all : {A E : Type 0} {P S : A → Type 0} {Q R : Type 0} (r : Result A E)
 if_all (Ok x) f p q r = f x p q r
 if_all (Err e) f p q r = tt
 
--- a failure doesn't depend on the image
-pub conclusion_same : (cause : Cause) (b : Bool) (x y : Image) (list : ImageList) → (is_ok_cause cause ≡ true → x ≡ y) → conclusion cause b x list ≡ conclusion cause b y list
-conclusion_same cause b x y list same = by (is_ok_cause cause) refl
+-- WHAT A FILE LEAVES
+
+abbrev LeavesShort : ℕ → ArrivalAnswer → Type 0
+LeavesShort depth answer = IfOk answer (λ x. ArrivesWell depth x.0 x.1)
+
+listed_short : (image : Image) (list : ImageList) → IsShort image → AreShort list.images → AreShort (selected_listed image list).images
+listed_short image list one all = with_short image list.images one all
+
+script_short : (image : Image) (replace : Bool) (depth : ℕ) (list : ImageList) → IsShort image → AreShort list.images → (b : Bool) → is_too_deep replace depth ≡ b →
+    LeavesShort depth (cond b (Err ManyScripts) (Ok (arrival.Run (script_of image) replace, script_gone image list)))
+script_short image replace depth list one all true e = tt
+script_short image replace depth list one all false e = (all_remove IsShort (selected_listed image list).images (listed_place image list) (listed_short image list one all), deep_enough replace depth e)
+
+kind_short : (kind : ImageKind) (image : Image) (replace : Bool) (depth : ℕ) (list : ImageList) → IsShort image → AreShort list.images → LeavesShort depth (runs_kind kind image replace depth list)
+kind_short Script image replace depth list one all = script_short image replace depth list one all (is_too_deep replace depth) refl
+kind_short BzImage image replace depth list one all = (listed_short image list one all, listed_place image list, refl)
+kind_short Elf image replace depth list one all = (listed_short image list one all, listed_place image list, refl)
+kind_short Efi image replace depth list one all = (listed_short image list one all, listed_place image list, refl)
+kind_short Other image replace depth list one all = tt
+
+after_short : (a : After) (image : Image) (depth : ℕ) (list : ImageList) → IsShort image → AreShort list.images → LeavesShort depth (arrives_as a image depth list)
+after_short after.Keep image depth list one all = listed_short image list one all
+after_short after.Select image depth list one all = listed_short image list one all
+after_short (after.Run replace) image depth list one all = kind_short (kind_of image.body) image replace depth list one all
+
+unless_short : (why : Option ImageError) (a : After) (image : Image) (depth : ℕ) (list : ImageList) → IsShort image → AreShort list.images → LeavesShort depth (taken_unless why a image depth list)
+unless_short (Some why) a image depth list one all = tt
+unless_short None a image depth list one all = after_short a image depth list one all
+
+pub arrives_well : (asking : Asking) (body uri : List ℕ) (depth : ℕ) (list left : ImageList) (a : Arrival) → FitsFile asking → length body ≤ 268435456 → AreShort list.images → arrived asking body uri depth list ≡ Ok (a, left) → ArrivesWell depth a left
+unfolding arrived
+arrives_well asking body uri depth list left a fits few all is =
+    let image = arrived_image asking body uri in
+    let one : IsShort image = record { name = omega (arith, fits.name); body = few; args = omega (arith, fits.args) } in
+    subst (λ (r : ArrivalAnswer). LeavesShort depth r) is (unless_short (refusal image list.images) asking.after image depth list one all)
+
+-- WHAT THE MACHINE CONCLUDES
+
+-- a failure doesn't depend on the file
+conclusion_same : (cause : Cause) (asking : Asking) (x y : List ℕ) (depth : ℕ) (list : ImageList) → (is_ok_cause cause ≡ true → x ≡ y) → conclusion cause asking x depth list ≡ conclusion cause asking y depth list
+conclusion_same cause asking x y depth list same = by (is_ok_cause cause) refl
   where
-    by : (t : Bool) → is_ok_cause cause ≡ t → conclusion cause b x list ≡ conclusion cause b y list
-    by true e = ap (λ i. conclusion cause b i list) (same e)
+    by : (t : Bool) → is_ok_cause cause ≡ t → conclusion cause asking x depth list ≡ conclusion cause asking y depth list
+    by true e = ap (λ b. conclusion cause asking b depth list) (same e)
     by false e = rw e refl
 
 -- what the machine concludes of the open is what was concluded of what it handed out
-pub concluded_same : (w : Wanted) (e : HasEnded) (o : Over) (list : ImageList) → IsEndOf e o →
-    conclusion o.cause w.file.boots (image_of w.file.name (fetched o.live) [] w.file.uri) list
-    ≡ conclusion e.cause w.file.boots (image_of w.file.name (unwrap_or e.body []) [] w.file.uri) list
-concluded_same w e o list is =
-    ap (λ c. conclusion c w.file.boots (image_of w.file.name (fetched o.live) [] w.file.uri) list) is.cause
-    ∙ conclusion_same e.cause w.file.boots _ _ list (λ fine. ap (λ body. image_of w.file.name body [] w.file.uri) (is.body fine))
+concluded_same : (asking : Asking) (e : HasEnded) (o : Over) (depth : ℕ) (list : ImageList) → IsEndOf e o →
+    conclusion o.cause asking (fetched o.live) depth list ≡ conclusion e.cause asking (unwrap_or e.body []) depth list
+concluded_same asking e o depth list is =
+    ap (λ c. conclusion c asking (fetched o.live) depth list) is.cause ∙ conclusion_same e.cause asking _ _ depth list (λ fine. is.body fine)
+
+-- where it leads doesn't depend on the images before
+pub leads_before : (t : State) (list : ImageList) (depth : ℕ) (s : Running) (outer : List Running) (c : Conclusion) (more : List Out) (to : Standing) → IsConcludedWell c depth t.images list →
+    ConclusionLeads (with_images t list) s outer (conclusion_of c list) more to → ConclusionLeads t s outer (conclusion_of c list) more to
+leads_before t list depth s outer concluded.Keeps more to well leads = leads
+leads_before t list depth s outer (concluded.Tells lines) more to well leads = leads
+leads_before t list depth s outer (concluded.Fails cause) more to well leads = subst (λ (l : ImageList). ConclusionLeads (with_images t l) s outer (conclusion_of (concluded.Fails cause) list) more to) well leads
+leads_before t list depth s outer (concluded.Boots kernel) more to well leads = leads
+leads_before t list depth s outer (concluded.Runs script true) more to well leads = leads
+leads_before t list depth s outer (concluded.Runs script false) more to well leads = leads
 
 module _ (before : Site) (s : Running) (wanted : Wanted) (p : Pending) (e : HasEnded) (images : ImageList) (asks : p.asked ≡ File wanted) (none : p.waits ≡ None) where
   abbrev w : World
   w = before.world
 
-  abbrev the_conclusion : Conclusion
-  the_conclusion = conclusion e.cause wanted.file.boots (image_of wanted.file.name (unwrap_or e.body []) [] wanted.file.uri) w.state.images
-
-  -- with other images
-  abbrev after_images : World
-  after_images = record w { state = record w.state { images = images } }
-
   abbrev mid : Site
-  mid = record before { world = after_images }
+  mid = record before { world = world_with_images w images }
 
-  -- what the machine concludes
-  concluded_is : (c : Concluded) → IsConclusion c the_conclusion w.state.images images → (live : List Live) (o : Over) → IsEndOf e o →
-      concluded_by (state_of_world w live) (job_asked p.asked) (by_end o) ≡ concludes (conclusion_of c images)
-  concluded_is c k live o is = rw asks (ap concludes (concluded_same wanted e o w.state.images is ∙ k.same))
-
-  -- the client stays sound with other images
-  sound_with : AreShort images.images → IsSound before.used w before.opens (stage.Running s) → (t : Running) → IsSound before.used after_images before.opens (stage.Running t)
-  sound_with short x t = record { time = x.time; opens = x.opens; serials = x.serials; leases = x.leases; well = tt; short = short; linked = record { address = x.linked.address; up = x.linked.up } }
-
-  -- no object waits beside a file's open
-  fits_alone : (h : Holdings) → FitsHoldings before.opens w.opens (pieces_beside (Open p)) h → FitsHoldings before.opens w.opens [] h
-  fits_alone h fits = record { state = fits.state; living = fits.living; waiting = rw none at fits.waiting; numbered = fits.numbered }
-
-  -- the command goes on with its result
-  goes_with : (c : Concluded) (cause : Cause) (old new : Logged) → IsConclusion c the_conclusion w.state.images images → IsSound before.used w before.opens (stage.Running s) →
-      upshot_records (concludes (conclusion_of c images)) ≡ result cause ∷ [] →
-      ((st : State) → LeadsTo st s [] (concludes (conclusion_of c images)) [] (running (with_images st images) (with_result s cause) [])) →
-      Puts old new (out_texts (result cause ∷ [])) → Concludes p e s before (snapshot before.used after_images before.opens (stage.Running (with_result s cause))) old new
-  goes_with c cause old new k sound puts_so leads puts = record {
-    rest = result cause ∷ [];
-    puts = puts;
-    comes = λ live are o is. record {
-      more = [];
-      to = running (state_of_world after_images live) (with_result s cause) [];
-      is_put = sym (ap (λ u. upshot_records u ++ []) (concluded_is c k live o is) ∙ ap (λ x. x ++ []) puts_so);
-      leads = subst (λ u. LeadsTo (state_of_world w live) s [] u [] (running (state_of_world after_images live) (with_result s cause) [])) (sym (concluded_is c k live o is)) (leads (state_of_world w live));
-      stands_so = at_running before.used after_images before.opens (with_result s cause) live are;
-    };
-    traces = λ outs h so_far traced fits. record {
-      holdings = h;
-      traced = apart outs (result cause ∷ []) h so_far traced (tt, tt);
-      fits = fits_alone h fits;
-    };
-    sound = sound_with (k.short sound.short) sound (with_result s cause);
-    under_way = tt;
-  }
-
-  pub file_keeps : (old new : Logged) → IsConclusion concluded.Keeps the_conclusion w.state.images images → IsSound before.used w before.opens (stage.Running s) →
-      Puts old new (out_texts (result ok ∷ [])) → Concludes p e s before (snapshot before.used after_images before.opens (stage.Running (with_result s ok))) old new
-  file_keeps old new k sound puts = goes_with concluded.Keeps ok old new k sound refl (λ st. (refl, refl)) puts
-
-  pub file_fails : (cause : Cause) (old new : Logged) → IsConclusion (concluded.Fails cause) the_conclusion w.state.images images → IsSound before.used w before.opens (stage.Running s) →
-      Puts old new (out_texts (result cause ∷ [])) → Concludes p e s before (snapshot before.used w before.opens (stage.Running (with_result s cause))) old new
-  file_fails cause old new k sound puts = record {
-    rest = result cause ∷ [];
-    puts = puts;
-    comes = λ live are o is. record {
-      more = [];
-      to = running (state_of_world w live) (with_result s cause) [];
-      is_put = sym (ap (λ u. upshot_records u ++ []) (concluded_is (concluded.Fails cause) k live o is));
-      leads = subst (λ u. LeadsTo (state_of_world w live) s [] u [] (running (state_of_world w live) (with_result s cause) [])) (sym (concluded_is (concluded.Fails cause) k live o is)) (refl, refl);
-      stands_so = at_running before.used w before.opens (with_result s cause) live are;
-    };
-    traces = λ outs h so_far traced fits. record {
-      holdings = h;
-      traced = apart outs (result cause ∷ []) h so_far traced (tt, tt);
-      fits = fits_alone h fits;
-    };
-    sound = record { time = sound.time; opens = sound.opens; serials = sound.serials; leases = sound.leases; well = tt; short = sound.short; linked = sound.linked };
-    under_way = tt;
-  }
-
-  -- all that lives was closed, and the image is handed off
-  pub file_boots : (kernel : ℕ) (after : Site) (old new : Logged) → IsConclusion (concluded.Boots kernel) the_conclusion w.state.images images → IsSound before.used w before.opens (stage.Running s) →
-      after.used ≡ before.used → ShutsAll [] (result ok ∷ []) mid after old new → Concludes p e s before (snapshot_at after (stage.HandingOff (handing_of kernel))) old new
-  file_boots kernel after old new k sound same shut = record {
-    rest = result ok ∷ shut.records;
-    puts = shut.puts;
+  -- a file was concluded, and that was carried on
+  pub file_concludes : (c : Conclusion) (after : Snapshot) (old new : Logged) → conclusion e.cause wanted.asking (unwrap_or e.body []) s.depth w.state.images ≡ conclusion_of c images → IsConcludedWell c s.depth w.state.images images →
+      LeadsBy s c mid after old new → Concludes p e s before after old new
+  file_concludes c after old new same well l = record {
+    rest = l.rest;
+    puts = l.puts;
     comes = λ live are o is.
-        let st = state_of_world w live in
-        let z = shut.closes st (state_is w before.opens live are) in
+        let t = state_of_world w live in
+        let there = l.comes live are in
+        let upshot : concluded_by t s.depth (job_asked p.asked) (by_end o) ≡ concludes (conclusion_of c images) = rw asks (ap concludes (concluded_same wanted.asking e o s.depth w.state.images is ∙ same)) in
         record {
-          more = without_graph shut.records;
-          to = handing (with_live (with_images st images) []) (handoff_records kernel images.images);
-          is_put = sym (ap (λ u. upshot_records u ++ without_graph shut.records) (concluded_is (concluded.Boots kernel) k live o is));
-          leads = subst (λ u. LeadsTo st s [] u (without_graph shut.records) (handing (with_live (with_images st images) []) (handoff_records kernel images.images)))
-              (sym (concluded_is (concluded.Boots kernel) k live o is)) (z.0, z.1, refl);
-          stands_so = rw (sym same) (at_handing after.used after.world after.opens (handing_of kernel) (with_live (with_images st images) []) (handoff_records kernel images.images) refl shut.none (rw shut.world refl));
+          more = there.more;
+          to = there.to;
+          is_put = there.is_put ∙ sym (ap (λ (u : Upshot). upshot_records u ++ there.more) upshot);
+          leads = subst (λ (u : Upshot). LeadsTo t s w.outer u there.more there.to) (sym upshot) (leads_before t images s.depth s w.outer c there.more there.to well there.leads);
+          stands_so = there.stands_so;
         };
-    traces = λ outs h so_far traced fits.
-        let t = apart outs (result ok ∷ []) h so_far traced (tt, tt) in
-        let u = shut.traces (outs ++ (result ok ∷ [])) h so_far t (fits_alone h fits) in
-        record {
-          holdings = u.after;
-          traced = subst (λ z. Traced z u.after so_far) (append_assoc outs (result ok ∷ []) shut.records) (subst (λ z. Traced ((outs ++ (result ok ∷ [])) ++ shut.records) u.after z) (append-nil so_far) u.traced);
-          fits = rw shut.world u.fits;
-        };
-    sound = record {
-      time = rw (shut.world, same) sound.time;
-      opens = subst (λ z. AreSound z.w z.opens after.world.net after.opens) (sym shut.world) shut.sound;
-      serials = rw (shut.serials, shut.world) sound.serials;
-      leases = rw shut.none refl;
-      well = (rw shut.world (begins_at images kernel k.kept (k.short sound.short)), shut.none);
-      short = rw shut.world (k.short sound.short);
-      linked = rw shut.world (record { address = sound.linked.address; up = sound.linked.up });
-    };
-    under_way = tt;
+    traces = λ outs h so_far traced fits. l.traces outs h so_far traced (record { state = fits.state; living = fits.living; waiting = rw none at fits.waiting; numbered = fits.numbered });
+    sound = l.sound;
+    under_way = l.under_way;
   }
+
+-- AN IMAGE IS HANDED OFF
+
+-- all that lives was closed, and the image is handed off
+pub boots_leads : {old new : Logged} (before after : Site) (s : Running) (kernel : ℕ) → IsSound before.used before.world before.opens (stage.Running s) → kernel < length before.world.state.images.images → length before.world.state.images.images ≤ 32 →
+    after.used ≡ before.used → ShutsAll [] (result ok ∷ []) before after old new → LeadsBy s (concluded.Boots kernel) before (snapshot_at after (stage.HandingOff (handing_of kernel))) old new
+boots_leads {old} {new} before after s kernel sound within few same shut =
+    let w = before.world in
+    let images = w.state.images in
+    record {
+      rest = result ok ∷ shut.records;
+      puts = shut.puts;
+      comes = λ live are.
+          let st = state_of_world w live in
+          let z = shut.closes st (state_is w before.opens live are) in
+          record {
+            more = without_graph shut.records;
+            to = handing (with_live (with_images st images) []) (handoff_records kernel images.images);
+            is_put = refl;
+            leads = (z.0, z.1, refl);
+            stands_so = rw (sym same) (at_handing after.used after.world after.opens (handing_of kernel) (with_live (with_images st images) []) (handoff_records kernel images.images) refl shut.none (rw shut.world refl));
+          };
+      traces = λ outs h so_far traced fits.
+          let t = apart outs (result ok ∷ []) h so_far traced (tt, tt) in
+          let u = shut.traces (outs ++ (result ok ∷ [])) h so_far t fits in
+          record {
+            holdings = u.after;
+            traced = subst (λ z. Traced z u.after so_far) (append_assoc outs (result ok ∷ []) shut.records) (subst (λ z. Traced ((outs ++ (result ok ∷ [])) ++ shut.records) u.after z) (append-nil so_far) u.traced);
+            fits = rw shut.world u.fits;
+          };
+      sound = record {
+        time = rw (shut.world, same) sound.time;
+        opens = subst (λ z. AreSound z.w z.opens after.world.net after.opens) (sym shut.world) shut.sound;
+        serials = rw (shut.serials, shut.world) sound.serials;
+        leases = rw shut.none refl;
+        well = (rw shut.world (begins_at images kernel within sound.short), shut.none);
+        short = rw shut.world sound.short;
+        named = rw shut.world sound.named;
+        linked = rw shut.world (record { address = sound.linked.address; up = sound.linked.up });
+      };
+      under_way = tt;
+      nearer = λ _. rw shut.world (omega (arith, handoff_few kernel images.images within sound.short few));
+    }
+
+-- what is known of an image that boots
+pub boots_well : (c : Conclusion) (kernel depth : ℕ) (before after : ImageList) → c ≡ concluded.Boots kernel → IsConcludedWell c depth before after → (kernel < length after.images) × (length after.images ≤ 32)
+boots_well c kernel depth before after is h = let k = subst (λ (x : Conclusion). IsConcludedWell x depth before after) is h in (k.1, k.2)

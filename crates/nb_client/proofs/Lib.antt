@@ -13,6 +13,7 @@ pub mod Settles
 pub mod OpenRecords
 pub mod OpenStates
 pub mod OpenSites
+pub mod Nested
 pub mod OpenResults
 pub mod OpenWaits
 pub mod AskMoves
@@ -21,3 +22,4 @@ pub mod CloseGoes
 pub mod HandMoves
 pub mod CloseDevice
 pub mod AskNext
+pub mod Concluded

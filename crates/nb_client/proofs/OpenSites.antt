@@ -85,8 +85,8 @@ opened_waits {old} {new} a o waits left shown script before net m sound fits is 
       puts = puts h.opens.made h.opens.told w.time h.opens.made_is h.opens.told_is;
       opens = λ live are.
           let s = state_of_world w live in
-          subst (λ xs. IsOpenedIn s (live_asked s a) (job_asked a) (begun_script shown script) before.used xs after) (sym plain)
-          (subst (λ x. IsOpenedIn s x (job_asked a) (begun_script shown script) before.used (open_record l ∷ without_graph h.opens.told) after) (is.live live)
+          subst (λ xs. IsOpenedIn s (live_asked s a) (job_asked a) (begun_script shown script) w.outer before.used xs after) (sym plain)
+          (subst (λ x. IsOpenedIn s x (job_asked a) (begun_script shown script) w.outer before.used (open_record l ∷ without_graph h.opens.told) after) (is.live live)
           (lives_on before.used w net m live o (pending_for w a left) (begun_script shown script) (without_graph h.opens.told) refl h.opens.first_put (h.opens.state s (state_is before.opens w live are))));
       traces = λ outs k so_far t stood.
           let on = h.opens.traces outs k so_far t (subst (λ x. FitsHoldings before.opens w.opens (waiting_pieces x waits) k) (sym is.kind) stood) in
@@ -98,6 +98,7 @@ opened_waits {old} {new} a o waits left shown script before net m sound fits is 
         leases = h.opens.leases sound.leases;
         well = record { fits = fits; backed = backed; waiting = h.waiting };
         short = sound.short;
+        named = sound.named;
         linked = record { address = h.linked.address; up = h.linked.up };
       };
       under_way = tt;
@@ -129,8 +130,8 @@ opened_back {old} {mid} {new} a o waits left shown script before begun now cause
       puts = subst (λ xs. Puts old new (out_texts xs)) (append_assoc front records more) (Puts-outs (front ++ records) more (puts h.opens.made h.opens.told w.time h.opens.made_is h.opens.told_is) lets.puts);
       opens = λ live are.
           let s = state_of_world w live in
-          subst (λ xs. IsOpenedIn s (live_asked s a) (job_asked a) inner before.used xs after) (sym plain)
-          (subst (λ x. IsOpenedIn s x (job_asked a) inner before.used (open_record l ∷ end_record l cause ∷ result cause ∷ []) after) (is.live live)
+          subst (λ xs. IsOpenedIn s (live_asked s a) (job_asked a) inner w.outer before.used xs after) (sym plain)
+          (subst (λ x. IsOpenedIn s x (job_asked a) inner w.outer before.used (open_record l ∷ end_record l cause ∷ result cause ∷ []) after) (is.live live)
           (goes_back before.used w begun.world.net now.opens live o a inner cause (without_graph h.opens.told) h.opens.first_put
           (lets.state begun.world.net w.time s (h.opens.state s (state_is before.opens w live are)))));
       traces = λ outs k so_far t stood.
@@ -151,10 +152,11 @@ opened_back {old} {mid} {new} a o waits left shown script before begun now cause
         leases = subst (λ xs. sum_by (λ x. lease_count x.kind) xs ≡ 0) (sym lets.same_list) (h.opens.leases sound.leases);
         well = tt;
         short = sound.short;
+        named = sound.named;
         linked = record { address = h.linked.address; up = h.linked.up };
       };
       under_way = tt;
-      same_script = λ x. (cause, refl);
+      same_script = λ x. (cause, refl, refl);
     }
 
 pub same_snapshot : {n n' : ℕ} {w w' : World} {m m' : Many} (st st' : Stage) → n ≡ n' → w ≡ w' → m ≡ m' → st ≡ st' → snapshot n w m st ≡ snapshot n' w' m' st'

@@ -35,33 +35,33 @@ state_is m w live are = record { devices = refl; time = refl; live = are }
 -- it lives, and its command waits
 pub lives_on : (n : ℕ) (w : World) (net : Client) (m : Many) (live : List Live) (o : Opening) (p : Pending) (inner : Running) (put : List Out) → p.number ≡ w.opens →
     FirstBy None (live_by o w.opens w.time) w.net put → BegunBy None m net w.time (live_by o w.opens w.time) put (state_of_world w live) →
-    IsOpenedIn (state_of_world w live) (live_by o w.opens w.time) (job_asked p.asked) inner n (open_record (live_by o w.opens w.time) ∷ put)
+    IsOpenedIn (state_of_world w live) (live_by o w.opens w.time) (job_asked p.asked) inner w.outer n (open_record (live_by o w.opens w.time) ∷ put)
     (snapshot n (world_begun w net) m (stage.Waiting inner (Open p)))
 lives_on n w net m live o p inner put number first begun =
     let l = live_by o w.opens w.time in
     let s = state_of_world w live in
     let after = snapshot n (world_begun w net) m (stage.Waiting inner (Open p)) in
-    let at_it : StandsForProgress after (stands n (waiting (state_of_world (world_begun w net) (live ++ l ∷ [])) (waiting_for inner (Open p)))) =
+    let at_it : StandsForProgress after (stands n (waiting (state_of_world (world_begun w net) (live ++ l ∷ [])) (waiting_for (world_begun w net) inner (Open p)))) =
     at_waiting n (world_begun w net) m inner (Open p) (live ++ l ∷ []) begun.live in
-    let numbered : StandsForProgress after (stands n (waiting (state_of_world (world_begun w net) (live ++ l ∷ [])) (record { script = inner; outer = []; awaited = answer w.opens; job = job_asked p.asked }))) =
-    subst (λ k. StandsForProgress after (stands n (waiting (state_of_world (world_begun w net) (live ++ l ∷ [])) (record { script = inner; outer = []; awaited = answer k; job = job_asked p.asked })))) number at_it in
+    let numbered : StandsForProgress after (stands n (waiting (state_of_world (world_begun w net) (live ++ l ∷ [])) (record { script = inner; outer = w.outer; awaited = answer w.opens; job = job_asked p.asked }))) =
+    subst (λ k. StandsForProgress after (stands n (waiting (state_of_world (world_begun w net) (live ++ l ∷ [])) (record { script = inner; outer = w.outer; awaited = answer k; job = job_asked p.asked })))) number at_it in
     sets_out (bare w.net) put after refl (first_bare l.kind l w.net ∙ first)
-    (subst (λ ds. StandsForProgress after (stands n (waiting (record (with_opened s l) { devices = ds }) (record { script = inner; outer = []; awaited = answer w.opens; job = job_asked p.asked }))))
+    (subst (λ ds. StandsForProgress after (stands n (waiting (record (with_opened s l) { devices = ds }) (record { script = inner; outer = w.outer; awaited = answer w.opens; job = job_asked p.asked }))))
     (sym begun.devices) numbered)
 
 -- it has ended, and the script goes on
 pub goes_back : (n : ℕ) (w : World) (net : Client) (m : Many) (live : List Live) (o : Opening) (a : Asked) (inner : Running) (cause : Cause) (put : List Out) →
     FirstBy (Some cause) (live_by o w.opens w.time) w.net put → IsStateOf m net w.time (state_of_world w live) →
-    IsOpenedIn (state_of_world w live) (live_by o w.opens w.time) (job_asked a) inner n
+    IsOpenedIn (state_of_world w live) (live_by o w.opens w.time) (job_asked a) inner w.outer n
     (open_record (live_by o w.opens w.time) ∷ end_record (live_by o w.opens w.time) cause ∷ result cause ∷ [])
     (snapshot n (world_begun w net) m (stage.Running (with_result inner cause)))
 goes_back n w net m live o a inner cause put first begun =
     let l = live_by o w.opens w.time in
     let s = state_of_world w live in
     let after : Cause → Snapshot = λ c. snapshot n (world_begun w net) m (stage.Running (with_result inner c)) in
-    let at_it : StandsForProgress (after (no_route l.server)) (stands n (running (state_of_world (world_begun w net) live) (with_result inner (no_route l.server)) [])) =
+    let at_it : StandsForProgress (after (no_route l.server)) (stands n (running (state_of_world (world_begun w net) live) (with_result inner (no_route l.server)) (world_begun w net).outer)) =
     at_running n (world_begun w net) m (with_result inner (no_route l.server)) live begun.live in
-    let stood : StandsForProgress (after (no_route l.server)) (stands n (running (with_one_made s) (with_result inner (no_route l.server)) [])) =
-    subst (λ ds. StandsForProgress (after (no_route l.server)) (stands n (running (record (with_one_made s) { devices = ds }) (with_result inner (no_route l.server)) []))) (sym begun.devices) at_it in
-    subst (λ c. IsOpenedIn s l (job_asked a) inner n (open_record l ∷ end_record l c ∷ result c ∷ []) (after c)) (sym first.2)
+    let stood : StandsForProgress (after (no_route l.server)) (stands n (running (with_one_made s) (with_result inner (no_route l.server)) w.outer)) =
+    subst (λ ds. StandsForProgress (after (no_route l.server)) (stands n (running (record (with_one_made s) { devices = ds }) (with_result inner (no_route l.server)) w.outer))) (sym begun.devices) at_it in
+    subst (λ c. IsOpenedIn s l (job_asked a) inner w.outer n (open_record l ∷ end_record l c ∷ result c ∷ []) (after c)) (sym first.2)
     (turns_back (bare w.net) (after (no_route l.server)) refl (first_bare l.kind l w.net ∙ first.0) stood)

@@ -9,6 +9,7 @@ use Rattle.nb_traced.specs.Plain.{without_graph}
 use Rattle.nb_traced.proofs.Plain.{plain_append}
 use Rattle.nb_stack.specs.Client.{Client}
 use Rattle.nb_runner.specs.declared.world.World.{World}
+use Rattle.nb_imagecmd.specs.Promises.{HasShortNames}
 use Rattle.nb_runner.specs.Handings.{AreShort}
 use Rattle.nb_machine.specs.Courses.{Progress, Standing, stands, waiting, yielded, StepBegins}
 use Rattle.nb_machine.specs.Lives.{Live}
@@ -115,6 +116,7 @@ served_sound {r} {awaited} {answer} {before} {mid} at st sound v leases well =
       leases = leases;
       well = well;
       short = subst (λ (w : World). AreShort w.state.images.images) (sym v.world) sound.short;
+      named = subst (λ (w : World). HasShortNames w.state.images) (sym v.world) sound.named;
       linked = v.linked;
     }
 
@@ -124,11 +126,11 @@ brings_waiting (frame bytes) n s w came is a = a
 brings_waiting (tick ms) n s w came is a = a
 brings_waiting off n s w came is a = absurd is
 
-pub brings_yielded : (r : In) (n : ℕ) (s : State) (inner : Running) (came : List Arrived) → IsServed r → ArrivesAt s n r came → BringsTo r n (yielded s inner []) came
-brings_yielded (start x) n s w came is a = absurd is
-brings_yielded (frame bytes) n s w came is a = a
-brings_yielded (tick ms) n s w came is a = a
-brings_yielded off n s w came is a = absurd is
+pub brings_yielded : (r : In) (n : ℕ) (s : State) (inner : Running) (outer : List Running) (came : List Arrived) → IsServed r → ArrivesAt s n r came → BringsTo r n (yielded s inner outer) came
+brings_yielded (start x) n s w outer came is a = absurd is
+brings_yielded (frame bytes) n s w outer came is a = a
+brings_yielded (tick ms) n s w outer came is a = a
+brings_yielded off n s w outer came is a = absurd is
 
 entry_append : (came : List Arrived) (xs ys : List Out) → (came ≡ [] → without_graph ys ≡ ys) → BeginsWithEntry came xs → BeginsWithEntry came (xs ++ ys)
 entry_append [] xs ys plain b = plain_append xs ys ∙ (ap (λ z. z ++ without_graph ys) b ∙ ap (λ z. xs ++ z) (plain refl))

@@ -71,10 +71,10 @@ settled_same change change' e cause table same changes = by (is_ok_cause e.cause
     by false bad = rw (same, bad) refl
 
 -- where no server is next, the command is settled with what its open has found
-pub settles_so : (q : Query) (e : HasEnded) (o : Over) (s : State) → IsEndOf e o → found_by e q ≡ None → concluded_by s (job_for q) (by_end o) ≡ settles (settled_so e q s.table)
-settles_so for_lease e o s is none = ap settles (settled_same _ _ e o.cause s.table is.cause (λ fine. ap (λ b. option_map_or (lease_change s.table) b (Ok s.table)) (is.bytes fine)))
-settles_so (for_echo server) e o s is none = ap settles (settled_same (Ok s.table) (Ok s.table) e o.cause s.table is.cause (λ fine. refl))
-settles_so (for_host errand name by) e o s is none =
+pub settles_so : (q : Query) (depth : ℕ) (e : HasEnded) (o : Over) (s : State) → IsEndOf e o → found_by e q ≡ None → concluded_by s depth (job_for q) (by_end o) ≡ settles (settled_so e q s.table)
+settles_so for_lease depth e o s is none = ap settles (settled_same _ _ e o.cause s.table is.cause (λ fine. ap (λ b. option_map_or (lease_change s.table) b (Ok s.table)) (is.bytes fine)))
+settles_so (for_echo server) depth e o s is none = ap settles (settled_same (Ok s.table) (Ok s.table) e o.cause s.table is.cause (λ fine. refl))
+settles_so (for_host errand name by) depth e o s is none =
     rw (next_same errand e o is, none) (ap settles (settled_same (Ok s.table) (Ok s.table) e o.cause s.table is.cause (λ fine. refl)))
-settles_so (for_address setting name by) e o s is none =
+settles_so (for_address setting name by) depth e o s is none =
     ap settles (settled_same _ _ e o.cause s.table is.cause (λ fine. ap (λ b. option_map_or (λ (a : Ip4). address_table setting a.0 s.table) b (Ok s.table)) (is.address fine)))

@@ -61,12 +61,12 @@ module _ (before : Site) (s : Running) (e : HasEnded) (p : Pending) (waits : Opt
         rest = [];
         puts = Puts-nothing;
         comes = λ live are o is.
-            let upshot : concluded_by (state_of_world w live) (job_asked p.asked) (by_end o) ≡ goes_onward leads_on = rw (asks, next_same (errand_of errand) e o is, host_found errand name by server finds) refl in
+            let upshot : concluded_by (state_of_world w live) s.depth (job_asked p.asked) (by_end o) ≡ goes_onward leads_on = rw (asks, next_same (errand_of errand) e o is, host_found errand name by server finds) refl in
             record {
               more = [];
-              to = reaching (state_of_world w live) s [] leads_on;
+              to = reaching (state_of_world w live) s w.outer leads_on;
               is_put = sym (ap (λ u. upshot_records u ++ []) upshot);
-              leads = subst (λ u. LeadsTo (state_of_world w live) s [] u [] (reaching (state_of_world w live) s [] leads_on)) (sym upshot) (refl, refl);
+              leads = subst (λ u. LeadsTo (state_of_world w live) s w.outer u [] (reaching (state_of_world w live) s w.outer leads_on)) (sym upshot) (refl, refl);
               stands_so = at_reaching before.used w before.opens s next live leads_on are next_is;
             };
         traces = λ outs h so_far traced fits. record {
@@ -79,7 +79,7 @@ module _ (before : Site) (s : Running) (e : HasEnded) (p : Pending) (waits : Opt
             numbered = fits.numbered;
           };
         };
-        sound = record { time = sound.time; opens = sound.opens; serials = sound.serials; leases = sound.leases; well = (reaches.fits, rw (kind_is, reaches.waits) (record { beside = λ d i. waiting.beside d (some ∙ i); newest = λ d i. waiting.newest d (some ∙ i) })); short = sound.short; linked = sound.linked };
+        sound = record { time = sound.time; opens = sound.opens; serials = sound.serials; leases = sound.leases; well = (reaches.fits, rw (kind_is, reaches.waits) (record { beside = λ d i. waiting.beside d (some ∙ i); newest = λ d i. waiting.newest d (some ∙ i) })); short = sound.short; named = sound.named; linked = sound.linked };
         under_way = tt;
       })
     where
@@ -102,13 +102,13 @@ module _ (before : Site) (s : Running) (e : HasEnded) (p : Pending) (waits : Opt
         puts = lets.puts;
         comes = λ live are o is.
             let t = state_of_world w live in
-            let upshot : concluded_by t (job_asked p.asked) (by_end o) ≡ settles x = rw asks (settles_so (query_of q) e o t is finds) in
+            let upshot : concluded_by t s.depth (job_asked p.asked) (by_end o) ≡ settles x = rw asks (settles_so (query_of q) s.depth e o t is finds) in
             let on = lets.state w.net w.time t (subst (λ m. IsStateOf m w.net w.time t) (sym l.same_opens) (state_is w before.opens live are)) in
             record {
               more = [];
-              to = running (with_settings t x.table w.state.up) (with_result s x.cause) [];
+              to = running (with_settings t x.table w.state.up) (with_result s x.cause) w.outer;
               is_put = only_graph lets.events (result x.cause ∷ []) ∙ sym (ap (λ u. upshot_records u ++ []) upshot);
-              leads = subst (λ u. LeadsTo t s [] u [] (running (with_settings t x.table w.state.up) (with_result s x.cause) [])) (sym upshot) (refl, refl);
+              leads = subst (λ u. LeadsTo t s w.outer u [] (running (with_settings t x.table w.state.up) (with_result s x.cause) w.outer)) (sym upshot) (refl, refl);
               stands_so = rw (l.used, l.same_world, l.world) (at_running before.used (world_with w x.table w.state.up) after.opens (with_result s x.cause) live on.live);
             };
         traces = λ outs h so_far traced fits.
@@ -126,6 +126,7 @@ module _ (before : Site) (s : Running) (e : HasEnded) (p : Pending) (waits : Opt
           leases = rw (lets.same_list, l.same_opens) sound.leases;
           well = tt;
           short = sound.short;
+          named = sound.named;
           linked = record { address = refl; up = refl };
         });
         under_way = tt;

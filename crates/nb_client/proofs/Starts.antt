@@ -2,6 +2,8 @@
 use Rattle.std.proofs.Common.{◌≡◌, ◌+◌, ◌≤◌, List, [], ◌∷◌, refl, sym, ◌∙◌, ap, subst, arith}
 use Rattle.std.specs.Prelude.{map}
 use Rattle.std.specs.List.{AllByRecursion, sum_by}
+use Rattle.std.proofs.lemmas.List.Elements.{All-nil}
+use Rattle.nb_imagecmd.specs.Promises.{IsShortName}
 use Rattle.nb_defs.specs.Records.{IsStart, Out, Start, out_texts, start, step}
 use Rattle.nb_record.specs.Logged.{Logged, Puts}
 use Rattle.nb_traced.specs.Plain.{without_graph}
@@ -56,6 +58,7 @@ start_goes {old} {new} s before after st rest to valid sound used world opens qu
       leases = sound.leases;
       well = tt;
       short = tt;
+      named = All-nil IsShortName;
       linked = record { address = refl; up = refl };
     } in
     let plain : without_graph (step n ∷ rest) ≡ step n ∷ rest = plain_apart (step n ∷ rest) (tt, apart) in

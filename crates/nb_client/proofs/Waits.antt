@@ -7,9 +7,10 @@ use Rattle.nb_defs.specs.Records.{In, IsIn, Out, out_texts, result, step}
 use Rattle.nb_record.specs.Logged.{Logged, Puts}
 use Rattle.nb_runner.proofs.Puts.{Puts-outs}
 use Rattle.nb_traced.specs.Plain.{without_graph}
-use Rattle.nb_machine.specs.Courses.{stands, running, waiting, yielded, StepBegins, waits_on, is_answered, resumes}
+use Rattle.nb_machine.specs.Courses.{Progress, stands, running, waiting, yielded, StepBegins, waits_on, is_answered, resumes}
 use Rattle.nb_machine.specs.Running.{Running, anew, with_result}
 use Rattle.nb_machine.specs.Scripts.{answer, answer_in, by_end, by_time, concluded_by, is_number, moment, upshot_records}
+use Rattle.nb_machine.specs.States.{State}
 use Rattle.nb_machine.specs.Takings.{Over}
 use Rattle.nb_traced.specs.Holdings.{Holdings}
 use Rattle.nb_traced.specs.Outputs.{Arrived, Traced}
@@ -18,7 +19,7 @@ use Rattle.nb_network.specs.declared.over.HasEnded.{HasEnded}
 use Rattle.nb_client.specs.Asked.{job_asked}
 use Rattle.nb_client.specs.Progressing.{TracesTo}
 use Rattle.nb_client.specs.Serving.{Concludes, IsSoundAfter, Serves, WaitsOrEnds, WakesBy, sleeps_still, wakes_now}
-use Rattle.nb_client.specs.Snapshots.{FitsOutput, Snapshot, StandsForProgress, at_running, at_waiting, state_of_world, waiting_for}
+use Rattle.nb_client.specs.Snapshots.{FitsOutput, Snapshot, StandsForProgress, at_running, at_waiting, state_of_world, waiting_for, waiting_within}
 use Rattle.nb_client.specs.Soundness.{IsClean, IsSound, snapshot_at}
 use Rattle.nb_client.specs.Turning.{GoesOnBy, IsServed}
 use Rattle.nb_client.specs.declared.pending.Pending.{Pending}
@@ -32,20 +33,25 @@ use Rattle.nb_client.proofs.Arrivals.{none_ends}
 use Rattle.nb_client.proofs.Traces.{trace_apart}
 use Rattle.nb_client.proofs.Served.{Place, brings_waiting, brings_yielded, served_sound, step_goes, takes_some}
 
+-- the scripts outside stay
+from_within : {n : ℕ} {t : State} {r : In} {put : List Out} {to : Progress} (s : Running) (e : Expected) (o o' : List Running) → o ≡ o' → StepBegins (stands n (waiting t (waiting_within o s e))) r put to →
+    StepBegins (stands n (waiting t (waiting_within o' s e))) r put to
+from_within {n} {t} {r} {put} {to} s e o o' same b = subst (λ (x : List Running). StepBegins (stands n (waiting t (waiting_within x s e))) r put to) same b
+
 abbrev pub place_waiting : (before : Site) (s : Running) (e : Expected) (r : In) → IsServed r → Place before (stage.Waiting s e) r
 place_waiting before s e r is = record {
-  standing = λ live. waiting (state_of_world before.world live) (waiting_for s e);
+  standing = λ live. waiting (state_of_world before.world live) (waiting_for before.world s e);
   is_served = is;
   picks = λ p x. stands_at (snapshot_at before (stage.Waiting s e)) p x;
-  brings_so = λ live came a. brings_waiting r (before.used + 1) (state_of_world before.world live) (waiting_for s e) came is a;
+  brings_so = λ live came a. brings_waiting r (before.used + 1) (state_of_world before.world live) (waiting_for before.world s e) came is a;
 }
 
 abbrev pub place_yielded : (before : Site) (s : Running) (r : In) → IsServed r → Place before (stage.Yielded s) r
 place_yielded before s r is = record {
-  standing = λ live. yielded (state_of_world before.world live) s [];
+  standing = λ live. yielded (state_of_world before.world live) s before.world.outer;
   is_served = is;
   picks = λ p x. stands_at (snapshot_at before (stage.Yielded s)) p x;
-  brings_so = λ live came a. brings_yielded r (before.used + 1) (state_of_world before.world live) s came is a;
+  brings_so = λ live came a. brings_yielded r (before.used + 1) (state_of_world before.world live) s before.world.outer came is a;
 }
 
 -- nothing more was put
@@ -64,10 +70,11 @@ resume_goes {r} {before} {mid} {old} {new} s valid is sound v =
     let t = takes_some sound.opens v in
     step_goes (stage.Yielded s) (place_yielded before s r is) (snapshot_at mid (stage.Running (anew s))) [] v (nothing_more old new (before.used + 1))
     (λ live h.
-    let to = running (state_of_world mid.world h.after) (anew s) [] in (
+    let to = running (state_of_world mid.world h.after) (anew s) mid.world.outer in (
       to,
-      subst (λ x. StepBegins (stands before.used (yielded (state_of_world before.world live) s [])) r (step (before.used + 1) ∷ x) (stands (before.used + 1) to)) (sym (append-nil (without_graph h.records)))
-          (resumes before.used (state_of_world before.world live) (state_of_world mid.world h.after) s [] r (without_graph h.records) h.overs valid h.network),
+      subst (λ (o : List Running). StepBegins (stands before.used (yielded (state_of_world before.world live) s o)) r (step (before.used + 1) ∷ (without_graph h.records ++ [])) (stands (before.used + 1) to)) (ap (λ w. w.outer) v.world)
+          (subst (λ x. StepBegins (stands before.used (yielded (state_of_world before.world live) s mid.world.outer)) r (step (before.used + 1) ∷ x) (stands (before.used + 1) to)) (sym (append-nil (without_graph h.records)))
+          (resumes before.used (state_of_world before.world live) (state_of_world mid.world h.after) s mid.world.outer r (without_graph h.records) h.overs valid h.network)),
       subst (λ k. StandsForProgress (snapshot_at mid (stage.Running (anew s))) (stands k to)) v.used (at_running mid.used mid.world mid.opens (anew s) h.after h.are),
     ))
     (λ outs h so_far tr fits. record {
@@ -104,11 +111,11 @@ pub waits_goes : {r : In} {before mid : Site} {l0 l1 old new : Logged} (s : Runn
 waits_goes {r} {before} {mid} {l0} {l1} {old} {new} s p valid is sound v puts after_sound =
     step_goes (stage.Waiting s (Open p)) (place_waiting before s (Open p) r is) (snapshot_at mid (stage.Waiting (anew s) (Open p))) [] v puts
     (λ live h.
-    let to = waiting (state_of_world mid.world h.after) (waiting_for (anew s) (Open p)) in
+    let to = waiting (state_of_world mid.world h.after) (waiting_for mid.world (anew s) (Open p)) in
     let none : answer_in (state_of_world mid.world h.after) r h.overs (answer p.number) ≡ None = ap (option_map by_end) (none_found p.number h.overs h.answers) in (
       to,
-      subst (λ x. StepBegins (stands before.used (waiting (state_of_world before.world live) (waiting_for s (Open p)))) r (step (before.used + 1) ∷ x) (stands (before.used + 1) to)) (sym (append-nil (without_graph h.records)))
-          (waits_on before.used (state_of_world before.world live) (state_of_world mid.world h.after) (waiting_for s (Open p)) r (without_graph h.records) h.overs valid h.network none),
+      from_within s (Open p) mid.world.outer before.world.outer (ap (λ w. w.outer) v.world) (subst (λ x. StepBegins (stands before.used (waiting (state_of_world before.world live) (waiting_for mid.world s (Open p)))) r (step (before.used + 1) ∷ x) (stands (before.used + 1) to)) (sym (append-nil (without_graph h.records)))
+          (waits_on before.used (state_of_world before.world live) (state_of_world mid.world h.after) (waiting_for mid.world s (Open p)) r (without_graph h.records) h.overs valid h.network none)),
       subst (λ k. StandsForProgress (snapshot_at mid (stage.Waiting (anew s) (Open p))) (stands k to)) v.used (at_waiting mid.used mid.world mid.opens (anew s) (Open p) h.after h.are),
     ))
     (λ outs h so_far tr fits. record {
@@ -146,9 +153,9 @@ ends_goes {r} {before} {mid} {l0} {l1} {l2} {old} {new} s p e after valid is v c
     let d = c.comes h.after h.are o f.2 in
     let is_answer : answer_in s' r h.overs (answer p.number) ≡ Some (by_end o) = ap (option_map by_end) f.1 in (
       d.to,
-      subst (λ x. StepBegins (stands before.used (waiting (state_of_world before.world live) (waiting_for s (Open p)))) r (step (before.used + 1) ∷ x) (stands (before.used + 1) d.to))
-          (append_assoc (without_graph h.records) (upshot_records (concluded_by s' (job_asked p.asked) (by_end o))) d.more ∙ ap (λ z. without_graph h.records ++ z) (sym d.is_put))
-          (is_answered before.used (state_of_world before.world live) s' (waiting_for s (Open p)) r (without_graph h.records) d.more h.overs (by_end o) d.to valid h.network is_answer d.leads),
+      from_within s (Open p) mid.world.outer before.world.outer (ap (λ w. w.outer) v.world) (subst (λ x. StepBegins (stands before.used (waiting (state_of_world before.world live) (waiting_for mid.world s (Open p)))) r (step (before.used + 1) ∷ x) (stands (before.used + 1) d.to))
+          (append_assoc (without_graph h.records) (upshot_records (concluded_by s' s.depth (job_asked p.asked) (by_end o))) d.more ∙ ap (λ z. without_graph h.records ++ z) (sym d.is_put))
+          (is_answered before.used (state_of_world before.world live) s' (waiting_for mid.world s (Open p)) r (without_graph h.records) d.more h.overs (by_end o) d.to valid h.network is_answer d.leads)),
       subst (λ k. StandsForProgress after (stands k d.to)) v.used d.stands_so,
     ))
     (λ outs h so_far tr fits. c.traces outs h so_far tr (record { state = fits.state; living = fits.living; waiting = fits.waiting; numbered = subst (λ k. h.begun ≤ k) (sym same) fits.numbered }))
@@ -164,12 +171,12 @@ sleeps_goes {r} {before} {mid} {old} {l1} {new} s until st valid is sound v (sle
     let goes : P l1 (stage.Waiting (anew s) (Moment until)) =
     step_goes (stage.Waiting s (Moment until)) (place_waiting before s (Moment until) r is) (snapshot_at mid (stage.Waiting (anew s) (Moment until))) [] v (nothing_more old l1 (before.used + 1))
     (λ live h.
-    let to = waiting (state_of_world mid.world h.after) (waiting_for (anew s) (Moment until)) in
+    let to = waiting (state_of_world mid.world h.after) (waiting_for mid.world (anew s) (Moment until)) in
     let none : answer_in (state_of_world mid.world h.after) r h.overs (moment until) ≡ None =
     let no : nat_le until mid.world.time ≡ false = grind (arith, nat_tests) in ap (λ b. cond b (Some by_time) None) no in (
       to,
-      subst (λ x. StepBegins (stands before.used (waiting (state_of_world before.world live) (waiting_for s (Moment until)))) r (step (before.used + 1) ∷ x) (stands (before.used + 1) to)) (sym (append-nil (without_graph h.records)))
-          (waits_on before.used (state_of_world before.world live) (state_of_world mid.world h.after) (waiting_for s (Moment until)) r (without_graph h.records) h.overs valid h.network none),
+      from_within s (Moment until) mid.world.outer before.world.outer (ap (λ w. w.outer) v.world) (subst (λ x. StepBegins (stands before.used (waiting (state_of_world before.world live) (waiting_for mid.world s (Moment until)))) r (step (before.used + 1) ∷ x) (stands (before.used + 1) to)) (sym (append-nil (without_graph h.records)))
+          (waits_on before.used (state_of_world before.world live) (state_of_world mid.world h.after) (waiting_for mid.world s (Moment until)) r (without_graph h.records) h.overs valid h.network none)),
       subst (λ k. StandsForProgress (snapshot_at mid (stage.Waiting (anew s) (Moment until))) (stands k to)) v.used (at_waiting mid.used mid.world mid.opens (anew s) (Moment until) h.after h.are),
     ))
     (λ outs h so_far tr fits. record {
@@ -188,12 +195,12 @@ sleeps_goes {r} {before} {mid} {old} {l1} {new} s until st valid is sound v (wak
     (λ records q. Puts-outs (step (before.used + 1) ∷ records) (result ok ∷ []) q p)
     (λ live h.
     let s' = state_of_world mid.world h.after in
-    let to = running s' (with_result (anew s) ok) [] in
+    let to = running s' (with_result (anew s) ok) mid.world.outer in
     let is_answer : answer_in s' r h.overs (moment until) ≡ Some by_time =
     let yes : nat_le until mid.world.time ≡ true = grind (arith, nat_tests) in ap (λ b. cond b (Some by_time) None) yes in (
       to,
-      subst (λ x. StepBegins (stands before.used (waiting (state_of_world before.world live) (waiting_for s (Moment until)))) r (step (before.used + 1) ∷ x) (stands (before.used + 1) to)) (append-nil (without_graph h.records ++ (result ok ∷ [])))
-          (is_answered before.used (state_of_world before.world live) s' (waiting_for s (Moment until)) r (without_graph h.records) [] h.overs by_time to valid h.network is_answer (refl, refl)),
+      from_within s (Moment until) mid.world.outer before.world.outer (ap (λ w. w.outer) v.world) (subst (λ x. StepBegins (stands before.used (waiting (state_of_world before.world live) (waiting_for mid.world s (Moment until)))) r (step (before.used + 1) ∷ x) (stands (before.used + 1) to)) (append-nil (without_graph h.records ++ (result ok ∷ [])))
+          (is_answered before.used (state_of_world before.world live) s' (waiting_for mid.world s (Moment until)) r (without_graph h.records) [] h.overs by_time to valid h.network is_answer (refl, refl))),
       subst (λ k. StandsForProgress (snapshot_at mid woken) (stands k to)) v.used (at_running mid.used mid.world mid.opens (with_result (anew s) ok) h.after h.are),
     ))
     (λ outs h so_far tr fits. record {
@@ -246,7 +253,7 @@ waited_goes {r} {before} {mid} {g0} {g1} {old} {new} g2 s p None after valid is 
     let w : g1.is_short ≡ false = subst (λ (x : Logged). x.is_short ≡ false) does.1 whole in
     subst (λ x. GoesOnBy (r ∷ []) (snapshot_at before (stage.Waiting s (Open p))) x old new) (sym does.0)
     (waits_goes s p valid is sound v (λ records u. gathered_puts _ clean w (nothing_more g0 g1 (before.used + 1) records u) q)
-    (record { time = one.time; opens = one.opens; serials = one.serials; leases = one.leases; well = one.well; short = one.short; linked = one.linked }))
+    (record { time = one.time; opens = one.opens; serials = one.serials; leases = one.leases; well = one.well; short = one.short; named = one.named; linked = one.linked }))
 waited_goes {r} {before} {mid} {g0} {g1} {old} {new} g2 s p (Some e) after valid is sound v clean does whole puts =
     ends_goes s p e after valid is v does
     (λ records u. gathered_puts _ clean whole (Puts-outs (step (before.used + 1) ∷ records) does.rest u does.puts) puts)

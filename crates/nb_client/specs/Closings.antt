@@ -48,6 +48,7 @@ IsWaitingAt stage.Ready w = w.chain ≡ None
 IsWaitingAt (stage.Running s) w = w.chain ≡ None
 IsWaitingAt (stage.Waiting s (Moment time)) w = w.chain ≡ None
 IsWaitingAt (stage.Yielded s) w = w.chain ≡ None
+IsWaitingAt (stage.Returning s cause) w = w.chain ≡ None
 IsWaitingAt (stage.HandingOff h) w = w.chain ≡ None
 IsWaitingAt (stage.Left cause) w = w.chain ≡ None
 IsWaitingAt stage.HandedOff w = w.chain ≡ None

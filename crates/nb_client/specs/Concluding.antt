@@ -6,16 +6,17 @@ use Rattle.nb_defs.specs.Records.{result}
 use Rattle.nb_record.specs.Logged.{Logged}
 use Rattle.nb_wire.specs.declared.address.Ip4.{Ip4}
 use Rattle.nb_image.specs.Images.{ImageList}
+use Rattle.nb_imagecmd.specs.declared.arriving.Arrival.{Arrival}
+use Rattle.nb_imagecmd.specs.declared.arriving.Arrival.TheVariants as arrival
+use Rattle.nb_runner.specs.Handings.{AreShort}
 use Rattle.nb_settings.specs.Tables.{TableLists}
 use Rattle.nb_command.specs.Settings.{Change}
 use Rattle.nb_command.specs.Addresses.{address_table}
-use Rattle.nb_machine.specs.Conclusions.{Conclusion, keeps, fails, boots}
 use Rattle.nb_machine.specs.Errands.{Errand, Onward, onward}
 use Rattle.nb_machine.specs.Findings.{Settled, lease_change, settled_by}
 use Rattle.nb_machine.specs.Queries.{Query, for_lease, for_echo, for_host, for_address}
 use Rattle.nb_machine.specs.Running.{Running, with_result}
 use Rattle.nb_runner.specs.CommandWords.{FitsOnward, onward_of}
-use Rattle.nb_runner.specs.Handings.{AreShort}
 use Rattle.nb_runner.specs.Intents.{query_of}
 use Rattle.nb_runner.specs.World.{world_with}
 use Rattle.nb_runner.specs.declared.handing.Handing.{Handing}
@@ -24,36 +25,17 @@ use Rattle.nb_chains.specs.declared.chain.Chain.{Chain}
 use Rattle.nb_chains.specs.declared.kind.ChainKind.{ChainKind}
 use Rattle.nb_network.specs.declared.over.HasEnded.{HasEnded}
 use Rattle.nb_client.specs.Beginnings.{LetsGo}
-use Rattle.nb_client.specs.declared.concluding.Conclusion.{Conclusion as Concluded}
-use Rattle.nb_client.specs.declared.concluding.Conclusion.TheVariants as concluded
 use Rattle.nb_client.specs.declared.pending.Next.{Next}
 use Rattle.nb_client.specs.declared.site.Site.{Site}
 use Rattle.nb_client.specs.declared.stage.Stage.{Stage}
 use Rattle.nb_client.specs.declared.stage.Stage.TheVariants as stage
 
--- a conclusion of the program, with the list of images that it leaves
-abbrev pub conclusion_of : Concluded → ImageList → Conclusion
-conclusion_of concluded.Keeps list = keeps list
-conclusion_of (concluded.Fails cause) list = fails cause
-conclusion_of (concluded.Boots kernel) list = boots list kernel
-
--- what a conclusion does to the list of images
-abbrev pub HasKept : Concluded → ImageList → ImageList → Type 0
-HasKept concluded.Keeps before after = Unit {0}
-HasKept (concluded.Fails cause) before after = after ≡ before
-HasKept (concluded.Boots kernel) before after = kernel < length after.images
-
--- the program's conclusion is this one, with the list of images that it leaves; one that fails leaves the
--- list, and one that boots names a place of it
-pub record IsConclusion (c : Concluded) (is : Conclusion) (before after : ImageList) : Type 0 where
-  pub same : is ≡ conclusion_of c after
-  pub kept : HasKept c before after
-  pub short : AreShort before.images → AreShort after.images
-
--- the image at a place is selected and boots, or the list stays
-abbrev pub Chooses : Concluded → Bool → ℕ → ImageList → ImageList → Type 0
-Chooses c true place before after = (c ≡ concluded.Boots place) × (after ≡ record { images = before.images; selected = Some place })
-Chooses c false place before after = (c ≡ concluded.Keeps) × (after ≡ before)
+-- What holds of a file's arrival for a script of this depth, which leaves this list: all texts are short, a script that runs within
+-- isn't the ninth, and what boots is selected.
+abbrev pub ArrivesWell : ℕ → Arrival → ImageList → Type 0
+ArrivesWell depth arrival.Kept left = AreShort left.images
+ArrivesWell depth (arrival.Run script replace) left = AreShort left.images × (replace ≡ false → depth < 8)
+ArrivesWell depth arrival.Boot left = AreShort left.images × (i : ℕ) × (left.selected ≡ Some i)
 
 -- the hand-off of the image at this place, of which nothing was put
 abbrev pub handing_of : ℕ → Handing

@@ -3,6 +3,7 @@ pub mod Snapshots
 pub mod Progressing
 pub mod Soundness
 pub mod Turning
+pub mod Leading
 pub mod Serving
 pub mod Beginnings
 pub mod Concluding

@@ -9,7 +9,7 @@ use Rattle.nb_runner.specs.World.{IsLinked}
 use Rattle.nb_stack.specs.Client.{Client}
 use Rattle.nb_machine.specs.CommandRecords.{command_record, no_route}
 use Rattle.nb_machine.specs.Courses.{running, stands, waiting}
-use Rattle.nb_machine.specs.Effects.{Effect, asks, full_opens, effect, inquires, shown_as, shown_words}
+use Rattle.nb_machine.specs.Effects.{Effect, asks, full_opens, effect_in, inquires, shown_as, shown_words}
 use Rattle.nb_machine.specs.Kinds.{first_records}
 use Rattle.nb_machine.specs.Lives.{Live, end_record, open_record}
 use Rattle.nb_machine.specs.Running.{Running, beginning, coming, entered, with_result}
@@ -19,7 +19,8 @@ use Rattle.nb_runner.specs.CommandWords.{wanted_of}
 use Rattle.nb_runner.specs.declared.errand.Onward.{Onward}
 use Rattle.nb_runner.specs.declared.errand.Onward.TheVariants as onward
 use Rattle.nb_runner.specs.declared.query.Query.TheVariants as query
-use Rattle.nb_runner.specs.Intents.{query_of}
+use Rattle.nb_runner.specs.Intents.{intent_effect, query_of}
+use Rattle.nb_runner.specs.declared.intent.Intent.{Intent}
 use Rattle.nb_runner.specs.NextCommand.{IsReady}
 use Rattle.nb_traced.specs.Holdings.{Holdings, Piece}
 use Rattle.nb_traced.specs.Outputs.{Arrived, Traced}
@@ -30,7 +31,7 @@ use Rattle.nb_client.specs.Beginnings.{LetsGo}
 use Rattle.nb_client.specs.Progressing.{IsAtWork, TracesTo}
 use Rattle.nb_client.specs.Snapshots.{Snapshot, StandsForProgress, state_of_world}
 use Rattle.nb_client.specs.Soundness.{IsSound, IsUnderWay, snapshot_at}
-use Rattle.nb_client.specs.Turning.{left_by}
+use Rattle.nb_client.specs.Turning.{found_by_script, left_by}
 use Rattle.nb_client.specs.declared.asked.Asked.{Asked}
 use Rattle.nb_client.specs.declared.asked.Asked.TheVariants.{File, Query as Exchange}
 use Rattle.nb_client.specs.declared.pending.Next.{Next}
@@ -52,7 +53,7 @@ pub record AsksFor (w : World) (a : Asked) (s : Running) (ws : List (List ℕ)) 
   pub name : List ℕ
   pub args : List (List ℕ)
   pub comes : coming s ≡ beginning name args
-  pub asks_so : effect w.opens w.state.table (name ∷ args) ≡ asked_effect a
+  pub asks_so : effect_in (found_by_script w s) (name ∷ args) ≡ asked_effect a
   pub shows : shown_words w.state.table (name ∷ args) ≡ shown_as true ws
   pub world_is : now ≡ left_by w (name ∷ args)
   pub was_linked : IsLinked w
@@ -72,28 +73,38 @@ IsShownWell None s = Unit {0}
 IsShownWell (Some ws) s = IsReady s ws
 
 -- An open was made in this state: it lives, and its command waits for it; or there was no way to its server.
-pub data IsOpenedIn (s : State) (l : Live) (job : Job) (inner : Running) (n : ℕ) : List Out → Snapshot → Type 0 where
+pub data IsOpenedIn (s : State) (l : Live) (job : Job) (inner : Running) (outer : List Running) (n : ℕ) : List Out → Snapshot → Type 0 where
   sets_out : (link : Client) (put : List Out) (after : Snapshot) → slice_get s.devices l.device ≡ Some link → first_records l.kind l link ≡ Some put →
-      StandsForProgress after (stands n (waiting (with_opened s l) (record { script = inner; outer = []; awaited = answer l.number; job = job }))) →
-      IsOpenedIn s l job inner n (open_record l ∷ put) after
+      StandsForProgress after (stands n (waiting (with_opened s l) (record { script = inner; outer = outer; awaited = answer l.number; job = job }))) →
+      IsOpenedIn s l job inner outer n (open_record l ∷ put) after
   turns_back : (link : Client) (after : Snapshot) → slice_get s.devices l.device ≡ Some link → first_records l.kind l link ≡ None →
-      StandsForProgress after (stands n (running (with_one_made s) (with_result inner (no_route l.server)) [])) →
-      IsOpenedIn s l job inner n (open_record l ∷ end_record l (no_route l.server) ∷ result (no_route l.server) ∷ []) after
+      StandsForProgress after (stands n (running (with_one_made s) (with_result inner (no_route l.server)) outer)) →
+      IsOpenedIn s l job inner outer n (open_record l ∷ end_record l (no_route l.server) ∷ result (no_route l.server) ∷ []) after
 
 -- What was asked for was opened, of which this has waited: COMMAND was put before, where these words are shown.
 pub record Opened (a : Asked) (first : List Piece) (shown : Option (List (List ℕ))) (script : Running) (before : Site) (after : Snapshot) (old new : Logged) : Type 0 where
   pub rest : List Out
   pub puts : Puts old new (out_texts (front_records shown script ++ rest))
   pub opens : (live : List Live) → AreOpensOf before.opens.graph before.opens.list live →
-      IsOpenedIn (state_of_world before.world live) (live_asked (state_of_world before.world live) a) (job_asked a) (begun_script shown script) before.used (without_graph rest) after
+      IsOpenedIn (state_of_world before.world live) (live_asked (state_of_world before.world live) a) (job_asked a) (begun_script shown script) before.world.outer before.used (without_graph rest) after
   pub traces : (outs : List Out) (h : Holdings) (so_far : List Arrived) → Traced outs h so_far → FitsHoldings before.opens before.world.opens first h →
       TracesTo after (outs ++ rest) so_far
   pub sound : IsSound after.used after.world after.many after.stage
   pub under_way : IsUnderWay after.stage
-  pub same_script : IsAtWork after.stage → (cause : Cause) × (after.stage ≡ stage.Running (with_result (begun_script shown script) cause))
+  pub same_script : IsAtWork after.stage → (cause : Cause) × (after.stage ≡ stage.Running (with_result (begun_script shown script) cause)) × (after.world.outer ≡ before.world.outer)
 
 -- The open that is next was begun, or no more may be made, and what has waited was let go.
 pub data OpensNext (s : Running) (k : Next) (before : Site) (after : Snapshot) (old new : Logged) : Type 0 where
   opens_it : before.world.opens < 16384 → Opened (asked_onward k.onward) (pieces_of (onward_kind k.onward) k.waits) None s before after old new → OpensNext s k before after old new
   opens_none : (now : Site) → before.world.opens ≡ 16384 → now.used ≡ before.used → now.world ≡ before.world → after ≡ snapshot_at now (stage.Running (with_result s full_opens)) →
       LetsGo (onward_kind k.onward) (Some k.waits) before.world.opens before now (result full_opens ∷ []) old new → OpensNext s k before after old new
+
+-- A command whose words are expanded intends this, in the world that it leaves.
+pub record Intends (w : World) (i : Intent) (s : Running) (ws : List (List ℕ)) (now : World) : Type 0 where
+  pub name : List ℕ
+  pub args : List (List ℕ)
+  pub comes : coming s ≡ beginning name args
+  pub intends_so : effect_in (found_by_script w s) (name ∷ args) ≡ intent_effect i
+  pub shows : shown_words w.state.table (name ∷ args) ≡ shown_as true ws
+  pub world_is : now ≡ left_by w (name ∷ args)
+  pub was_linked : IsLinked w

@@ -7,7 +7,7 @@ use Rattle.nb_machine.specs.CommandRecords.{status_of, stopped_cause}
 use Rattle.nb_machine.specs.Closings.{Shuts}
 use Rattle.nb_machine.specs.Courses.{Progress, Standing, ready, running, waiting, reaching, yielded, handing, left, handed_off, stopped, StepBegins, Proceeds}
 use Rattle.nb_runner.specs.StatusNumber.{status_number}
-use Rattle.nb_runner.specs.Steps.{moves_in}
+use Rattle.nb_runner.specs.Steps.{moves_in, moves_outside}
 use Rattle.nb_runner.specs.Handings.{records_left}
 use Rattle.nb_runner.specs.declared.status.Status.{Status}
 use Rattle.nb_runner.specs.declared.status.Status.TheVariants as status
@@ -25,6 +25,7 @@ abbrev pub IsAtWork : Stage → Type 0
 IsAtWork (stage.Running s) = Unit {0}
 IsAtWork (stage.HandingOff h) = Unit {0}
 IsAtWork (stage.Reaching s k) = Unit {0}
+IsAtWork (stage.Returning s cause) = Unit {0}
 IsAtWork stage.Ready = ⊥
 IsAtWork (stage.Waiting s e) = ⊥
 IsAtWork (stage.Yielded s) = ⊥
@@ -38,6 +39,7 @@ CommandRests (stage.Waiting s e) = Unit {0}
 CommandRests stage.Ready = ⊥
 CommandRests (stage.Running s) = ⊥
 CommandRests (stage.Reaching s k) = ⊥
+CommandRests (stage.Returning s cause) = ⊥
 CommandRests (stage.Yielded s) = ⊥
 CommandRests (stage.HandingOff h) = ⊥
 CommandRests (stage.Left cause) = ⊥
@@ -51,6 +53,7 @@ ScriptRests stage.Ready = ⊥
 ScriptRests (stage.Running s) = ⊥
 ScriptRests (stage.Waiting s e) = ⊥
 ScriptRests (stage.Reaching s k) = ⊥
+ScriptRests (stage.Returning s cause) = ⊥
 ScriptRests (stage.HandingOff h) = ⊥
 ScriptRests (stage.Left cause) = ⊥
 ScriptRests stage.HandedOff = ⊥
@@ -63,6 +66,7 @@ AwaitsRecord (stage.Yielded s) = Unit {0}
 AwaitsRecord stage.Ready = ⊥
 AwaitsRecord (stage.Running s) = ⊥
 AwaitsRecord (stage.Reaching s k) = ⊥
+AwaitsRecord (stage.Returning s cause) = ⊥
 AwaitsRecord (stage.HandingOff h) = ⊥
 AwaitsRecord (stage.Left cause) = ⊥
 AwaitsRecord stage.HandedOff = ⊥
@@ -77,6 +81,7 @@ RunEndsWith stage.Ready s = ⊥
 RunEndsWith (stage.Running r) s = ⊥
 RunEndsWith (stage.Waiting r e) s = ⊥
 RunEndsWith (stage.Reaching r k) s = ⊥
+RunEndsWith (stage.Returning r cause) s = ⊥
 RunEndsWith (stage.Yielded r) s = ⊥
 RunEndsWith (stage.HandingOff h) s = ⊥
 
@@ -86,6 +91,7 @@ CanUse (start s) stage.Ready = Unit {0}
 CanUse (start s) (stage.Running r) = ⊥
 CanUse (start s) (stage.Waiting r e) = ⊥
 CanUse (start s) (stage.Reaching r k) = ⊥
+CanUse (start s) (stage.Returning r cause) = ⊥
 CanUse (start s) (stage.Yielded r) = ⊥
 CanUse (start s) (stage.HandingOff h) = ⊥
 CanUse (start s) (stage.Left cause) = ⊥
@@ -199,9 +205,10 @@ TurnsBy (turn.Over s) used before after old new = IsFinal s × Advances used bef
 
 -- how many moves are left at most
 abbrev pub most_moves : Stage → Snapshot → ℕ
-most_moves (stage.Running s) c = moves_in s
+most_moves (stage.Running s) c = moves_in s + moves_outside c.world.outer
 most_moves (stage.HandingOff h) c = length (records_left c.world.state.images.images h) + 1
-most_moves (stage.Reaching s k) c = moves_in s + 1
+most_moves (stage.Reaching s k) c = moves_in s + moves_outside c.world.outer + 1
+most_moves (stage.Returning s cause) c = moves_in s + moves_outside c.world.outer + 1
 most_moves stage.Ready c = 0
 most_moves (stage.Waiting s e) c = 0
 most_moves (stage.Yielded s) c = 0

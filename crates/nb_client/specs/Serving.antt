@@ -31,7 +31,7 @@ use Rattle.nb_client.specs.declared.stage.Stage.TheVariants as stage
 
 -- the world with this link, at this time
 abbrev pub world_at : World → Client → ℕ → World
-world_at w net time = record { w = w.w; machine = w.machine; time = time; net = net; opens = w.opens; state = w.state }
+world_at w net time = record { w = w.w; machine = w.machine; time = time; net = net; opens = w.opens; state = w.state; outer = w.outer }
 
 -- A record was used, and what comes of it at the opens that live was put; where the awaited one has ended, that is answered.
 pub record Serves (r : In) (awaited : Option ℕ) (answer : Option HasEnded) (before after : Site) (old new : Logged) : Type 0 where
@@ -44,11 +44,11 @@ pub record Serves (r : In) (awaited : Option ℕ) (answer : Option HasEnded) (be
   pub linked : IsLinked after.world
 
 -- A command waited for an open that has ended: what comes of it in this state, the records put for that, and where the run stands then.
-pub record EndsIn (s : State) (inner : Running) (job : Job) (o : Over) (put : List Out) (n : ℕ) (after : Snapshot) : Type 0 where
+pub record EndsIn (s : State) (inner : Running) (outer : List Running) (job : Job) (o : Over) (put : List Out) (n : ℕ) (after : Snapshot) : Type 0 where
   pub more : List Out
   pub to : Standing
-  pub is_put : put ≡ upshot_records (concluded_by s job (by_end o)) ++ more
-  pub leads : LeadsTo s inner [] (concluded_by s job (by_end o)) more to
+  pub is_put : put ≡ upshot_records (concluded_by s inner.depth job (by_end o)) ++ more
+  pub leads : LeadsTo s inner outer (concluded_by s inner.depth job (by_end o)) more to
   pub stands_so : StandsForProgress after (stands n to)
 
 -- An open that a command waited for has ended: these records were put after those of its end.
@@ -56,7 +56,7 @@ pub record Concludes (p : Pending) (e : HasEnded) (inner : Running) (before : Si
   pub rest : List Out
   pub puts : Puts old new (out_texts rest)
   pub comes : (live : List Live) → AreOpensOf before.opens.graph before.opens.list live → (o : Over) → IsEndOf e o →
-      EndsIn (state_of_world before.world live) inner (job_asked p.asked) o (without_graph rest) before.used after
+      EndsIn (state_of_world before.world live) inner before.world.outer (job_asked p.asked) o (without_graph rest) before.used after
   pub traces : (outs : List Out) (h : Holdings) (so_far : List Arrived) → Traced outs h so_far → FitsHoldings before.opens before.world.opens (pieces_beside (Open p)) h →
       TracesTo after (outs ++ rest) so_far
   pub sound : IsSound after.used after.world after.many after.stage

@@ -1,6 +1,7 @@
 -- What holds of a client between two calls, by where its run stands.
 use Rattle.std.specs.Prelude.{◌≡◌, ◌≤◌, ◌*◌, ℕ, Bool, true, false, [], Option, Some, None}
 use Rattle.nb_record.specs.Logged.{Logged}
+use Rattle.nb_imagecmd.specs.Promises.{HasShortNames}
 use Rattle.nb_runner.specs.declared.world.World.{World}
 use Rattle.nb_runner.specs.declared.query.Query.TheVariants as query
 use Rattle.nb_runner.specs.CommandWords.{FitsFile, FitsOnward}
@@ -32,6 +33,7 @@ awaited_at (stage.Waiting s (Open p)) = Some p.number
 awaited_at (stage.Waiting s (Moment time)) = None
 awaited_at (stage.Reaching s k) = None
 awaited_at (stage.Yielded s) = None
+awaited_at (stage.Returning s cause) = None
 awaited_at (stage.HandingOff h) = None
 awaited_at (stage.Left cause) = None
 awaited_at stage.HandedOff = None
@@ -39,7 +41,7 @@ awaited_at stage.Stopped = None
 
 -- what is asked for may be
 abbrev pub FitsAsked : Asked → Type 0
-FitsAsked (File w) = FitsFile w.file
+FitsAsked (File w) = FitsFile w.asking
 FitsAsked (Exchange q) = CanAsk q
 
 -- an object waits beside the look-up of a server's name, and beside nothing else
@@ -69,6 +71,7 @@ StandsWell (stage.Waiting s (Open p)) w m = IsPendingWell p (Some p.number) m
 StandsWell (stage.Waiting s (Moment time)) w m = Unit {0}
 StandsWell (stage.Reaching s k) w m = FitsOnward k.onward × HasWaiting (onward_kind k.onward) (Some k.waits) None m
 StandsWell (stage.Yielded s) w m = Unit {0}
+StandsWell (stage.Returning s cause) w m = Unit {0}
 StandsWell (stage.HandingOff h) w m = IsAt w.state.images h × (m.list ≡ [])
 StandsWell (stage.Left cause) w m = Unit {0}
 StandsWell stage.HandedOff w m = m.list ≡ []
@@ -82,6 +85,7 @@ pub record IsSound (used : ℕ) (w : World) (m : Many) (st : Stage) : Type 0 whe
   pub leases : HasLeaseOnlyOf (awaited_at st) m
   pub well : StandsWell st w m
   pub short : AreShort w.state.images.images
+  pub named : HasShortNames w.state.images
   pub linked : IsLinked w
 
 -- or it has, and does nothing more
@@ -96,6 +100,7 @@ IsUnderWay (stage.Running s) = Unit {0}
 IsUnderWay (stage.Waiting s e) = Unit {0}
 IsUnderWay (stage.Reaching s k) = Unit {0}
 IsUnderWay (stage.Yielded s) = Unit {0}
+IsUnderWay (stage.Returning s cause) = Unit {0}
 IsUnderWay (stage.HandingOff h) = Unit {0}
 IsUnderWay (stage.Left cause) = Unit {0}
 IsUnderWay stage.HandedOff = Unit {0}

@@ -4,17 +4,18 @@ use Rattle.nb_terms.specs.declared.cause.Cause.{Cause}
 use Rattle.nb_defs.specs.Commands.{CommandOutcome}
 use Rattle.nb_defs.specs.Records.{In, start, frame, tick, off}
 use Rattle.nb_record.specs.Logged.{Logged}
-use Rattle.nb_machine.specs.Effects.{ShownWords, effect, says, shown_as, shown_words, table_after, up_after}
+use Rattle.nb_machine.specs.Effects.{ShownWords, Surroundings, effect_in, says, shown_as, shown_words, table_after, up_after}
 use Rattle.nb_machine.specs.Running.{Running, coming, beginning}
 use Rattle.nb_runner.specs.CommandWords.{deed_effect}
 use Rattle.nb_runner.specs.Steps.{Does, GoesTo}
-use Rattle.nb_runner.specs.World.{IsLinked, world_with}
+use Rattle.nb_runner.specs.World.{IsLinked, surroundings_in, world_with, world_within}
 use Rattle.nb_runner.specs.declared.command.Deed.{Deed}
 use Rattle.nb_runner.specs.declared.world.World.{World}
 use Rattle.nb_client.specs.Progressing.{Advances, CommandRests, IsAtWork, IsFinal, RunEndsWith, ScriptRests, most_moves}
 use Rattle.nb_client.specs.Snapshots.{Snapshot}
 use Rattle.nb_client.specs.Soundness.{IsSound, IsUnderWay}
 use Rattle.nb_client.specs.declared.client.Turn.{Turn}
+use Rattle.nb_client.specs.declared.site.Site.{Site}
 use Rattle.nb_client.specs.declared.client.Turn.TheVariants as turn
 use Rattle.nb_client.specs.declared.stage.Stage.{Stage}
 use Rattle.nb_client.specs.declared.stage.Stage.TheVariants as stage
@@ -48,12 +49,16 @@ IsServed off = ⊥
 abbrev pub left_by : World → List (List ℕ) → World
 left_by w words = world_with w (table_after w.state.table words) (up_after w.state.table w.state.up words)
 
+-- what a command of this script finds
+abbrev pub found_by_script : World → Running → Surroundings
+found_by_script w s = surroundings_in w s.base s.depth
+
 -- A command ends so at once, in this world: its words are shown so, and it leaves this world.
 pub record ComesToEnd (s : Running) (w : World) (shown : ShownWords) (o : CommandOutcome) (after : World) : Type 0 where
   pub name : List ℕ
   pub args : List (List ℕ)
   pub comes : coming s ≡ beginning name args
-  pub ends : effect w.opens w.state.table (name ∷ args) ≡ says o
+  pub ends : effect_in (found_by_script w s) (name ∷ args) ≡ says o
   pub shows : shown_words w.state.table (name ∷ args) ≡ shown
   pub leaves : left_by w (name ∷ args) ≡ after
 
@@ -62,22 +67,35 @@ pub record IsCarriedOutBy (w : World) (d : Deed) (s : Running) (ws : List (List 
   pub name : List ℕ
   pub args : List (List ℕ)
   pub comes : coming s ≡ beginning name args
-  pub deed_is : effect w.opens w.state.table (name ∷ args) ≡ deed_effect d
+  pub deed_is : effect_in (found_by_script w s) (name ∷ args) ≡ deed_effect d
   pub shows : shown_words w.state.table (name ∷ args) ≡ shown_as true ws
   pub world_is : now ≡ left_by w (name ∷ args)
   pub was_linked : IsLinked w
 
+-- where a run stands once a script was left with this cause, in which so many commands began: the innermost of those outside
+-- has the cause; where none is outside, the run is over
+abbrev pub LeftTo : ℕ → Cause → List Running → Stage → List Running → Type 0
+LeftTo commands cause [] st outer = (st ≡ stage.Left cause) × (outer ≡ [])
+LeftTo commands cause (s ∷ others) st outer = (st ≡ stage.Returning (record s { begun = commands }) cause) × (outer ≡ others)
+
+-- A script was left so, and all else stayed.
+pub record IsLeftAt (commands : ℕ) (cause : Cause) (before : Site) (st : Stage) (after : Site) : Type 0 where
+  pub used : after.used ≡ before.used
+  pub opens : after.opens ≡ before.opens
+  pub world : after.world ≡ world_within before.world after.world.outer
+  pub to : LeftTo commands cause before.world.outer st after.world.outer
+
 -- the script goes on, or was left with this cause
-abbrev pub IsSettledAt : Option Cause → Running → Stage → Type 0
-IsSettledAt None s st = st ≡ stage.Running s
-IsSettledAt (Some cause) s st = st ≡ stage.Left cause
+abbrev pub IsSettledAt : Option Cause → Running → Site → Stage → Site → Type 0
+IsSettledAt None s before st after = (st ≡ stage.Running s) × (after ≡ before)
+IsSettledAt (Some cause) s before st after = IsLeftAt s.begun cause before st after
 
 -- A command of this script is over so: its records were put, and the script goes on, or was left.
-pub record EndsCommand (shown : ShownWords) (o : CommandOutcome) (s : Running) (st : Stage) (old new : Logged) : Type 0 where
+pub record EndsCommand (shown : ShownWords) (o : CommandOutcome) (s : Running) (before : Site) (st : Stage) (after : Site) (old new : Logged) : Type 0 where
   pub left : Option Cause
-  pub after : Running
-  pub does : Does shown o left s after old new
-  pub settled : IsSettledAt left after st
+  pub then : Running
+  pub does : Does shown o left s then old new
+  pub settled : IsSettledAt left then before st after
 
 -- `goto` was put, and the script goes on there
 pub record GoesAt (shown : ShownWords) (place : Option ℕ) (s : Running) (st : Stage) (old new : Logged) : Type 0 where

@@ -2,13 +2,14 @@ ghost use Rattle.std.specs.Prelude.{◌≡◌, ◌<◌, [], ◌∷◌, Ok, Some,
 ghost use Rattle.nb_command.specs.Planning.{planned};
 ghost use Rattle.nb_defs.specs.Records as defs;
 ghost use Rattle.nb_machine.specs.Running.{with_result};
-ghost use Rattle.nb_machine.specs.Effects.{fetch, full_opens, words_effect, words_table, words_up};
+ghost use Rattle.nb_machine.specs.Effects.{full_opens};
 ghost use Rattle.nb_runner.specs.CommandWords.{IsForInquiry};
+ghost use Rattle.nb_runner.specs.Intents.{MayAsk};
 ghost use Rattle.nb_runner.specs.NextCommand.{HasCommand, IsReady};
 ghost use Rattle.nb_runner.specs.declared.world.World.{World as TheWorld};
 ghost use Rattle.nb_client.specs.Asked.{onward_kind};
 ghost use Rattle.nb_client.specs.Beginnings.{LetsGo};
-ghost use Rattle.nb_client.specs.Openings.{AsksFor, OpensNext, asked_onward};
+ghost use Rattle.nb_client.specs.Openings.{AsksFor, Intends, OpensNext, asked_onward};
 ghost use Rattle.nb_client.specs.Snapshots.{snapshot};
 ghost use Rattle.nb_client.specs.Soundness.{FitsAsked, IsSound, snapshot_at};
 ghost use Rattle.nb_client.specs.Turning.{MovesOn};
@@ -24,30 +25,6 @@ use nb_teller::{lent, put_result};
 use nb_wire::Word;
 
 impl Site {
-    /// Asks for the file of a URI, or for the address of its server's name first.
-    pub(crate) fn ask_for(
-        &mut self,
-        script: RunningScript,
-        words: &[Word],
-        uri: &[u8],
-        boots: bool,
-        log: &mut Log,
-    ) -> Result<Stage, NoMemory>
-        requires sound { IsSound self.old.used self.old.world self.old.opens (stage.Running script) }
-        requires words { HasCommand script self.old.world.state.table words.now }
-        requires value { words_effect self.old.world.opens self.old.world.state.table words.now ≡ fetch self.old.world.opens boots self.old.world.state.table uri.now }
-        requires same { words_table self.old.world.state.table words.now ≡ self.old.world.state.table }
-        requires up { words_up self.old.world.state.up words.now ≡ self.old.world.state.up }
-        ensures moves { IfOk result (λ st. MovesOn (snapshot_at self.old (stage.Running script)) (snapshot_at self.new st) log.old log.new) }
-        ensures nothing { OnErr result (log.new ≡ log.old) }
-    {
-        match self.world.seek(self.alloc, uri, boots)? {
-            Intent::Fetches(wanted) => self.ask(script, words, Asked::File(wanted), log),
-            Intent::Asks(query) => self.ask(script, words, Asked::Query(query), log),
-            Intent::Over(cause) => Ok(self.refuse(script, true, words, cause, log)),
-        }
-    }
-
     /// Does a command that asks for a lease, an echo or a name's address.
     pub(crate) fn inquire(
         &mut self,
@@ -63,10 +40,29 @@ impl Site {
         ensures moves { IfOk result (λ st. MovesOn (snapshot_at self.old (stage.Running script)) (snapshot_at self.new st) log.old log.new) }
         ensures nothing { OnErr result (log.new ≡ log.old) }
     {
-        match self.world.intend(self.alloc, plan)? {
+        let intent = self.world.intend(self.alloc, plan)?;
+        self.intend(script, words, intent, log)
+    }
+
+    /// Goes on as a command intends, which was carried out.
+    pub(crate) fn intend(
+        &mut self,
+        script: RunningScript,
+        words: &[Word],
+        intent: Intent,
+        log: &mut Log,
+    ) -> Result<Stage, NoMemory>
+        requires sound { IsSound self.old.used self.old.world self.old.opens (stage.Running script) }
+        requires words { IsReady script words.now }
+        requires may { MayAsk self.old.world.opens intent }
+        ensures moves { IfOk result (λ st. (w : TheWorld) → Intends w intent script words.now self.old.world
+            → MovesOn (snapshot self.old.used w self.old.opens (stage.Running script)) (snapshot_at self.new st) log.old log.new) }
+        ensures nothing { OnErr result (log.new ≡ log.old) }
+    {
+        match intent {
             Intent::Over(cause) => self.go_by(script, words, &Deed::Ends(Done::with(cause)), log),
             Intent::Asks(query) => self.ask(script, words, Asked::Query(query), log),
-            Intent::Fetches(_) => unreachable!(),
+            Intent::Fetches(wanted) => self.ask(script, words, Asked::File(wanted), log),
         }
     }
 

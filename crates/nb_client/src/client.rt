@@ -10,6 +10,7 @@ ghost use Rattle.nb_traced.specs.Holdings.{no_holdings};
 ghost use Rattle.nb_client.specs.declared.stage.Stage.TheVariants as stage;
 
 use crate::Stage;
+use crate::concluding::go_on_with;
 use crate::site::Site;
 use crate::stage::turn_of;
 use nb_record::{InRec, Log, NoMemory, Start};
@@ -157,6 +158,7 @@ impl Site {
         match stage {
             Stage::Running(script) => self.advance(script, log),
             Stage::Reaching(script, next) => self.go_onward(script, next, log),
+            Stage::Returning(script, cause) => Ok(go_on_with(script, cause, log)),
             Stage::HandingOff(handing) => Ok(self.hand_on(handing, log)),
             _ => unreachable!(),
         }

@@ -62,6 +62,7 @@ fn waiting_at(stage: &Stage) -> WaitingChain
         | Stage::Running(_)
         | Stage::Waiting(_, Expected::Moment(_))
         | Stage::Yielded(_)
+        | Stage::Returning(..)
         | Stage::HandingOff(_)
         | Stage::Left(_)
         | Stage::HandedOff

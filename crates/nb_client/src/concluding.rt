@@ -1,16 +1,18 @@
-ghost use Rattle.std.specs.Prelude.{◌≡◌, ◌<◌, ◌≤◌, [], ◌∷◌, None, true, length, unwrap_or, IfOk, OnOk};
+ghost use Rattle.std.specs.Prelude.{◌≡◌, ◌<◌, ◌≤◌, ℕ, [], ◌∷◌, None, All, length, map, unwrap_or, IfOk, OnOk};
 ghost use Rattle.nb_defs.specs.Causes.{ok};
 ghost use Rattle.nb_defs.specs.Records.{out_texts};
 ghost use Rattle.nb_defs.specs.Records as defs;
 ghost use Rattle.nb_record.specs.Logged.{Puts};
 ghost use Rattle.nb_network.specs.Many.{AreSound};
 ghost use Rattle.nb_machine.specs.Running.{with_result};
-ghost use Rattle.nb_image.specs.Images.{image_of, refusal};
-ghost use Rattle.nb_image.specs.Kinds.{kind_of};
-ghost use Rattle.nb_machine.specs.Conclusions.{cause_of_error, conclusion, is_bootable, taken_in};
+ghost use Rattle.nb_image.specs.Images.{ImageList};
+ghost use Rattle.nb_imagecmd.specs.Promises.{HasShortNames, IsShortLine};
+ghost use Rattle.nb_machine.specs.Conclusions.{arrival_conclusion, conclusion};
 ghost use Rattle.nb_runner.specs.CommandWords.{FitsFile};
+ghost use Rattle.nb_runner.specs.ImageDeeds.{IsConcludedWell, MayFollow, conclusion_of};
 ghost use Rattle.nb_client.specs.Closings.{ShutsAll};
-ghost use Rattle.nb_client.specs.Concluding.{Chooses, IsConclusion, handing_of};
+ghost use Rattle.nb_client.specs.Concluding.{ArrivesWell, handing_of};
+ghost use Rattle.nb_client.specs.Leading.{LeadsBy};
 ghost use Rattle.nb_client.specs.Serving.{Concludes};
 ghost use Rattle.nb_open.specs.Exchanges.{IsLeaseMessage};
 ghost use Rattle.nb_client.specs.Soundness.{IsPendingWell, IsSound, snapshot_at};
@@ -22,104 +24,53 @@ use crate::opening::kind_beside;
 use crate::site::Site;
 use crate::{Asked, Pending, Stage};
 use nb_chains::ChainKind;
-use nb_image::{Body, ImageError, ImageKind, Images};
+use nb_image::{Body, Images};
+use nb_imagecmd::{Arrival, Asking, ImageFailure, arrive};
 use nb_network::HasEnded;
-use nb_record::{Cause, Log, NoMemory};
-use nb_runner::{Handing, RunningScript, Wanted};
+use nb_record::{Cause, Log, NoMemory, OutRec};
+use nb_runner::{Conclusion, Handing, RunningScript, Wanted, selected};
 use nb_teller::put_result;
-use nb_terms::{Large, Many, Plain, Reason};
+use nb_terms::Plain;
+use nb_wire::Text;
 use std::alloc::Global;
 
-/// What comes of a command whose open has ended.
-#[derive(Clone, Copy, Debug)]
-pub enum Conclusion {
-    /// Its image is in the list, and the script goes on.
-    Keeps,
-    /// It fails.
-    Fails(Cause),
-    /// The image at this place of the list is handed off.
-    Boots(usize),
-}
-
-/// Why the list of images doesn't take one.
-fn cause_of(error: ImageError) -> Cause
-    ensures { result ≡ cause_of_error error }
+/// What comes of a file that has come.
+fn arrived(arrival: Arrival, images: &Images) -> Conclusion
+    ensures same { conclusion_of result images.now ≡ arrival_conclusion arrival images.now }
+    ensures well { (depth : ℕ) (before : ImageList) → ArrivesWell depth arrival images.now → HasShortNames images.now
+        → IsConcludedWell result depth before images.now }
 {
-    match error {
-        ImageError::TooMany => Cause::from(Reason::TooMany(Many::Images)),
-        ImageError::TooLarge => Cause::from(Reason::TooLarge(Large::Images)),
-        ImageError::NoMemory => Plain::NoMemory.cause(),
+    match arrival {
+        Arrival::Kept => Conclusion::Keeps,
+        Arrival::Run { script, replace } => Conclusion::Runs { script, replace },
+        Arrival::Boot => Conclusion::Boots(selected(images)),
     }
 }
 
-/// Whether an image of this kind is handed off.
-fn is_bootable(kind: ImageKind) -> bool
-    ensures { result ≡ is_bootable kind }
-{
-    match kind {
-        ImageKind::BzImage | ImageKind::Elf | ImageKind::Efi => true,
-        ImageKind::Script | ImageKind::Other => false,
-    }
-}
-
-/// Takes the image of a file whose open has ended into the list, and selects it where it is booted. A command that fails
-/// leaves the list as it is.
+/// What comes of a file whose open has ended, for a command of a script of this depth. A command that fails leaves the list of
+/// images as it is.
 fn conclude(
     alloc: Global,
     images: &mut Images,
-    wanted: &Wanted,
+    asking: &Asking,
     body: Body,
     cause: Cause,
+    depth: usize,
 ) -> Result<Conclusion, NoMemory>
-    requires { length wanted.now.file.name ≤ 268435456 }
-    ensures { IfOk result (λ c. IsConclusion c (conclusion cause wanted.now.file.boots
-        (image_of wanted.now.file.name body [] wanted.now.file.uri) images.old) images.old images.new) }
+    requires fits { FitsFile asking.now }
+    requires may { MayFollow images.old }
+    ensures same { IfOk result (λ c. conclusion cause asking.now body depth images.old ≡ conclusion_of c images.new) }
+    ensures well { IfOk result (λ c. IsConcludedWell c depth images.old images.new) }
 {
     if cause.code != 0 {
         return Ok(Conclusion::Fails(cause));
     }
-    let file = &wanted.file;
-    if let Some(error) = images.refuses(file.name.as_slice(), &body) {
-        return Ok(Conclusion::Fails(cause_of(error)));
-    }
-    if file.boots && !is_bootable(body.kind()) {
-        return Ok(Conclusion::Fails(Plain::NotBootable.cause()));
-    }
-    store(alloc, images, wanted, body)
-}
-
-/// Takes the image into the list, which doesn't refuse it.
-fn store(
-    alloc: Global,
-    images: &mut Images,
-    wanted: &Wanted,
-    body: Body,
-) -> Result<Conclusion, NoMemory>
-    requires room { refusal (image_of wanted.now.file.name body [] wanted.now.file.uri) images.old.images ≡ None }
-    requires name { length wanted.now.file.name ≤ 268435456 }
-    requires kind { wanted.now.file.boots ≡ true → is_bootable (kind_of body) ≡ true }
-    ensures { IfOk result (λ c. IsConclusion c (taken_in wanted.now.file.boots
-        (image_of wanted.now.file.name body [] wanted.now.file.uri) images.old) images.old images.new) }
-{
     // The hand-off rests on it that no image is longer than a body can be.
     let _len = body.len();
-    let file = &wanted.file;
-    match images.add(alloc, file.name.as_slice(), body, b"", file.uri.as_slice()) {
-        Ok(place) => Ok(choose(images, file.boots, place)),
-        Err(_) => Err(NoMemory),
-    }
-}
-
-/// Selects the image at a place, where it is booted.
-fn choose(images: &mut Images, boots: bool, place: usize) -> Conclusion
-    requires { place < length images.old.images }
-    ensures { Chooses result boots place images.old images.new }
-{
-    if boots {
-        images.select(place);
-        Conclusion::Boots(place)
-    } else {
-        Conclusion::Keeps
+    match arrive(alloc, images, asking, body, asking.target.whole(), depth) {
+        Ok(arrival) => Ok(arrived(arrival, images)),
+        Err(ImageFailure::NoMemory) => Err(NoMemory),
+        Err(why) => Ok(Conclusion::Fails(why.cause())),
     }
 }
 
@@ -130,6 +81,16 @@ fn file_of(alloc: Global, body: Option<Body>) -> Body
     match body {
         Some(body) => body,
         None => Body::new(alloc),
+    }
+}
+
+/// Puts these lines.
+fn put_lines(lines: &[Text], out: &mut Log)
+    requires { All IsShortLine lines.now }
+    ensures { Puts out.old out.new (out_texts (map defs.text lines.now)) }
+{
+    for line in lines {
+        out.put(&OutRec::Text(line.as_slice()));
     }
 }
 
@@ -176,16 +137,41 @@ impl Site {
         out: &mut Log,
     ) -> Result<Stage, NoMemory>
         requires sound { IsSound self.old.used self.old.world self.old.opens (stage.Running script) }
-        requires fits { FitsFile wanted.now.file }
+        requires fits { FitsFile wanted.now.asking }
         ensures { IfOk result (λ st. (p : ThePending) → p.asked ≡ asked.File wanted.now → p.waits ≡ None
             → Concludes p ended script self.old (snapshot_at self.new st) out.old out.new) }
     {
         let body = file_of(self.alloc, ended.body);
+        let depth = usize::from(script.depth());
         let images = &mut self.world.state.images;
-        match conclude(self.alloc, images, wanted, body, ended.cause)? {
+        let conclusion = conclude(self.alloc, images, &wanted.asking, body, ended.cause, depth)?;
+        self.lead(script, conclusion, out)
+    }
+
+    /// What comes of a command on images, whose COMMAND was put: puts its records, and leads on from there. Where memory runs
+    /// out, what was put counts for nothing.
+    pub(crate) fn lead(
+        &mut self,
+        script: RunningScript,
+        conclusion: Conclusion,
+        out: &mut Log,
+    ) -> Result<Stage, NoMemory>
+        requires sound { IsSound self.old.used self.old.world self.old.opens (stage.Running script) }
+        requires well { (before : ImageList) × IsConcludedWell conclusion script.depth before self.old.world.state.images }
+        ensures { IfOk result (λ st. LeadsBy script conclusion self.old (snapshot_at self.new st) out.old out.new) }
+    {
+        match conclusion {
             Conclusion::Keeps => Ok(go_on_with(script, Plain::Ok.cause(), out)),
+            Conclusion::Tells(lines) => {
+                put_lines(lines.as_slice(), out);
+                Ok(go_on_with(script, Plain::Ok.cause(), out))
+            }
             Conclusion::Fails(cause) => Ok(go_on_with(script, cause, out)),
             Conclusion::Boots(kernel) => self.begin_handing(kernel, out),
+            Conclusion::Runs {
+                script: image,
+                replace,
+            } => self.run(script, image, replace, out),
         }
     }
 

@@ -11,6 +11,8 @@ mod client;
 mod closing;
 mod concluding;
 mod handing;
+mod images;
+mod nesting;
 mod opening;
 mod pending;
 mod scripts;

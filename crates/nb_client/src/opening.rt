@@ -104,9 +104,9 @@ fn opening_of<'a>(world: &World, asked: &'a Asked) -> Opening<'a>
     match asked {
         Asked::File(wanted) => Opening::File(Ask {
             server: wanted.server,
-            port: wanted.file.port,
+            port: wanted.port(),
             own_port: own_port(world.w, world.opens),
-            path: wanted.file.path.as_slice(),
+            path: wanted.path(),
         }),
         Asked::Query(Query::Lease) => Opening::Lease(lease_ask(world)),
         Asked::Query(Query::Echo(host)) => Opening::Echo(PingAsk {

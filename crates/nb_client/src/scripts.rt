@@ -13,7 +13,7 @@ ghost use Rattle.nb_runner.specs.NextCommand.{HasCommand, IsReady};
 ghost use Rattle.nb_runner.specs.declared.world.World.{World as TheWorld};
 ghost use Rattle.nb_client.specs.Snapshots.{snapshot};
 ghost use Rattle.nb_client.specs.Soundness.{IsSound, snapshot_at};
-ghost use Rattle.nb_client.specs.Turning.{ComesToEnd, EndsCommand, GoesAt, IsCarriedOutBy, IsSettledAt, MovesOn};
+ghost use Rattle.nb_client.specs.Turning.{ComesToEnd, EndsCommand, GoesAt, IsCarriedOutBy, IsLeftAt, IsSettledAt, MovesOn};
 ghost use Rattle.nb_client.specs.declared.pending.Expected.TheVariants as expected;
 ghost use Rattle.nb_client.specs.declared.stage.Stage.TheVariants as stage;
 
@@ -38,7 +38,7 @@ impl Site {
     {
         match script.next(self.alloc, &self.world.state.table)? {
             Next::Passed => Ok(Stage::Running(script)),
-            Next::Left(cause) => Ok(leave_with(&script, cause, log)),
+            Next::Left(cause) => Ok(self.leave_with(&script, cause, log)),
             Next::Begins(list) => self.command(script, list.as_slice(), log),
             Next::Refused(list, cause) => {
                 Ok(self.refuse(script, false, list.as_slice(), cause, log))
@@ -60,10 +60,7 @@ impl Site {
         ensures nothing { OnErr result (log.new ≡ log.old) }
     {
         match plan(self.alloc, words) {
-            Ok(CommandPlan::Fetch { uri }) => {
-                self.ask_for(script, words, uri.as_slice(), false, log)
-            }
-            Ok(CommandPlan::Exec { uri }) => self.ask_for(script, words, uri.as_slice(), true, log),
+            Ok(CommandPlan::Images(command)) => self.do_images(script, words, &command, log),
             Ok(
                 plan @ (CommandPlan::Dhcp(_)
                 | CommandPlan::Ping { .. }
@@ -82,20 +79,20 @@ impl Site {
 
     /// A command is refused with this cause, and the script goes on.
     pub(crate) fn refuse(
-        &self,
+        &mut self,
         mut script: RunningScript,
         expanded: bool,
         words: &[Word],
         cause: Cause,
         log: &mut Log,
     ) -> Stage
-        requires sound { IsSound self.now.used self.now.world self.now.opens (stage.Running script) }
+        requires sound { IsSound self.old.used self.old.world self.old.opens (stage.Running script) }
         requires words { IsReady script words.now }
-        requires refused { ComesToEnd script self.now.world (shown_as expanded words.now) (refused cause) self.now.world }
-        ensures { MovesOn (snapshot_at self.now (stage.Running script)) (snapshot_at self.now result) log.old log.new }
+        requires refused { ComesToEnd script self.old.world (shown_as expanded words.now) (refused cause) self.old.world }
+        ensures { MovesOn (snapshot_at self.old (stage.Running script)) (snapshot_at self.new result) log.old log.new }
     {
         let left = script.finish(expanded, words, &Done::with(cause), log);
-        settled(script, left)
+        self.settled(script, left)
     }
 
     /// Does a command that asks for nothing.
@@ -134,7 +131,7 @@ impl Site {
         ensures nothing { OnErr result (log.new ≡ log.old) }
     {
         match deed {
-            Deed::Ends(done) => Ok(finish(script, words, done, log)),
+            Deed::Ends(done) => Ok(self.finish(script, words, done, log)),
             Deed::Goes(label) => Ok(go_to(script, words, label.as_slice(), log)),
             Deed::Sleeps(seconds) => {
                 let until = self.world.time + 1000 * u64::from(*seconds);
@@ -143,35 +140,41 @@ impl Site {
             Deed::Shuts => self.close_device(script, words, log),
         }
     }
-}
 
-/// The script is left with this cause.
-fn leave_with(script: &RunningScript, cause: Cause, log: &mut Log) -> Stage
-    ensures stage { result ≡ stage.Left cause }
-    ensures puts { Puts log.old log.new (out_texts (leave script.now.depth cause ∷ [])) }
-{
-    script.put_leave(cause, log);
-    Stage::Left(cause)
-}
-
-/// The script goes on after a command, or was left with a cause.
-fn settled(script: RunningScript, left: Option<Cause>) -> Stage
-    ensures { IsSettledAt left script result }
-{
-    match left {
-        Some(cause) => Stage::Left(cause),
-        None => Stage::Running(script),
+    /// The script is left with this cause.
+    fn leave_with(&mut self, script: &RunningScript, cause: Cause, log: &mut Log) -> Stage
+        ensures left { IsLeftAt script.now.begun cause self.old result self.new }
+        ensures puts { Puts log.old log.new (out_texts (leave script.now.depth cause ∷ [])) }
+    {
+        script.put_leave(cause, log);
+        self.leave(script.commands(), cause)
     }
-}
 
-/// A command is over so.
-fn finish(mut script: RunningScript, words: &[Word], done: &Done, log: &mut Log) -> Stage
-    requires words { IsReady script words.now }
-    requires printed { IfSome done.now.prints (λ text. length text ≤ 4160) }
-    ensures { EndsCommand (shown_as true words.now) (done_of done.now) script result log.old log.new }
-{
-    let left = script.finish(true, words, done, log);
-    settled(script, left)
+    /// The script goes on after a command, or was left with a cause.
+    fn settled(&mut self, script: RunningScript, left: Option<Cause>) -> Stage
+        ensures { IsSettledAt left script self.old result self.new }
+    {
+        match left {
+            Some(cause) => self.leave(script.commands(), cause),
+            None => Stage::Running(script),
+        }
+    }
+
+    /// A command is over so.
+    fn finish(
+        &mut self,
+        mut script: RunningScript,
+        words: &[Word],
+        done: &Done,
+        log: &mut Log,
+    ) -> Stage
+        requires words { IsReady script words.now }
+        requires printed { IfSome done.now.prints (λ text. length text ≤ 4160) }
+        ensures { EndsCommand (shown_as true words.now) (done_of done.now) script self.old result self.new log.old log.new }
+    {
+        let left = script.finish(true, words, done, log);
+        self.settled(script, left)
+    }
 }
 
 /// Goes to this label.

@@ -18,6 +18,8 @@ pub enum Stage {
     Reaching(RunningScript, KeptNext),
     /// 4,096 commands of the script began in this step, and another is to begin.
     Yielded(RunningScript),
+    /// A script within this one was left with this cause, which the command that ran it has.
+    Returning(RunningScript, Cause),
     /// An image is handed off.
     HandingOff(Handing),
     /// The first script was left with this cause.
@@ -34,7 +36,8 @@ pub(crate) fn turn_of(stage: &Stage) -> Turn
     ensures { IsTurnOf result stage.now }
 {
     match stage {
-        Stage::Running(_) | Stage::Reaching(..) | Stage::HandingOff(_) => Turn::More,
+        Stage::Running(_) | Stage::Reaching(..) | Stage::Returning(..) | Stage::HandingOff(_) =>
+            Turn::More,
         Stage::Waiting(..) => Turn::Waiting,
         Stage::Yielded(_) => Turn::Yielded,
         Stage::Left(cause) => Turn::Over(status_after(*cause)),

@@ -8,33 +8,18 @@ ghost use Rattle.nb_client.specs.Turning.{GoesOnBy};
 ghost use Rattle.nb_client.specs.declared.stage.Stage.TheVariants as stage;
 
 use crate::Stage;
+use crate::nesting::{put_enter, put_leave};
 use crate::site::Site;
-use nb_record::{Cause, Log, NoMemory, OutRec, Start};
+use nb_record::{Log, NoMemory, Start};
 use nb_runner::{Unread, World, read_script};
 use nb_teller::put_step;
-use nb_terms::Plain;
 
 /// Puts that the step of this record begins, and that the first script is entered.
 fn put_entered(number: u32, log: &mut Log)
     ensures { Puts log.old log.new (out_texts (step number ∷ enter 1 ∷ [])) }
 {
     put_step(number, log);
-    log.put(&OutRec::Script {
-        what: 0,
-        depth: 1,
-        cause: Plain::Ok.cause(),
-    });
-}
-
-/// Puts that the first script is left, since its text doesn't run.
-fn put_refused(cause: Cause, log: &mut Log)
-    ensures { Puts log.old log.new (out_texts (leave 1 cause ∷ [])) }
-{
-    log.put(&OutRec::Script {
-        what: 1,
-        depth: 1,
-        cause,
-    });
+    put_enter(1, log);
 }
 
 impl Site {
@@ -58,7 +43,7 @@ impl Site {
             Err(Unread::Refused(cause)) => {
                 self.enter(world);
                 put_entered(self.used, log);
-                put_refused(cause, log);
+                put_leave(1, cause, log);
                 Ok(Stage::Left(cause))
             }
             Err(Unread::NoMemory) => Err(NoMemory),

@@ -4,7 +4,7 @@ use Rattle.nb_command.specs.declared.command_name.CommandName.{CommandName}
 use Rattle.nb_command.specs.declared.command_name.CommandName.TheVariants.{Echo, Goto, Exit}
 use Rattle.nb_command.specs.declared.command_name.CommandName.TheVariants.{Isset, Iseq, Set}
 use Rattle.nb_command.specs.declared.command_name.CommandName.TheVariants.{Clear, Show, Inc}
-use Rattle.nb_command.specs.declared.command_name.CommandName.TheVariants.{Imgfetch, Imgexec, Sleep}
+use Rattle.nb_command.specs.declared.command_name.CommandName.TheVariants.{Sleep}
 use Rattle.nb_command.specs.declared.command_name.CommandName.TheVariants.{Ifopen, Ifclose, Dhcp, Ping, Nslookup}
 use Rattle.nb_command.specs.CommandNames.{command_text, command_named}
 
@@ -20,8 +20,6 @@ command_named-text Set = refl
 command_named-text Clear = refl
 command_named-text Show = refl
 command_named-text Inc = refl
-command_named-text Imgfetch = refl
-command_named-text Imgexec = refl
 command_named-text Ifopen = refl
 command_named-text Ifclose = refl
 command_named-text Dhcp = refl

@@ -1,4 +1,3 @@
-pub mod Joining
 pub mod CommandNameLemmas
 pub mod PutLemmas
 pub mod OtherSettings

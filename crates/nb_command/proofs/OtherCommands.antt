@@ -8,11 +8,16 @@ use Rattle.nb_settings.specs.Tables.{TableLists, own_value, cleared}
 use Rattle.nb_command.specs.declared.command_plan.CommandPlan.{CommandPlan}
 use Rattle.nb_command.specs.declared.command_plan.CommandPlan.TheVariants as plan
 use Rattle.nb_command.specs.declared.error.ApplyError.{ApplyError}
+use Rattle.nb_image.specs.Images.{ImageList}
+use Rattle.nb_imagecmd.specs.declared.error.ImageFailure.{ImageFailure}
+use Rattle.nb_imagecmd.specs.declared.outcome.ImageOutcome.{ImageOutcome}
+use Rattle.nb_imagecmd.specs.CarryingOut.{image_effect}
+use Rattle.nb_command.specs.Bases.{base_by}
 use Rattle.nb_command.specs.declared.outcome.Outcome.{Outcome}
 use Rattle.nb_command.specs.declared.outcome.Job.TheVariants as job
-use Rattle.nb_command.specs.declared.outcome.Outcome.TheVariants.{Done, Wait, Down}
+use Rattle.nb_command.specs.declared.outcome.Outcome.TheVariants.{Done, Wait, Down, Images}
 use Rattle.nb_command.specs.declared.state.State.{State}
-use Rattle.nb_command.specs.Applying.{carried_out, in_state, with_table, with_up}
+use Rattle.nb_command.specs.Applying.{carried_out, in_state, with_table, with_up, with_images}
 use Rattle.nb_command.specs.Inc.{named_count, sum_put, increased_table}
 use Rattle.nb_command.specs.Others.{is_meant, may_change}
 use Rattle.nb_command.specs.Set.{set_value, set_table}
@@ -41,30 +46,34 @@ with_up_stays s outcome (Ok up) after is block key =
     subst (λ (x : Outcome × State). Finds s x.1 block key) (same_Ok (outcome, record s { up = up }) after is) refl
 with_up_stays s outcome (Err why) after is block key = absurd cc
 
-pub others_stay : (p : CommandPlan) (s : State) (after : Outcome × State) → carried_out p s ≡ Ok after → (block : List ℕ) (key : OwnedKey) → may_change p block key ≡ false → own_value block key after.1.table ≡ own_value block key s.table
-others_stay (plan.Echo newline text) s after is block key off = as_it_was s _ after is block key
-others_stay (plan.Goto label) s after is block key off = as_it_was s _ after is block key
-others_stay (plan.Exit n) s after is block key off = as_it_was s _ after is block key
-others_stay (plan.Isset word) s after is block key off = in_state_stays s _ after is block key
-others_stay (plan.Iseq a b) s after is block key off = in_state_stays s _ after is block key
-others_stay (plan.Show name) s after is block key off = in_state_stays s _ after is block key
-others_stay (plan.Fetch uri) s after is block key off = in_state_stays s _ after is block key
-others_stay (plan.Exec uri) s after is block key off = in_state_stays s _ after is block key
-others_stay (plan.Ifopen device) s after is block key off = with_up_stays s Done _ after is block key
-others_stay (plan.Ifclose device) s after is block key off = with_up_stays s Down _ after is block key
-others_stay (plan.Dhcp device) s after is block key off = with_up_stays s (Wait job.Lease) _ after is block key
-others_stay (plan.Ping host) s after is block key off = as_it_was s _ after is block key
-others_stay (plan.Nslookup name host) s after is block key off = in_state_stays s _ after is block key
-others_stay (plan.Sleep seconds) s after is block key off = as_it_was s _ after is block key
-others_stay (plan.Set name value) s after is block key off =
+with_images_stays : (s : State) (answer : Result (ImageOutcome × ImageList) ImageFailure) (after : Outcome × State) → with_images s answer ≡ Ok after → (block : List ℕ) (key : OwnedKey) → Finds s after.1 block key
+with_images_stays s (Ok done) after is block key =
+    subst (λ (x : Outcome × State). Finds s x.1 block key) (same_Ok (Images done.0, record s { images = done.1 }) after is) refl
+with_images_stays s (Err why) after is block key = absurd cc
+
+pub others_stay : (p : CommandPlan) (own : Option (List ℕ)) (s : State) (after : Outcome × State) → carried_out p own s ≡ Ok after → (block : List ℕ) (key : OwnedKey) → may_change p block key ≡ false → own_value block key after.1.table ≡ own_value block key s.table
+others_stay (plan.Echo newline text) own s after is block key off = as_it_was s _ after is block key
+others_stay (plan.Goto label) own s after is block key off = as_it_was s _ after is block key
+others_stay (plan.Exit n) own s after is block key off = as_it_was s _ after is block key
+others_stay (plan.Isset word) own s after is block key off = in_state_stays s _ after is block key
+others_stay (plan.Iseq a b) own s after is block key off = in_state_stays s _ after is block key
+others_stay (plan.Show name) own s after is block key off = in_state_stays s _ after is block key
+others_stay (plan.Images command) own s after is block key off = with_images_stays s (image_effect command (base_by own s.table) s.images) after is block key
+others_stay (plan.Ifopen device) own s after is block key off = with_up_stays s Done _ after is block key
+others_stay (plan.Ifclose device) own s after is block key off = with_up_stays s Down _ after is block key
+others_stay (plan.Dhcp device) own s after is block key off = with_up_stays s (Wait job.Lease) _ after is block key
+others_stay (plan.Ping host) own s after is block key off = as_it_was s _ after is block key
+others_stay (plan.Nslookup name host) own s after is block key off = in_state_stays s _ after is block key
+others_stay (plan.Sleep seconds) own s after is block key off = as_it_was s _ after is block key
+others_stay (plan.Set name value) own s after is block key off =
     with_table_stays s (set_table name value s.table) after (name_read name) is
     (λ new e. named_stays (set_value (join_with_byte 32 value) s.table) s.table new (name_read name) e (λ n h. set_stays (join_with_byte 32 value) s.table new n h))
     block key off
-others_stay (plan.Clear name) s after is block key off =
+others_stay (plan.Clear name) own s after is block key off =
     with_table_stays s (cleared_table name s.table) after (name_read name) is
     (λ new e. named_stays (λ n. Ok (cleared (named_block n) n.key s.table)) s.table new (name_read name) e (λ n h. stays_if (named_block n) n.key s.table (cleared (named_block n) n.key s.table) new h (cleared_stays (named_block n) n.key s.table)))
     block key off
-others_stay (plan.Inc name by) s after is block key off =
+others_stay (plan.Inc name by) own s after is block key off =
     with_table_stays s (increased_table name by s.table) after (name_read name) is
     (λ new e. named_stays (λ n. sum_put n by s.table (named_count n s.table)) s.table new (name_read name) e (λ n h. sum_stays n by s.table new (named_count n s.table) h))
     block key off

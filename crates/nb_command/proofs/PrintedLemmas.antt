@@ -11,7 +11,7 @@ use Rattle.nb_command.specs.declared.command_name.CommandName.{CommandName}
 use Rattle.nb_command.specs.declared.command_name.CommandName.TheVariants as command
 use Rattle.nb_command.specs.declared.command_plan.CommandPlan.{CommandPlan}
 use Rattle.nb_command.specs.declared.command_plan.CommandPlan.TheVariants as plan
-use Rattle.nb_command.specs.declared.error.PlanError.{PlanError}
+use Rattle.nb_imagecmd.specs.declared.error.PlanError.{PlanError}
 use Rattle.nb_command.specs.Echo.{echo_plan, unbroken_plan, echoed}
 use Rattle.nb_command.specs.Exit.{exit_plan}
 use Rattle.nb_command.specs.Ifopen.{ifopen_plan}
@@ -23,7 +23,7 @@ use Rattle.nb_command.specs.Iseq.{iseq_plan}
 use Rattle.nb_command.specs.Isset.{isset_plan}
 use Rattle.nb_command.specs.Planning.{plan_named}
 use Rattle.nb_command.specs.Plans.{one_word, plan_with, PlansAs}
-use Rattle.nb_command.specs.Printed.{most_printed}
+use Rattle.nb_command.specs.Printed.{most_printed, most_text}
 use Rattle.nb_command.specs.Set.{set_plan}
 use Rattle.nb_command.specs.Sleep.{sleep_plan}
 
@@ -45,11 +45,11 @@ echoed_short newline words =
 
 -- PLANS
 
--- no plan, or one that prints at most 4,160 bytes
+-- no plan, or one whose text has at most 4,160 bytes
 abbrev IsShort : Result CommandPlan PlanError → Type 0
-IsShort answer = IfOk answer (λ p. most_printed p ≤ 4160)
+IsShort answer = IfOk answer (λ p. most_text p ≤ 4160)
 
-with_short : {T : Type 0} (f : T → CommandPlan) (o : Option T) → ((x : T) → most_printed (f x) ≤ 4160) → IsShort (plan_with f o)
+with_short : {T : Type 0} (f : T → CommandPlan) (o : Option T) → ((x : T) → most_text (f x) ≤ 4160) → IsShort (plan_with f o)
 with_short f None short = tt
 with_short f (Some x) short = short x
 
@@ -138,8 +138,6 @@ named_short command.Set args few short = set_short args
 named_short command.Clear args few short = with_short _ (one_word args) (λ x. omega arith)
 named_short command.Show args few short = with_short _ (one_word args) (λ x. omega arith)
 named_short command.Inc args few short = inc_short args
-named_short command.Imgfetch args few short = with_short _ (one_word args) (λ x. omega arith)
-named_short command.Imgexec args few short = with_short _ (one_word args) (λ x. omega arith)
 named_short command.Ifopen args few short = ifopen_short args
 named_short command.Ifclose args few short = ifclose_short args
 named_short command.Dhcp args few short = dhcp_short args
@@ -147,9 +145,32 @@ named_short command.Ping args few short = with_short _ (one_word args) (λ x. om
 named_short command.Nslookup args few short = nslookup_short args
 named_short command.Sleep args few short = sleep_short args
 
--- what a plan prints that is made of such words
-pub plan_short : (words : List (List ℕ)) (first : List ℕ) (args : List (List ℕ)) (name : CommandName) (answer : Result CommandPlan PlanError) → words ≡ first ∷ args → PlansAs answer (plan_named name args) → length words ≤ 64 → sum_by length words ≤ 4096 → IfOk answer (λ p. most_printed p ≤ 4160)
-plan_short words first args name (Ok p) is made few short =
+-- the text of a plan that is made of such words
+pub text_short : (words : List (List ℕ)) (first : List ℕ) (args : List (List ℕ)) (name : CommandName) (answer : Result CommandPlan PlanError) → words ≡ first ∷ args → PlansAs answer (plan_named name args) → length words ≤ 64 → sum_by length words ≤ 4096 → IfOk answer (λ p. most_text p ≤ 4160)
+text_short words first args name (Ok p) is made few short =
     let whole = sum_by-cons length first args in
     subst IsShort made (named_short name args (omega (arith, ap length is)) (omega (arith, ap (sum_by length) is, whole)))
-plan_short words first args name (Err why) is made few short = tt
+text_short words first args name (Err why) is made few short = tt
+
+prints_less : (p : CommandPlan) → most_printed p ≤ most_text p
+prints_less (plan.Echo newline text) = omega arith
+prints_less (plan.Show name) = omega arith
+prints_less (plan.Goto label) = omega arith
+prints_less (plan.Exit n) = omega arith
+prints_less (plan.Isset word) = omega arith
+prints_less (plan.Iseq a b) = omega arith
+prints_less (plan.Set name value) = omega arith
+prints_less (plan.Clear name) = omega arith
+prints_less (plan.Inc name by) = omega arith
+prints_less (plan.Images command) = omega arith
+prints_less (plan.Ifopen device) = omega arith
+prints_less (plan.Ifclose device) = omega arith
+prints_less (plan.Dhcp device) = omega arith
+prints_less (plan.Ping host) = omega arith
+prints_less (plan.Nslookup name host) = omega arith
+prints_less (plan.Sleep seconds) = omega arith
+
+-- and so what it prints
+pub printed_short : (answer : Result CommandPlan PlanError) → IfOk answer (λ p. most_text p ≤ 4160) → IfOk answer (λ p. most_printed p ≤ 4160)
+printed_short (Ok p) h = omega (arith, h, prints_less p)
+printed_short (Err why) h = tt

@@ -4,7 +4,7 @@ use Rattle.nb_settings.specs.Names.{name_read}
 use Rattle.nb_settings.specs.Tables.{TableLists, cleared}
 use Rattle.nb_command.specs.declared.command_plan.CommandPlan.{CommandPlan}
 use Rattle.nb_command.specs.declared.command_plan.CommandPlan.TheVariants.{Clear}
-use Rattle.nb_command.specs.declared.error.PlanError.{PlanError}
+use Rattle.nb_imagecmd.specs.declared.error.PlanError.{PlanError}
 use Rattle.nb_command.specs.Plans.{one_word, plan_with}
 use Rattle.nb_command.specs.Settings.{Change, named_block, change_named}
 

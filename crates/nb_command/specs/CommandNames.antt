@@ -5,7 +5,7 @@ use Rattle.nb_command.specs.declared.command_name.CommandName.{CommandName}
 use Rattle.nb_command.specs.declared.command_name.CommandName.TheVariants.{Echo, Goto, Exit}
 use Rattle.nb_command.specs.declared.command_name.CommandName.TheVariants.{Isset, Iseq, Set}
 use Rattle.nb_command.specs.declared.command_name.CommandName.TheVariants.{Clear, Show, Inc}
-use Rattle.nb_command.specs.declared.command_name.CommandName.TheVariants.{Imgfetch, Imgexec, Sleep}
+use Rattle.nb_command.specs.declared.command_name.CommandName.TheVariants.{Sleep}
 use Rattle.nb_command.specs.declared.command_name.CommandName.TheVariants.{Ifopen, Ifclose, Dhcp, Ping, Nslookup}
 
 abbrev pub command_text : CommandName → List ℕ
@@ -18,8 +18,6 @@ command_text Set = codes "set"
 command_text Clear = codes "clear"
 command_text Show = codes "show"
 command_text Inc = codes "inc"
-command_text Imgfetch = codes "imgfetch"
-command_text Imgexec = codes "imgexec"
 command_text Ifopen = codes "ifopen"
 command_text Ifclose = codes "ifclose"
 command_text Dhcp = codes "dhcp"
@@ -29,7 +27,7 @@ command_text Sleep = codes "sleep"
 
 abbrev pub all_commands : List CommandName
 all_commands =
-    Echo ∷ Goto ∷ Exit ∷ Isset ∷ Iseq ∷ Set ∷ Clear ∷ Show ∷ Inc ∷ Imgfetch ∷ Imgexec ∷ Ifopen ∷ Ifclose ∷ Dhcp ∷ Ping ∷ Nslookup ∷ Sleep ∷ []
+    Echo ∷ Goto ∷ Exit ∷ Isset ∷ Iseq ∷ Set ∷ Clear ∷ Show ∷ Inc ∷ Ifopen ∷ Ifclose ∷ Dhcp ∷ Ping ∷ Nslookup ∷ Sleep ∷ []
 
 -- the command of a name
 unfoldable pub command_named : List ℕ → Option CommandName

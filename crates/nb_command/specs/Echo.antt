@@ -6,8 +6,8 @@ use Rattle.std.specs.Str.{bytes_eq}
 use Rattle.nb_defs.specs.Commands.{is_option, begins_with_option}
 use Rattle.nb_command.specs.declared.command_plan.CommandPlan.{CommandPlan}
 use Rattle.nb_command.specs.declared.command_plan.CommandPlan.TheVariants.{Echo}
-use Rattle.nb_command.specs.declared.error.PlanError.{PlanError}
-use Rattle.nb_command.specs.declared.error.PlanError.TheVariants.{Usage}
+use Rattle.nb_imagecmd.specs.declared.error.PlanError.{PlanError}
+use Rattle.nb_imagecmd.specs.declared.error.PlanError.TheVariants.{Usage}
 
 -- the words after `-n`; a second `-n` in option place is Usage
 abbrev pub unbroken_plan : List (List ℕ) → Result CommandPlan PlanError

@@ -1,4 +1,4 @@
--- The causes with which commands fail, and what refusals of the table, of values and of URIs mean for a command.
+-- The causes with which commands fail, and what refusals of the table and of values mean for a command.
 use Rattle.nb_terms.specs.declared.cause.Cause.{Cause}
 use Rattle.nb_terms.specs.declared.reason.Long.TheVariants as long
 use Rattle.nb_terms.specs.declared.reason.Many.TheVariants as many
@@ -9,12 +9,13 @@ use Rattle.nb_settings.specs.declared.error.SetError.{SetError}
 use Rattle.nb_settings.specs.declared.error.SetError.TheVariants as set_error
 use Rattle.nb_expand.specs.declared.error.ParseError.{ParseError}
 use Rattle.nb_expand.specs.declared.error.ParseError.TheVariants as parse_error
-use Rattle.nb_uri.specs.declared.target.UriError.{UriError}
-use Rattle.nb_uri.specs.declared.target.UriError.TheVariants as uri_error
+use Rattle.nb_imagecmd.specs.declared.error.ImageFailure.{ImageFailure}
+use Rattle.nb_imagecmd.specs.declared.error.ImageFailure.TheVariants as failure
+use Rattle.nb_imagecmd.specs.Failures.{image_cause}
 use Rattle.nb_command.specs.declared.error.ApplyError.{ApplyError}
 use Rattle.nb_command.specs.declared.error.ApplyError.TheVariants.{BadName, BadValue, False}
 use Rattle.nb_command.specs.declared.error.ApplyError.TheVariants.{LongValue, ManySettings}
-use Rattle.nb_command.specs.declared.error.ApplyError.TheVariants.{BadUri, NoScheme, LongPath, NoMemory}
+use Rattle.nb_command.specs.declared.error.ApplyError.TheVariants.{Images, NoMemory}
 
 abbrev pub apply_cause : ApplyError → Cause
 apply_cause BadName = as_cause (reason.Plain plain.BadName)
@@ -22,9 +23,7 @@ apply_cause BadValue = as_cause (reason.Plain plain.BadValue)
 apply_cause False = as_cause (reason.Plain plain.False)
 apply_cause LongValue = as_cause (reason.TooLong long.Value)
 apply_cause ManySettings = as_cause (reason.TooMany many.Settings)
-apply_cause BadUri = as_cause (reason.Plain plain.BadUri)
-apply_cause NoScheme = as_cause (reason.Plain plain.NoScheme)
-apply_cause LongPath = as_cause (reason.TooLong long.Path)
+apply_cause (Images why) = image_cause why
 apply_cause NoMemory = as_cause (reason.Plain plain.NoMemory)
 
 abbrev pub set_failure : SetError → ApplyError
@@ -37,8 +36,14 @@ abbrev pub parse_failure : ParseError → ApplyError
 parse_failure parse_error.BadValue = BadValue
 parse_failure parse_error.NoMemory = NoMemory
 
-abbrev pub uri_failure : UriError → ApplyError
-uri_failure uri_error.BadUri = BadUri
-uri_failure uri_error.NoScheme = NoScheme
-uri_failure uri_error.TooLong = LongPath
-uri_failure uri_error.NoMemory = NoMemory
+-- out of memory is one failure
+abbrev pub image_failure : ImageFailure → ApplyError
+image_failure failure.NoImage = Images failure.NoImage
+image_failure failure.BadUri = Images failure.BadUri
+image_failure failure.NoScheme = Images failure.NoScheme
+image_failure failure.LongPath = Images failure.LongPath
+image_failure failure.ManyImages = Images failure.ManyImages
+image_failure failure.LargeImages = Images failure.LargeImages
+image_failure failure.NotBootable = Images failure.NotBootable
+image_failure failure.ManyScripts = Images failure.ManyScripts
+image_failure failure.NoMemory = NoMemory

@@ -3,8 +3,8 @@ use Rattle.std.specs.Prelude.{ℕ, List, [], ◌∷◌, Some, None, Result, Ok, 
 use Rattle.nb_defs.specs.Commands.{is_option}
 use Rattle.nb_command.specs.declared.command_plan.CommandPlan.{CommandPlan}
 use Rattle.nb_command.specs.declared.command_plan.CommandPlan.TheVariants.{Ifopen}
-use Rattle.nb_command.specs.declared.error.PlanError.{PlanError}
-use Rattle.nb_command.specs.declared.error.PlanError.TheVariants.{Usage}
+use Rattle.nb_imagecmd.specs.declared.error.PlanError.{PlanError}
+use Rattle.nb_imagecmd.specs.declared.error.PlanError.TheVariants.{Usage}
 
 unfoldable pub ifopen_plan : List (List ℕ) → Result CommandPlan PlanError
 ifopen_plan [] = Ok (Ifopen None)

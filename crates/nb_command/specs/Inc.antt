@@ -12,8 +12,8 @@ use Rattle.nb_expand.specs.Numbers.{within, signed_number_of}
 use Rattle.nb_command.specs.declared.command_plan.CommandPlan.{CommandPlan}
 use Rattle.nb_command.specs.declared.command_plan.CommandPlan.TheVariants.{Inc}
 use Rattle.nb_command.specs.declared.error.ApplyError.TheVariants.{BadValue}
-use Rattle.nb_command.specs.declared.error.PlanError.{PlanError}
-use Rattle.nb_command.specs.declared.error.PlanError.TheVariants.{Usage}
+use Rattle.nb_imagecmd.specs.declared.error.PlanError.{PlanError}
+use Rattle.nb_imagecmd.specs.declared.error.PlanError.TheVariants.{Usage}
 use Rattle.nb_command.specs.Plans.{plan_with}
 use Rattle.nb_command.specs.Settings.{Change, named_block, change_named, put_text}
 

@@ -12,8 +12,7 @@ pub mod Clear
 pub mod Show
 pub mod Inc
 pub mod SettingAddresses
-pub mod Locating
-pub mod Fetching
+pub mod Bases
 pub mod Device
 pub mod Ifopen
 pub mod Ifclose

@@ -1,5 +1,5 @@
 -- own: which setting a command may change
-use Rattle.std.specs.Prelude.{ℕ, Bool, false, ◌&&◌, List, Option, Some, None}
+use Rattle.std.specs.Prelude.{ℕ, Bool, true, false, ◌&&◌, List, Option, Some, None}
 use Rattle.std.specs.Str.{bytes_eq}
 use Rattle.nb_settings.specs.declared.setting.OwnedKey.{OwnedKey}
 use Rattle.nb_settings.specs.Keys.{same_key}
@@ -24,11 +24,29 @@ may_change (plan.Exit n) block key = false
 may_change (plan.Isset word) block key = false
 may_change (plan.Iseq a b) block key = false
 may_change (plan.Show name) block key = false
-may_change (plan.Fetch uri) block key = false
-may_change (plan.Exec uri) block key = false
+may_change (plan.Images command) block key = false
 may_change (plan.Ifopen device) block key = false
 may_change (plan.Ifclose device) block key = false
 may_change (plan.Dhcp device) block key = false
 may_change (plan.Ping host) block key = false
 may_change (plan.Nslookup name host) block key = false
 may_change (plan.Sleep seconds) block key = false
+
+-- it is a command on images
+abbrev pub is_on_images : CommandPlan → Bool
+is_on_images (plan.Images command) = true
+is_on_images (plan.Echo newline text) = false
+is_on_images (plan.Goto label) = false
+is_on_images (plan.Exit n) = false
+is_on_images (plan.Isset word) = false
+is_on_images (plan.Iseq a b) = false
+is_on_images (plan.Set name value) = false
+is_on_images (plan.Clear name) = false
+is_on_images (plan.Show name) = false
+is_on_images (plan.Inc name by) = false
+is_on_images (plan.Ifopen device) = false
+is_on_images (plan.Ifclose device) = false
+is_on_images (plan.Dhcp device) = false
+is_on_images (plan.Ping host) = false
+is_on_images (plan.Nslookup name host) = false
+is_on_images (plan.Sleep seconds) = false

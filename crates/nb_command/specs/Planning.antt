@@ -1,14 +1,17 @@
 -- own, after ipxe.org's commands: the command that words say, its name first
-use Rattle.std.specs.Prelude.{ℕ, List, [], ◌∷◌, Option, Some, None, Result, Err}
+use Rattle.std.specs.Prelude.{ℕ, List, [], ◌∷◌, Option, Some, None, Result, Ok, Err}
 use Rattle.nb_command.specs.declared.command_name.CommandName.{CommandName}
 use Rattle.nb_command.specs.declared.command_name.CommandName.TheVariants.{Echo, Goto, Exit}
 use Rattle.nb_command.specs.declared.command_name.CommandName.TheVariants.{Isset, Iseq, Set}
 use Rattle.nb_command.specs.declared.command_name.CommandName.TheVariants.{Clear, Show, Inc}
-use Rattle.nb_command.specs.declared.command_name.CommandName.TheVariants.{Imgfetch, Imgexec, Sleep}
+use Rattle.nb_command.specs.declared.command_name.CommandName.TheVariants.{Sleep}
 use Rattle.nb_command.specs.declared.command_name.CommandName.TheVariants.{Ifopen, Ifclose, Dhcp, Ping, Nslookup}
 use Rattle.nb_command.specs.declared.command_plan.CommandPlan.{CommandPlan}
-use Rattle.nb_command.specs.declared.error.PlanError.{PlanError}
-use Rattle.nb_command.specs.declared.error.PlanError.TheVariants.{Unknown}
+use Rattle.nb_command.specs.declared.command_plan.CommandPlan.TheVariants as plan
+use Rattle.nb_imagecmd.specs.declared.commands.ImageCommand.{ImageCommand}
+use Rattle.nb_imagecmd.specs.declared.error.PlanError.{PlanError}
+use Rattle.nb_imagecmd.specs.declared.error.PlanError.TheVariants.{Unknown}
+use Rattle.nb_imagecmd.specs.Reading.{image_command}
 use Rattle.nb_command.specs.CommandNames.{command_named}
 use Rattle.nb_command.specs.Echo.{echo_plan}
 use Rattle.nb_command.specs.Goto.{goto_plan}
@@ -19,7 +22,6 @@ use Rattle.nb_command.specs.Set.{set_plan}
 use Rattle.nb_command.specs.Clear.{clear_plan}
 use Rattle.nb_command.specs.Show.{show_plan}
 use Rattle.nb_command.specs.Inc.{inc_plan}
-use Rattle.nb_command.specs.Fetching.{imgfetch_plan, imgexec_plan}
 use Rattle.nb_command.specs.Ifopen.{ifopen_plan}
 use Rattle.nb_command.specs.Ifclose.{ifclose_plan}
 use Rattle.nb_command.specs.Dhcp.{dhcp_plan}
@@ -37,8 +39,6 @@ plan_named Set args = set_plan args
 plan_named Clear args = clear_plan args
 plan_named Show args = show_plan args
 plan_named Inc args = inc_plan args
-plan_named Imgfetch args = imgfetch_plan args
-plan_named Imgexec args = imgexec_plan args
 plan_named Ifopen args = ifopen_plan args
 plan_named Ifclose args = ifclose_plan args
 plan_named Dhcp args = dhcp_plan args
@@ -46,11 +46,17 @@ plan_named Ping args = ping_plan args
 plan_named Nslookup args = nslookup_plan args
 plan_named Sleep args = sleep_plan args
 
-abbrev pub plan_where : Option CommandName → List (List ℕ) → Result CommandPlan PlanError
-plan_where None args = Err Unknown
-plan_where (Some command) args = plan_named command args
+-- a command on images, where the words say one
+abbrev pub images_planned : Result ImageCommand PlanError → Result CommandPlan PlanError
+images_planned (Ok command) = Ok (plan.Images command)
+images_planned (Err why) = Err why
+
+-- all other names are those of commands on images, or of none
+abbrev pub plan_where : Option CommandName → List ℕ → List (List ℕ) → Result CommandPlan PlanError
+plan_where None name args = images_planned (image_command (name ∷ args))
+plan_where (Some command) name args = plan_named command args
 
 -- the command, or why the words are none
 unfoldable pub planned : List (List ℕ) → Result CommandPlan PlanError
 planned [] = Err Unknown
-planned (name ∷ args) = plan_where (command_named name) args
+planned (name ∷ args) = plan_where (command_named name) name args

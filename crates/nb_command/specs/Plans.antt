@@ -4,8 +4,8 @@ use Rattle.std.specs.Prelude.{◌≡◌, ◌⊎◌, ℕ, List, [], ◌∷◌, Op
 use Rattle.std.specs.Prelude.{Result, Ok, Err, MatchResult}
 use Rattle.nb_defs.specs.Commands.{is_option}
 use Rattle.nb_command.specs.declared.command_plan.CommandPlan.{CommandPlan}
-use Rattle.nb_command.specs.declared.error.PlanError.{PlanError}
-use Rattle.nb_command.specs.declared.error.PlanError.TheVariants.{Usage, NoMemory}
+use Rattle.nb_imagecmd.specs.declared.error.PlanError.{PlanError}
+use Rattle.nb_imagecmd.specs.declared.error.PlanError.TheVariants.{Usage, NoMemory}
 
 -- the only word, which is no option
 abbrev pub one_word : List (List ℕ) → Option (List ℕ)

@@ -9,8 +9,8 @@ use Rattle.nb_settings.specs.Tables.{TableLists, cleared}
 use Rattle.nb_defs.specs.Commands.{is_option}
 use Rattle.nb_command.specs.declared.command_plan.CommandPlan.{CommandPlan}
 use Rattle.nb_command.specs.declared.command_plan.CommandPlan.TheVariants.{Set}
-use Rattle.nb_command.specs.declared.error.PlanError.{PlanError}
-use Rattle.nb_command.specs.declared.error.PlanError.TheVariants.{Usage}
+use Rattle.nb_imagecmd.specs.declared.error.PlanError.{PlanError}
+use Rattle.nb_imagecmd.specs.declared.error.PlanError.TheVariants.{Usage}
 use Rattle.nb_command.specs.Settings.{Change, named_block, change_named, put_text}
 
 unfoldable pub set_plan : List (List ℕ) → Result CommandPlan PlanError

@@ -4,8 +4,8 @@ use Rattle.nb_defs.specs.Commands.{number_of}
 use Rattle.nb_numerals.specs.Numbers.{below}
 use Rattle.nb_command.specs.declared.command_plan.CommandPlan.{CommandPlan}
 use Rattle.nb_command.specs.declared.command_plan.CommandPlan.TheVariants.{Sleep}
-use Rattle.nb_command.specs.declared.error.PlanError.{PlanError}
-use Rattle.nb_command.specs.declared.error.PlanError.TheVariants.{Usage}
+use Rattle.nb_imagecmd.specs.declared.error.PlanError.{PlanError}
+use Rattle.nb_imagecmd.specs.declared.error.PlanError.TheVariants.{Usage}
 use Rattle.nb_command.specs.Plans.{plan_with}
 
 unfoldable pub sleep_plan : List (List ℕ) → Result CommandPlan PlanError

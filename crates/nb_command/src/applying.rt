@@ -2,59 +2,77 @@ ghost use Rattle.std.specs.Prelude.{◌≡◌, ◌⊎◌, ℕ, List, false, Ok, 
 ghost use Rattle.std.specs.Result.{result_map_both};
 ghost use Rattle.nb_settings.specs.Tables.{own_value};
 ghost use Rattle.nb_settings.specs.declared.setting.OwnedKey.{OwnedKey};
-ghost use Rattle.nb_command.specs.Applying.{out_of_memory, truth, carried_out, applied};
-ghost use Rattle.nb_command.specs.Others.{may_change};
+ghost use Rattle.std.specs.Option.{option_copied};
+ghost use Rattle.nb_imagecmd.specs.CarryingOut.{image_effect};
+ghost use Rattle.nb_command.specs.Applying.{out_of_memory, truth, carried_out, applied, with_images, AsksRightly};
+ghost use Rattle.nb_command.specs.Bases.{base_by};
+ghost use Rattle.nb_command.specs.Failures.{image_failure};
+ghost use Rattle.nb_command.specs.Others.{may_change, is_on_images};
 ghost use Rattle.nb_command.specs.Printed.{most_printed, IfText};
 ghost use Rattle.nb_command.specs.declared.error.ApplyError.TheVariants as failure;
 ghost use Rattle.nb_command.specs.declared.outcome.Job.TheVariants as job;
 ghost use Rattle.nb_command.specs.declared.outcome.Outcome.TheVariants as outcome;
 
+use crate::base::script_base;
 use crate::clear::clear_setting;
-use crate::copies::copy_word;
 use crate::device::set_device;
 use crate::echo::echo_text;
 use crate::error::ApplyError;
-use crate::fetching::fetch_job;
 use crate::inc::inc_setting;
 use crate::isset::is_word_set;
 use crate::nslookup::lookup_job;
 use crate::ping::ping_job;
 use crate::set::set_setting;
 use crate::show::show_setting;
-use crate::{After, CommandPlan, Job, Outcome, State};
+use crate::{CommandPlan, Job, Outcome, State};
+use nb_imagecmd::{ImageCommand, ImageFailure, ImageOutcome, copy_word};
 use nb_terms::Cause;
 use std::alloc::Global;
 
-/// Carries a command out. What it refuses has the cause of its result.
+/// Carries a command out, whose script was fetched from this URI, if it was. What it refuses has the cause of its
+/// result.
 #[tactic(auto, unfolding(crate::specs::Applying::applied))]
-pub fn apply(alloc: Global, p: &CommandPlan, s: &mut State) -> Result<Outcome, Cause>
+pub fn apply(
+    alloc: Global,
+    p: &CommandPlan,
+    own: Option<&[u8]>,
+    s: &mut State,
+) -> Result<Outcome, Cause>
     // What it comes to, and the state that it leaves.
-    ensures value { IfOk result (λ outcome. applied p.now s.old ≡ Ok (outcome, s.new)) }
+    ensures value { IfOk result (λ outcome. applied p.now (option_copied own.entry) s.old ≡ Ok (outcome, s.new)) }
     ensures cause { IfErr result
-        (λ cause. (cause ≡ out_of_memory) ⊎ (applied p.now s.old ≡ Err cause)) }
+        (λ cause. (cause ≡ out_of_memory) ⊎ (applied p.now (option_copied own.entry) s.old ≡ Err cause)) }
     ensures refused { OnErr result (s.new ≡ s.old) }
-    // Of settings it changes at most the one that it names, and no images.
+    // Of settings it changes at most the one that it names, and images only where it is a command on images.
     ensures others { (block : List ℕ) (key : OwnedKey) → may_change p.now block key ≡ false
         → own_value block key s.new.table ≡ own_value block key s.old.table }
-    ensures images { s.new.images ≡ s.old.images }
-    // It prints at most so many bytes, whatever the settings are.
+    ensures images { is_on_images p.now ≡ false → s.new.images ≡ s.old.images }
+    // It prints at most so many bytes as one text, whatever the settings are.
     ensures fits { IfOk result
         (λ outcome. IfText outcome (λ text. length text ≤ most_printed p.now)) }
+    // A file that it asks for may be fetched.
+    ensures fetched { IfOk result AsksRightly }
 {
-    match carry_out(alloc, p, s) {
+    match carry_out(alloc, p, own, s) {
         Ok(outcome) => Ok(outcome),
         Err(why) => Err(why.cause()),
     }
 }
 
-fn carry_out(alloc: Global, p: &CommandPlan, s: &mut State) -> Result<Outcome, ApplyError>
-    ensures value { IfOk result (λ outcome. carried_out p.now s.old ≡ Ok (outcome, s.new)) }
+fn carry_out(
+    alloc: Global,
+    p: &CommandPlan,
+    own: Option<&[u8]>,
+    s: &mut State,
+) -> Result<Outcome, ApplyError>
+    ensures value { IfOk result (λ outcome. carried_out p.now (option_copied own.entry) s.old ≡ Ok (outcome, s.new)) }
     ensures cause { IfErr result
-        (λ why. (why ≡ failure.NoMemory) ⊎ (carried_out p.now s.old ≡ Err why)) }
+        (λ why. (why ≡ failure.NoMemory) ⊎ (carried_out p.now (option_copied own.entry) s.old ≡ Err why)) }
     ensures refused { OnErr result (s.new ≡ s.old) }
-    ensures images { s.new.images ≡ s.old.images }
+    ensures images { is_on_images p.now ≡ false → s.new.images ≡ s.old.images }
     ensures fits { IfOk result
         (λ outcome. IfText outcome (λ text. length text ≤ most_printed p.now)) }
+    ensures fetched { IfOk result AsksRightly }
 {
     let table = &mut s.table;
     match p {
@@ -69,8 +87,7 @@ fn carry_out(alloc: Global, p: &CommandPlan, s: &mut State) -> Result<Outcome, A
         CommandPlan::Clear(name) => done(clear_setting(name, table)),
         CommandPlan::Show(name) => Ok(Outcome::Text(show_setting(alloc, name, table)?)),
         CommandPlan::Inc { name, by } => done(inc_setting(alloc, name, *by, table)),
-        CommandPlan::Fetch { uri } => Ok(Outcome::Wait(fetch_job(alloc, uri, After::Keep, table)?)),
-        CommandPlan::Exec { uri } => Ok(Outcome::Wait(fetch_job(alloc, uri, After::Run, table)?)),
+        CommandPlan::Images(command) => Ok(on_images(alloc, command, own, s)?),
         CommandPlan::Ifopen(device) => done(set_device(device, true, &mut s.up)),
         CommandPlan::Ifclose(device) => down(set_device(device, false, &mut s.up)),
         CommandPlan::Dhcp(device) => leasing(set_device(device, true, &mut s.up)),
@@ -80,6 +97,31 @@ fn carry_out(alloc: Global, p: &CommandPlan, s: &mut State) -> Result<Outcome, A
         }
         CommandPlan::Sleep(seconds) => Ok(Outcome::Wait(Job::Sleep(*seconds))),
     }
+}
+
+/// Carries a command on images out.
+fn on_images(
+    alloc: Global,
+    command: &ImageCommand,
+    own: Option<&[u8]>,
+    s: &mut State,
+) -> Result<Outcome, ApplyError>
+    ensures value { IfOk result (λ outcome. with_images s.old
+        (image_effect command.now (base_by (option_copied own.entry) s.old.table) s.old.images) ≡ Ok (outcome, s.new)) }
+    ensures cause { IfErr result (λ why. (why ≡ failure.NoMemory) ⊎ (with_images s.old
+        (image_effect command.now (base_by (option_copied own.entry) s.old.table) s.old.images) ≡ Err why)) }
+    ensures refused { OnErr result (s.new ≡ s.old) }
+    ensures fits { IfOk result (λ outcome. IfText outcome (λ text. length text ≤ 0)) }
+    ensures fetched { IfOk result AsksRightly }
+{
+    let base = script_base(alloc, own, &s.table)?;
+    let outcome = match base {
+        Some(ref uri) => {
+            nb_imagecmd::carry_out(alloc, command, Some(uri.as_slice()), &mut s.images)?
+        }
+        None => nb_imagecmd::carry_out(alloc, command, None, &mut s.images)?,
+    };
+    Ok(Outcome::Images(outcome))
 }
 
 /// Done where it is true.

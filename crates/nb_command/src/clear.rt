@@ -5,11 +5,11 @@ ghost use Rattle.nb_command.specs.Plans.{PlansAs};
 ghost use Rattle.nb_command.specs.Clear.{clear_plan, cleared_table};
 ghost use Rattle.nb_command.specs.declared.error.ApplyError.TheVariants as failure;
 
-use crate::copies::copy_word;
 use crate::error::ApplyError;
 use crate::setting::block_of;
 use crate::words::one_word;
 use crate::{CommandPlan, PlanError};
+use nb_imagecmd::copy_word;
 use nb_settings::{Name, Table};
 use nb_wire::Word;
 use std::alloc::Global;

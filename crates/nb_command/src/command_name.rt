@@ -3,7 +3,7 @@ ghost use Rattle.std.specs.Str.{bytes_eq};
 ghost use Rattle.nb_command.specs.CommandNames.{command_text, command_named};
 ghost use Rattle.nb_command.specs.declared.command_name.CommandName.{CommandName};
 
-/// Which command a name names.
+/// Which command a name names, of those that aren't on images.
 #[derive(Clone, Copy)]
 pub enum CommandName {
     Echo,
@@ -15,8 +15,6 @@ pub enum CommandName {
     Clear,
     Show,
     Inc,
-    Imgfetch,
-    Imgexec,
     Ifopen,
     Ifclose,
     Dhcp,
@@ -25,7 +23,7 @@ pub enum CommandName {
     Sleep,
 }
 
-const COMMANDS: [CommandName; 17] = [
+const COMMANDS: [CommandName; 15] = [
     CommandName::Echo,
     CommandName::Goto,
     CommandName::Exit,
@@ -35,8 +33,6 @@ const COMMANDS: [CommandName; 17] = [
     CommandName::Clear,
     CommandName::Show,
     CommandName::Inc,
-    CommandName::Imgfetch,
-    CommandName::Imgexec,
     CommandName::Ifopen,
     CommandName::Ifclose,
     CommandName::Dhcp,
@@ -60,8 +56,6 @@ impl CommandName {
             CommandName::Clear => b"clear",
             CommandName::Show => b"show",
             CommandName::Inc => b"inc",
-            CommandName::Imgfetch => b"imgfetch",
-            CommandName::Imgexec => b"imgexec",
             CommandName::Ifopen => b"ifopen",
             CommandName::Ifclose => b"ifclose",
             CommandName::Dhcp => b"dhcp",

@@ -1,3 +1,4 @@
+use nb_imagecmd::ImageCommand;
 use nb_wire::{Word, Words};
 
 /// A command whose words fit it.
@@ -21,10 +22,8 @@ pub enum CommandPlan {
     Show(Word),
     /// Adds to a setting that is an integer.
     Inc { name: Word, by: i32 },
-    /// Fetches a file into the list of images.
-    Fetch { uri: Word },
-    /// Fetches a file and executes it.
-    Exec { uri: Word },
+    /// Fetches, finds, frees or executes images.
+    Images(ImageCommand),
     /// Sets a device up; net0 where none is named.
     Ifopen(Option<Word>),
     /// Sets a device down, and closes what is open there; net0 where none is named.

@@ -3,9 +3,9 @@
 ghost use Rattle.nb_command.specs.Plans.{PlansAs};
 ghost use Rattle.nb_command.specs.Dhcp.{dhcp_plan};
 
-use crate::copies::copy_word;
 use crate::words::is_option;
 use crate::{CommandPlan, PlanError};
+use nb_imagecmd::copy_word;
 use nb_wire::Word;
 use std::alloc::Global;
 

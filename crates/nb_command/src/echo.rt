@@ -5,9 +5,9 @@ ghost use Rattle.nb_command.specs.Plans.{PlansAs};
 ghost use Rattle.nb_command.specs.Echo.{echo_plan, unbroken_plan, echoed};
 ghost use Rattle.nb_command.specs.declared.command_plan.CommandPlan.TheVariants as plan;
 
-use crate::copies::{copy_words, joined};
 use crate::words::{begins_with_option, is_minus_n, is_option};
 use crate::{CommandPlan, PlanError};
+use nb_imagecmd::{copy_words, joined};
 use nb_terms::NoMemory;
 use nb_wire::{Text, Word};
 use std::alloc::Global;

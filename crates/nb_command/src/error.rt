@@ -1,32 +1,12 @@
 ghost use Rattle.std.specs.Prelude.{◌≡◌};
-ghost use Rattle.nb_command.specs.Failures.{apply_cause, set_failure, parse_failure, uri_failure};
+ghost use Rattle.nb_command.specs.Failures.{apply_cause, set_failure, parse_failure, image_failure};
 ghost use Rattle.nb_command.specs.declared.error.ApplyError.TheVariants as failure;
-ghost use Rattle.nb_command.specs.declared.error.PlanError.TheVariants as plan_error;
 
 use nb_expand::ParseError;
+use nb_imagecmd::ImageFailure;
 use nb_settings::SetError;
 use nb_terms::{Cause, Long, Many, NoMemory, Plain, Reason};
-use nb_uri::UriError;
 use std::alloc::{AllocError, AllocFailed};
-
-/// Why words are no plan.
-#[derive(Clone, Copy)]
-pub enum PlanError {
-    /// There is no command of that name.
-    Unknown,
-    /// The words don't fit the command.
-    Usage,
-    /// Memory ran out.
-    NoMemory,
-}
-
-impl From<NoMemory> for PlanError {
-    ghost from_gives = { λ _ e. e ≡ plan_error.NoMemory };
-
-    fn from(_: NoMemory) -> PlanError {
-        PlanError::NoMemory
-    }
-}
 
 /// Why a plan isn't carried out. `apply` answers its cause.
 #[derive(Clone, Copy, Debug, PartialEq, Eq)]
@@ -41,12 +21,8 @@ pub enum ApplyError {
     LongValue,
     /// The block has 128 settings.
     ManySettings,
-    /// The URI is none, or has no host.
-    BadUri,
-    /// Files of its scheme aren't fetched.
-    NoScheme,
-    /// The path, the image's name or the URI is too long.
-    LongPath,
+    /// It is a command on images, and fails for this.
+    Images(ImageFailure),
     /// Memory ran out.
     NoMemory,
 }
@@ -62,9 +38,7 @@ impl ApplyError {
             ApplyError::False => Plain::False.cause(),
             ApplyError::LongValue => Cause::from(Reason::TooLong(Long::Value)),
             ApplyError::ManySettings => Cause::from(Reason::TooMany(Many::Settings)),
-            ApplyError::BadUri => Plain::BadUri.cause(),
-            ApplyError::NoScheme => Plain::NoScheme.cause(),
-            ApplyError::LongPath => Cause::from(Reason::TooLong(Long::Path)),
+            ApplyError::Images(why) => why.cause(),
             ApplyError::NoMemory => Plain::NoMemory.cause(),
         }
     }
@@ -110,15 +84,13 @@ impl From<ParseError> for ApplyError {
     }
 }
 
-impl From<UriError> for ApplyError {
-    ghost from_gives = { λ why e. e ≡ uri_failure why };
+impl From<ImageFailure> for ApplyError {
+    ghost from_gives = { λ why e. e ≡ image_failure why };
 
-    fn from(why: UriError) -> ApplyError {
+    fn from(why: ImageFailure) -> ApplyError {
         match why {
-            UriError::BadUri => ApplyError::BadUri,
-            UriError::NoScheme => ApplyError::NoScheme,
-            UriError::TooLong => ApplyError::LongPath,
-            UriError::NoMemory => ApplyError::NoMemory,
+            ImageFailure::NoMemory => ApplyError::NoMemory,
+            why => ApplyError::Images(why),
         }
     }
 }

@@ -8,12 +8,12 @@ ghost use Rattle.nb_command.specs.Inc.{inc_plan, inc_plan_by};
 ghost use Rattle.nb_command.specs.Inc.{named_count, put_number, summed, increased_table};
 ghost use Rattle.nb_command.specs.declared.error.ApplyError.TheVariants as failure;
 
-use crate::copies::copy_word;
 use crate::error::ApplyError;
 use crate::setting::{block_of, has_block, put_text};
 use crate::words::{is_option, signed_number};
 use crate::{CommandPlan, PlanError};
 use nb_expand::integer;
+use nb_imagecmd::copy_word;
 use nb_settings::{Kind, Name, Table};
 use nb_wire::Word;
 use std::alloc::Global;

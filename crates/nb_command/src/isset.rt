@@ -4,9 +4,9 @@ ghost use Rattle.std.specs.Prelude.{◌≡◌};
 ghost use Rattle.nb_command.specs.Plans.{PlansAs};
 ghost use Rattle.nb_command.specs.Isset.{isset_plan, is_word_set};
 
-use crate::copies::copy_word;
 use crate::words::is_option;
 use crate::{CommandPlan, PlanError};
+use nb_imagecmd::copy_word;
 use nb_wire::Word;
 use std::alloc::Global;
 

@@ -6,10 +6,10 @@ ghost use Rattle.nb_command.specs.Nslookup.{nslookup_plan, lookup_job};
 ghost use Rattle.nb_command.specs.declared.error.ApplyError.TheVariants as failure;
 
 use crate::address::refuses_address;
-use crate::copies::{copy_text, copy_word};
 use crate::error::ApplyError;
 use crate::words::is_option;
 use crate::{CommandPlan, Job, PlanError};
+use nb_imagecmd::{copy_text, copy_word};
 use nb_settings::Table;
 use nb_wire::Word;
 use std::alloc::Global;

@@ -1,4 +1,4 @@
-use nb_uri::UriTarget;
+use nb_imagecmd::ImageOutcome;
 use nb_wire::{Text, Word};
 
 /// What a command that didn't fail comes to.
@@ -16,37 +16,19 @@ pub enum Outcome {
     Wait(Job),
     /// The device went down, and its result is Ok. What is open there is to be closed.
     Down,
+    /// It is a command on images, and comes to this.
+    Images(ImageOutcome),
 }
 
 /// What a command waits for.
 #[derive(Drop)]
 pub enum Job {
-    /// A file, and what is done with the image of this name.
-    Fetch {
-        target: UriTarget,
-        name: Text,
-        after: After,
-    },
     /// A lease for the device net0, which is up.
     Lease,
     /// An echo from a host, a name or an address.
-    Ping {
-        host: Text,
-    },
+    Ping { host: Text },
     /// The address of a host, and which setting it becomes the value of.
-    Lookup {
-        name: Text,
-        host: Text,
-    },
+    Lookup { name: Text, host: Text },
     /// Time, in seconds.
     Sleep(u32),
-}
-
-/// What is done with an image that was fetched.
-#[derive(Clone, Copy, Debug, PartialEq, Eq)]
-pub enum After {
-    /// It is kept in the list.
-    Keep,
-    /// It is kept and executed.
-    Run,
 }

@@ -5,9 +5,9 @@ ghost use Rattle.nb_command.specs.Plans.{PlansAs};
 ghost use Rattle.nb_command.specs.Ping.{ping_plan};
 ghost use Rattle.nb_command.specs.declared.outcome.Job.TheVariants as job;
 
-use crate::copies::{copy_text, copy_word};
 use crate::words::one_word;
 use crate::{CommandPlan, Job, PlanError};
+use nb_imagecmd::{copy_text, copy_word};
 use nb_terms::NoMemory;
 use nb_wire::Word;
 use std::alloc::Global;

@@ -1,14 +1,14 @@
 ghost use Rattle.std.specs.Prelude.{◌≡◌, ◌≤◌, Ok, Err, IfOk, IsErrOf, length, sum_by};
 ghost use Rattle.nb_command.specs.Plans.{PlansAs};
-ghost use Rattle.nb_command.specs.Planning.{plan_named, planned};
-ghost use Rattle.nb_command.specs.Printed.{most_printed};
+ghost use Rattle.nb_command.specs.Planning.{plan_named, images_planned, planned};
+ghost use Rattle.nb_imagecmd.specs.Reading.{image_command};
+ghost use Rattle.nb_command.specs.Printed.{most_printed, most_text};
 
 use crate::clear::plan_clear;
 use crate::command_name::CommandName;
 use crate::dhcp::plan_dhcp;
 use crate::echo::plan_echo;
 use crate::exit::plan_exit;
-use crate::fetching::{plan_imgexec, plan_imgfetch};
 use crate::goto::plan_goto;
 use crate::ifclose::plan_ifclose;
 use crate::ifopen::plan_ifopen;
@@ -21,6 +21,7 @@ use crate::set::plan_set;
 use crate::show::plan_show;
 use crate::sleep::plan_sleep;
 use crate::{CommandPlan, PlanError};
+use nb_imagecmd::read_command;
 use nb_wire::Word;
 use std::alloc::Global;
 
@@ -34,14 +35,27 @@ pub fn plan(alloc: Global, words: &[Word]) -> Result<CommandPlan, PlanError>
     // What the command of a line prints fits a record.
     ensures small { length words.now ≤ 64 → sum_by length words.now ≤ 4096
         → IfOk result (λ plan. most_printed plan ≤ 4160) }
+    // So do the arguments that it gives an image.
+    ensures args { length words.now ≤ 64 → sum_by length words.now ≤ 4096
+        → IfOk result (λ plan. most_text plan ≤ 4160) }
 {
     let Some((name, args)) = words.split_first() else {
         return Err(PlanError::Unknown);
     };
     match CommandName::named(name.as_slice()) {
         Some(command) => plan_named(alloc, command, args),
-        None => Err(PlanError::Unknown),
+        None => plan_images(alloc, words),
     }
+}
+
+/// The command on images that words say.
+fn plan_images(alloc: Global, words: &[Word]) -> Result<CommandPlan, PlanError>
+    ensures value { PlansAs result (images_planned (image_command words.now)) }
+    ensures small { IfOk result (λ plan. most_printed plan ≡ 0) }
+    ensures args { length words.now ≤ 64 → sum_by length words.now ≤ 4096
+        → IfOk result (λ plan. most_text plan ≤ 4160) }
+{
+    Ok(CommandPlan::Images(read_command(alloc, words)?))
 }
 
 /// The command of a name with the words after it.
@@ -58,8 +72,6 @@ fn plan_named(alloc: Global, command: CommandName, args: &[Word]) -> Result<Comm
         CommandName::Clear => plan_clear(alloc, args),
         CommandName::Show => plan_show(alloc, args),
         CommandName::Inc => plan_inc(alloc, args),
-        CommandName::Imgfetch => plan_imgfetch(alloc, args),
-        CommandName::Imgexec => plan_imgexec(alloc, args),
         CommandName::Ifopen => plan_ifopen(alloc, args),
         CommandName::Ifclose => plan_ifclose(alloc, args),
         CommandName::Dhcp => plan_dhcp(alloc, args),

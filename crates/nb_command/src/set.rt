@@ -8,11 +8,11 @@ ghost use Rattle.nb_command.specs.Settings.{named_block};
 ghost use Rattle.nb_command.specs.Set.{set_plan, set_kind, set_value, set_table};
 ghost use Rattle.nb_command.specs.declared.error.ApplyError.TheVariants as failure;
 
-use crate::copies::{copy_word, copy_words, joined};
 use crate::error::ApplyError;
 use crate::setting::{block_of, has_block, put_text};
 use crate::words::is_option;
 use crate::{CommandPlan, PlanError};
+use nb_imagecmd::{copy_word, copy_words, joined};
 use nb_settings::{Kind, Name, Table};
 use nb_wire::Word;
 use std::alloc::Global;

@@ -5,11 +5,11 @@ ghost use Rattle.nb_command.specs.Plans.{PlansAs};
 ghost use Rattle.nb_command.specs.Show.{show_plan, setting_line, setting_shown};
 ghost use Rattle.nb_command.specs.declared.error.ApplyError.TheVariants as failure;
 
-use crate::copies::copy_word;
 use crate::error::ApplyError;
 use crate::words::one_word;
 use crate::{CommandPlan, PlanError};
 use nb_expand::text_of_name;
+use nb_imagecmd::copy_word;
 use nb_settings::{Name, Table};
 use nb_terms::NoMemory;
 use nb_wire::{Text, Word};

@@ -1,7 +1,9 @@
+pub mod ArgsLemmas
 pub mod BootLemmas
 pub mod CommandNameLemmas
 pub mod FreeingLemmas
 pub mod GoneLemmas
+pub mod HeldLemmas
 pub mod Joining
 pub mod OptionLemmas
 pub mod ShortLemmas

@@ -153,7 +153,7 @@ mark_short : (b : Bool) → length (selected_mark b) ≤ 11
 mark_short true = omega arith
 mark_short false = omega arith
 
-line_short : (name : List ℕ) (size : ℕ) (b : Bool) → length name ≤ 255 → size ≤ 536870912 → IsShortLine (line_text name size b)
+pub line_short : (name : List ℕ) (size : ℕ) (b : Bool) → length name ≤ 255 → size ≤ 536870912 → IsShortLine (line_text name size b)
 line_short name size b named few =
     let digits : length (decimal size) ≤ 9 = length-decimal-le 9 size (omega arith) (omega arith) (omega arith) in
     let end = selected_mark b ++ codes "\n" in

@@ -13,6 +13,28 @@ use Rattle.nb_imagecmd.specs.declared.error.ImageFailure.{ImageFailure}
 use Rattle.nb_imagecmd.specs.declared.error.ImageFailure.TheVariants.{NoScheme, LongPath}
 use Rattle.nb_imagecmd.specs.Failures.{unresolved}
 
+-- the server of a target, its address or its name; the port that it is asked at; what it is asked for; and the URI without its
+-- fragment
+abbrev pub target_host : UriTarget → List ℕ
+target_host (Tftp host port path whole) = host
+target_host (Http host port path whole) = host
+target_host (Iscsi host port lun name whole) = host
+
+abbrev pub target_port : UriTarget → ℕ
+target_port (Tftp host port path whole) = port
+target_port (Http host port path whole) = port
+target_port (Iscsi host port lun name whole) = port
+
+abbrev pub target_path : UriTarget → List ℕ
+target_path (Tftp host port path whole) = path
+target_path (Http host port path whole) = path
+target_path (Iscsi host port lun name whole) = name
+
+abbrev pub target_uri : UriTarget → List ℕ
+target_uri (Tftp host port path whole) = whole
+target_uri (Http host port path whole) = whole
+target_uri (Iscsi host port lun name whole) = whole
+
 -- files are fetched, disks are not
 abbrev pub is_file : UriTarget → Bool
 is_file (Tftp host port path whole) = true

@@ -15,8 +15,8 @@ use Rattle.nb_imagecmd.specs.declared.command_names.ImageCommandName.TheVariants
 use Rattle.nb_imagecmd.specs.declared.command_names.ImageCommandName.TheVariants.{Imgargs, Imgfree, Imgstat}
 use Rattle.nb_imagecmd.specs.declared.commands.ImageCommand.{ImageCommand}
 use Rattle.nb_imagecmd.specs.declared.commands.ImageCommand.TheVariants as command
-use Rattle.nb_imagecmd.specs.declared.error.WordsError.{WordsError}
-use Rattle.nb_imagecmd.specs.declared.error.WordsError.TheVariants.{Unknown, Usage, NoMemory}
+use Rattle.nb_imagecmd.specs.declared.error.PlanError.{PlanError}
+use Rattle.nb_imagecmd.specs.declared.error.PlanError.TheVariants.{Unknown, Usage, NoMemory}
 use Rattle.nb_imagecmd.specs.declared.reading.Source.{Source}
 use Rattle.nb_imagecmd.specs.CommandNames.{image_command_named}
 use Rattle.nb_imagecmd.specs.Options.{OptionsRead, options_read}
@@ -42,18 +42,18 @@ source_with o = if o.autofree || o.replace then None else source_after o.name o.
 abbrev pub source_read : List (List ℕ) → Option SourceRead
 source_read words = option_and_then source_with (options_read words)
 
-abbrev pub fetch_of : Option SourceRead → Result ImageCommand WordsError
+abbrev pub fetch_of : Option SourceRead → Result ImageCommand PlanError
 fetch_of None = Err Usage
 fetch_of (Some s) = Ok (command.Fetch s.name s.uri s.args)
 
-abbrev pub fetch_read : List (List ℕ) → Result ImageCommand WordsError
+abbrev pub fetch_read : List (List ℕ) → Result ImageCommand PlanError
 fetch_read words = fetch_of (source_read words)
 
-abbrev pub select_of : Option SourceRead → Result ImageCommand WordsError
+abbrev pub select_of : Option SourceRead → Result ImageCommand PlanError
 select_of None = Err Usage
 select_of (Some s) = Ok (command.Select s.name s.uri s.args)
 
-abbrev pub select_read : List (List ℕ) → Result ImageCommand WordsError
+abbrev pub select_read : List (List ℕ) → Result ImageCommand PlanError
 select_read words = select_of (source_read words)
 
 -- all options may be given, and there may be no word after them
@@ -61,30 +61,30 @@ abbrev pub exec_after : OptionsRead → List (List ℕ) → ImageCommand
 exec_after o [] = command.Exec o.name o.autofree o.replace None []
 exec_after o (uri ∷ args) = command.Exec o.name o.autofree o.replace (Some uri) args
 
-abbrev pub exec_with : OptionsRead → Result ImageCommand WordsError
+abbrev pub exec_with : OptionsRead → Result ImageCommand PlanError
 exec_with o = Ok (exec_after o o.rest)
 
-abbrev pub exec_of : Option OptionsRead → Result ImageCommand WordsError
+abbrev pub exec_of : Option OptionsRead → Result ImageCommand PlanError
 exec_of None = Err Usage
 exec_of (Some o) = exec_with o
 
-abbrev pub exec_read : List (List ℕ) → Result ImageCommand WordsError
+abbrev pub exec_read : List (List ℕ) → Result ImageCommand PlanError
 exec_read words = exec_of (options_read words)
 
-unfoldable pub imgargs_read : List (List ℕ) → Result ImageCommand WordsError
+unfoldable pub imgargs_read : List (List ℕ) → Result ImageCommand PlanError
 imgargs_read [] = Err Usage
 imgargs_read (name ∷ args) = if is_option name then Err Usage else Ok (command.Imgargs name args)
 
-unfoldable pub imgfree_read : List (List ℕ) → Result ImageCommand WordsError
+unfoldable pub imgfree_read : List (List ℕ) → Result ImageCommand PlanError
 imgfree_read [] = Ok (command.Imgfree [])
 imgfree_read (name ∷ names) = if is_option name then Err Usage else Ok (command.Imgfree (name ∷ names))
 
-unfoldable pub imgstat_read : List (List ℕ) → Result ImageCommand WordsError
+unfoldable pub imgstat_read : List (List ℕ) → Result ImageCommand PlanError
 imgstat_read [] = Ok command.Imgstat
 imgstat_read (word ∷ words) = Err Usage
 
 -- the command of a name with the words after it
-abbrev pub named_read : ImageCommandName → List (List ℕ) → Result ImageCommand WordsError
+abbrev pub named_read : ImageCommandName → List (List ℕ) → Result ImageCommand PlanError
 named_read Imgfetch words = fetch_read words
 named_read Initrd words = fetch_read words
 named_read Module words = fetch_read words
@@ -98,16 +98,16 @@ named_read Imgargs words = imgargs_read words
 named_read Imgfree words = imgfree_read words
 named_read Imgstat words = imgstat_read words
 
-abbrev pub read_where : Option ImageCommandName → List (List ℕ) → Result ImageCommand WordsError
+abbrev pub read_where : Option ImageCommandName → List (List ℕ) → Result ImageCommand PlanError
 read_where None words = Err Unknown
 read_where (Some name) words = named_read name words
 
 -- the command, or why the words are none
-unfoldable pub image_command : List (List ℕ) → Result ImageCommand WordsError
+unfoldable pub image_command : List (List ℕ) → Result ImageCommand PlanError
 image_command [] = Err Unknown
 image_command (name ∷ words) = read_where (image_command_named name) words
 
 -- the answer is the one expected, unless memory ran out
-abbrev pub ReadsAs : Result ImageCommand WordsError → Result ImageCommand WordsError → Type 0
+abbrev pub ReadsAs : Result ImageCommand PlanError → Result ImageCommand PlanError → Type 0
 ReadsAs result expected =
     MatchResult result (λ command. expected ≡ Ok command) (λ why. (why ≡ NoMemory) ⊎ (expected ≡ Err why))

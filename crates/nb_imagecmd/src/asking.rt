@@ -71,7 +71,7 @@ pub(crate) fn asked_file(
     Ok(Asking {
         target,
         name,
-        args: joined(alloc, args.as_slice())?,
+        args: Text::from_vec(joined(alloc, args.as_slice())?),
         after,
     })
 }

@@ -8,13 +8,15 @@ use nb_terms::NoMemory;
 use nb_wire::{Text, Word, Words};
 use std::alloc::Global;
 
-pub(crate) fn copy_text(alloc: Global, bytes: &[u8]) -> Result<Text, NoMemory>
+/// A copy of a text.
+pub fn copy_text(alloc: Global, bytes: &[u8]) -> Result<Text, NoMemory>
     ensures { IfOk result (λ text. text ≡ bytes.now) }
 {
     Ok(Text::from_vec(Vec::from_slice(alloc, bytes)?))
 }
 
-pub(crate) fn copy_word(alloc: Global, word: &Word) -> Result<Word, NoMemory>
+/// A copy of a word.
+pub fn copy_word(alloc: Global, word: &Word) -> Result<Word, NoMemory>
     ensures { IfOk result (λ copy. copy ≡ word.now) }
 {
     Ok(Word::from_vec(Vec::from_slice(alloc, word.as_slice())?))
@@ -30,7 +32,8 @@ pub(crate) fn copy_given(alloc: Global, word: Option<&Word>) -> Result<Option<Wo
     }
 }
 
-pub(crate) fn copy_words(alloc: Global, words: &[Word]) -> Result<Words, NoMemory>
+/// Copies of words.
+pub fn copy_words(alloc: Global, words: &[Word]) -> Result<Words, NoMemory>
     ensures { IfOk result (λ copy. copy ≡ words.now) }
 {
     let mut list = Vec::new(alloc);
@@ -54,13 +57,13 @@ fn push_spaced(text: &mut Vec<u8>, words: &[Word]) -> Result<(), NoMemory>
 
 /// The words, one space between each two.
 #[tactic(auto, using(crate::proofs::Joining::join_spaced))]
-pub(crate) fn joined(alloc: Global, words: &[Word]) -> Result<Text, NoMemory>
-    ensures { IfOk result (λ text. text ≡ join_with_byte 32 words.now) }
+pub fn joined(alloc: Global, words: &[Word]) -> Result<Vec<u8>, NoMemory>
+    ensures { IfOk result (λ text. text.items ≡ join_with_byte 32 words.now) }
 {
     let Some((first, others)) = words.split_first() else {
-        return Ok(Text::from_vec(Vec::new(alloc)));
+        return Ok(Vec::new(alloc));
     };
     let mut text = Vec::from_slice(alloc, first.as_slice())?;
     push_spaced(&mut text, others)?;
-    Ok(Text::from_vec(text))
+    Ok(text)
 }

@@ -2,17 +2,17 @@
 
 ghost use Rattle.std.specs.Prelude.{◌≡◌};
 ghost use Rattle.nb_imagecmd.specs.Failures.{image_cause, unresolved, unlisted};
-ghost use Rattle.nb_imagecmd.specs.declared.error.WordsError.TheVariants as words_error;
+ghost use Rattle.nb_imagecmd.specs.declared.error.PlanError.TheVariants as plan_error;
 ghost use Rattle.nb_imagecmd.specs.declared.error.ImageFailure.TheVariants as failure;
 
 use nb_image::ImageError;
 use nb_terms::{Cause, Large, Long, Many, NoMemory, Plain, Reason};
 use nb_uri::UriError;
 
-/// Why words are no image command.
+/// Why words are no command.
 #[derive(Clone, Copy, Debug, PartialEq, Eq)]
-pub enum WordsError {
-    /// There is no image command of that name.
+pub enum PlanError {
+    /// There is no command of that name.
     Unknown,
     /// The words don't fit the command.
     Usage,
@@ -20,11 +20,11 @@ pub enum WordsError {
     NoMemory,
 }
 
-impl From<NoMemory> for WordsError {
-    ghost from_gives = { λ _ e. e ≡ words_error.NoMemory };
+impl From<NoMemory> for PlanError {
+    ghost from_gives = { λ _ e. e ≡ plan_error.NoMemory };
 
-    fn from(_: NoMemory) -> WordsError {
-        WordsError::NoMemory
+    fn from(_: NoMemory) -> PlanError {
+        PlanError::NoMemory
     }
 }
 

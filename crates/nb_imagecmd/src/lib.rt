@@ -25,10 +25,12 @@ pub use arriving::{Arrival, arrive};
 pub use asking::{After, Asking, MAX_NAME, MAX_PATH};
 pub use carrying_out::carry_out;
 pub use commands::ImageCommand;
-pub use error::{ImageFailure, WordsError};
+pub use copies::{copy_text, copy_word, copy_words, joined};
+pub use error::{ImageFailure, PlanError};
 pub use executing::take_script;
 pub use laws::{
-    fetched_images_are_booted, freed_names_are_gone, named_images_are_booted, names_stay_short,
+    arguments_are_short, fetched_images_are_booted, freed_names_are_gone,
+    lists_hold_what_was_fetched, named_images_are_booted, names_stay_short,
     printed_lines_are_short, spelled_options_are_read,
 };
 pub use outcome::{ImageOutcome, ScriptImage};

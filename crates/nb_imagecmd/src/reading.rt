@@ -11,22 +11,22 @@ ghost use Rattle.nb_imagecmd.specs.declared.commands.ImageCommand.TheVariants as
 use crate::command_names::ImageCommandName;
 use crate::copies::{copy_given, copy_word, copy_words};
 use crate::options::{Options, is_option, read_options};
-use crate::{ImageCommand, WordsError};
+use crate::{ImageCommand, PlanError};
 use nb_wire::Word;
 use std::alloc::Global;
 
 /// The image command that words say, its name first. They are expanded already.
 #[tactic(auto, unfolding(crate::specs::Reading::image_command))]
-pub fn read_command(alloc: Global, words: &[Word]) -> Result<ImageCommand, WordsError>
+pub fn read_command(alloc: Global, words: &[Word]) -> Result<ImageCommand, PlanError>
     // What it is, or which of the two refusals, as one equation.
     ensures { ReadsAs result (image_command words.now) }
 {
     let Some((name, args)) = words.split_first() else {
-        return Err(WordsError::Unknown);
+        return Err(PlanError::Unknown);
     };
     match ImageCommandName::named(name.as_slice()) {
         Some(command) => read_named(alloc, command, args),
-        None => Err(WordsError::Unknown),
+        None => Err(PlanError::Unknown),
     }
 }
 
@@ -35,7 +35,7 @@ fn read_named(
     alloc: Global,
     command: ImageCommandName,
     args: &[Word],
-) -> Result<ImageCommand, WordsError>
+) -> Result<ImageCommand, PlanError>
     ensures { ReadsAs result (named_read command args.now) }
 {
     match command {
@@ -77,7 +77,7 @@ fn read_source(words: &[Word]) -> Option<Source<'_>>
     })
 }
 
-fn read_fetch(alloc: Global, args: &[Word]) -> Result<ImageCommand, WordsError>
+fn read_fetch(alloc: Global, args: &[Word]) -> Result<ImageCommand, PlanError>
     ensures { ReadsAs result (fetch_read args.now) }
 {
     match read_source(args) {
@@ -86,11 +86,11 @@ fn read_fetch(alloc: Global, args: &[Word]) -> Result<ImageCommand, WordsError>
             uri: copy_word(alloc, source.uri)?,
             args: copy_words(alloc, source.args)?,
         }),
-        None => Err(WordsError::Usage),
+        None => Err(PlanError::Usage),
     }
 }
 
-fn read_select(alloc: Global, args: &[Word]) -> Result<ImageCommand, WordsError>
+fn read_select(alloc: Global, args: &[Word]) -> Result<ImageCommand, PlanError>
     ensures { ReadsAs result (select_read args.now) }
 {
     match read_source(args) {
@@ -99,21 +99,21 @@ fn read_select(alloc: Global, args: &[Word]) -> Result<ImageCommand, WordsError>
             uri: copy_word(alloc, source.uri)?,
             args: copy_words(alloc, source.args)?,
         }),
-        None => Err(WordsError::Usage),
+        None => Err(PlanError::Usage),
     }
 }
 
-fn read_exec(alloc: Global, args: &[Word]) -> Result<ImageCommand, WordsError>
+fn read_exec(alloc: Global, args: &[Word]) -> Result<ImageCommand, PlanError>
     ensures { ReadsAs result (exec_read args.now) }
 {
     match read_options(args) {
         Some(options) => exec(alloc, options),
-        None => Err(WordsError::Usage),
+        None => Err(PlanError::Usage),
     }
 }
 
 /// What is executed, after these options.
-fn exec(alloc: Global, options: Options<'_>) -> Result<ImageCommand, WordsError>
+fn exec(alloc: Global, options: Options<'_>) -> Result<ImageCommand, PlanError>
     ensures { ReadsAs result (exec_with (shown_options options.entry)) }
 {
     match options.rest {
@@ -127,7 +127,7 @@ fn exec_uri(
     options: Options<'_>,
     uri: Option<&Word>,
     args: &[Word],
-) -> Result<ImageCommand, WordsError>
+) -> Result<ImageCommand, PlanError>
     ensures { ReadsAs result (Ok (command.Exec (option_copied options.entry.name) options.entry.autofree
         options.entry.replace (option_copied uri.entry) args.now)) }
 {
@@ -141,7 +141,7 @@ fn exec_uri(
 }
 
 #[tactic(auto, unfolding(crate::specs::Reading::imgargs_read))]
-fn read_imgargs(alloc: Global, args: &[Word]) -> Result<ImageCommand, WordsError>
+fn read_imgargs(alloc: Global, args: &[Word]) -> Result<ImageCommand, PlanError>
     ensures { ReadsAs result (imgargs_read args.now) }
 {
     match args {
@@ -149,26 +149,26 @@ fn read_imgargs(alloc: Global, args: &[Word]) -> Result<ImageCommand, WordsError
             name: copy_word(alloc, name)?,
             args: copy_words(alloc, others)?,
         }),
-        _ => Err(WordsError::Usage),
+        _ => Err(PlanError::Usage),
     }
 }
 
 #[tactic(auto, unfolding(crate::specs::Reading::imgfree_read))]
-fn read_imgfree(alloc: Global, args: &[Word]) -> Result<ImageCommand, WordsError>
+fn read_imgfree(alloc: Global, args: &[Word]) -> Result<ImageCommand, PlanError>
     ensures { ReadsAs result (imgfree_read args.now) }
 {
     match args {
-        [name, ..] if is_option(name) => Err(WordsError::Usage),
+        [name, ..] if is_option(name) => Err(PlanError::Usage),
         _ => Ok(ImageCommand::Imgfree(copy_words(alloc, args)?)),
     }
 }
 
 #[tactic(auto, unfolding(crate::specs::Reading::imgstat_read))]
-fn read_imgstat(args: &[Word]) -> Result<ImageCommand, WordsError>
+fn read_imgstat(args: &[Word]) -> Result<ImageCommand, PlanError>
     ensures { ReadsAs result (imgstat_read args.now) }
 {
     match args {
         [] => Ok(ImageCommand::Imgstat),
-        _ => Err(WordsError::Usage),
+        _ => Err(PlanError::Usage),
     }
 }

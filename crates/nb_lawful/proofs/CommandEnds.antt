@@ -21,14 +21,15 @@ use Rattle.nb_laws.specs.CommandsSoFar.{so_far}
 use Rattle.nb_laws.specs.Agreement.{AgreesScript}
 use Rattle.nb_openlaws.specs.Standings.{live_opening, heard_call, heard_calls}
 use Rattle.nb_lawful.specs.CommandOpens.{command_open, command_end, over_of}
-use Rattle.nb_lawful.specs.ScriptAgreement.{SettingsAre, HasImages}
+use Rattle.nb_lawful.specs.ScriptAgreement.{SettingsAre, HasImages, NoneLeft}
 use Rattle.nb_lawful.proofs.Awaited.{its}
 
 -- the command's open has ended with this cause, and its command has no result yet
-pub record HasEnded (es : List Event) (outs : List Out) (s : State) (inner : Running) (l : Live) (cause : Cause) : Type 0 where
-  pub script : AgreesScript es inner
+pub record HasEnded (es : List Event) (outs : List Out) (s : State) (inner : Running) (outer : List Running) (l : Live) (cause : Cause) : Type 0 where
+  pub script : AgreesScript es inner outer
   pub settings : SettingsAre (so_far es) s true
   pub images : HasImages es outs s
+  pub none_left : NoneLeft es
   pub number : made es - 1 ≡ l.number
   pub its_end : command_open es ≡ its l.number (Some cause)
   pub last : last_end es ≡ Some cause
@@ -36,8 +37,8 @@ pub record HasEnded (es : List Event) (outs : List Out) (s : State) (inner : Run
   pub received : calls l.number es ≡ heard_calls l.kind l.exchanges
   pub answered : is_ok_cause cause ≡ has_its_answer l.number (live_opening l) es
 
-pub ends_with : (es : List Event) (outs : List Out) (s : State) (inner : Running) (l : Live) (cause : Cause) → HasEnded es outs s inner l cause → command_end es ≡ Some cause
-ends_with es outs s inner l cause h = ap over_of h.its_end
+pub ends_with : (es : List Event) (outs : List Out) (s : State) (inner : Running) (outer : List Running) (l : Live) (cause : Cause) → HasEnded es outs s inner outer l cause → command_end es ≡ Some cause
+ends_with es outs s inner outer l cause h = ap over_of h.its_end
 
 -- WHAT IT HEARD
 

@@ -1,199 +1,171 @@
--- A command that fetches a file is over: the settings and the images then, and the hand-off of the image that it boots.
-use Rattle.std.proofs.Common.{◌≡◌, ℕ, ◌-◌, ◌&&◌, Bool, true, false, cond, List, [], ◌∷◌, ◌++◌, length, Option, Some, None, refl, sym, ◌∙◌, ap, subst, append_assoc}
-use Rattle.std.specs.Prelude.{unwrap_or}
-use Rattle.std.proofs.lemmas.List.Sums.{fold-append}
+-- The open of a command that fetches a file has ended: what the history says that comes of it.
+use Rattle.std.proofs.Common.{◌≡◌, ℕ, ◌-◌, ◌==◌, ◌&&◌, Bool, true, false, cond, length, List, ◌++◌, Option, Some, None, Ok, Err, refl, sym, ◌∙◌, ap, subst}
+use Rattle.std.specs.Prelude.{find}
+use Rattle.std.specs.List.{flat_map}
+use Rattle.std.specs.Option.{option_and_then}
+use Rattle.std.specs.Str.{bytes_eq}
+use Rattle.std.proofs.lemmas.Slice.Eq.{bytes_eq-Decides}
 use Rattle.nb_terms.specs.declared.cause.Cause.{Cause}
 use Rattle.nb_defs.specs.Causes.{ok, is_ok_cause}
-use Rattle.nb_defs.specs.Records.{Out, result}
-use Rattle.nb_tftp.specs.Blocks.{is_whole}
-use Rattle.nb_image.specs.declared.image.Image.{Image}
-use Rattle.nb_image.specs.declared.error.ImageError.{ImageError}
-use Rattle.nb_image.specs.declared.error.ImageError.TheVariants as error
-use Rattle.nb_image.specs.Images.{ImageList, with_image, image_place, refusal}
-use Rattle.nb_image.specs.Kinds.{kind_of}
-use Rattle.nb_machine.specs.Conclusions.{Conclusion, keeps, fails, boots, conclusion, stored, taken_in, selected_in, place_for, is_bootable, not_bootable, cause_of_error, conclusion_records, handoff_records}
-use Rattle.nb_machine.specs.Effects.{Effect, asks, inquires, shown_as, words_table}
+use Rattle.nb_defs.specs.Records.{Out}
+use Rattle.nb_tftp.specs.Blocks.{file, is_whole}
+use Rattle.nb_tftp.specs.History.{received_by}
+use Rattle.nb_image.specs.Images.{ImageList}
+use Rattle.nb_imagecmd.specs.declared.arriving.Arrival.TheVariants as arrival
+use Rattle.nb_imagecmd.specs.Arriving.{ArrivalAnswer, arrived}
+use Rattle.nb_imagecmd.specs.Asking.{target_port, target_path, target_uri}
+use Rattle.nb_machine.specs.Conclusions.{Conclusion, tells, fails, file_conclusion, conclusion, conclusion_records}
+use Rattle.nb_machine.specs.Effects.{asks, inquires}
 use Rattle.nb_machine.specs.Errands.{Wanted, fetches_then}
 use Rattle.nb_machine.specs.Queries.{for_host}
-use Rattle.nb_machine.specs.Running.{Running, with_result}
-use Rattle.nb_machine.specs.CommandRecords.{stopped_cause}
-use Rattle.nb_runner.proofs.CommandLaws.{KeepsTable, keeps_words}
-use Rattle.nb_machine.specs.Lives.{Live}
-use Rattle.nb_machine.specs.States.{State, with_images}
+use Rattle.nb_machine.specs.Running.{Running}
+use Rattle.nb_machine.specs.Lives.{tftp, kind_number, Live}
+use Rattle.nb_machine.specs.Kinds.{fetched, fetched_by}
+use Rattle.nb_machine.specs.States.{State}
 use Rattle.nb_machine.specs.Courses.{Standing, ConclusionLeads}
-use Rattle.nb_laws.specs.Events.{Event, puts, EachEvent}
-use Rattle.nb_laws.specs.Lists.{made, datagrams_of, came_ok, last_end}
-use Rattle.nb_laws.specs.CommandsSoFar.{CommandsSoFar, so_far, shown_effect, shown_table, shown_query, query_in, left_table}
-use Rattle.nb_laws.specs.HandOff.{last_image, images_brought, image_list}
-use Rattle.nb_laws.proofs.Tellings.{told}
-use Rattle.nb_laws.proofs.Asides.{silent_handoff}
-use Rattle.nb_laws.proofs.Commands.{script_as, script_told}
-use Rattle.nb_laws.proofs.HandOffs.{brought_more, one_keeps, parts_more, failed_image}
-use Rattle.nb_laws.proofs.Inquiries.{IsFetch, fetches_at_once, fetches_of_host, fetch_of, shown_inquiry_keeps}
-use Rattle.nb_laws.proofs.SoFar.{over_so_far, left_unasked, left_by_host, result_so_far}
-use Rattle.nb_openlaws.specs.Standings.{live_opening}
-use Rattle.nb_openlaws.proofs.Puts.{close_ends}
-use Rattle.nb_lawful.specs.Results.{CommandsSo}
-use Rattle.nb_lawful.specs.ScriptAgreement.{SettingsAre, FetchesWith}
-use Rattle.nb_lawful.proofs.Quiet.{quiet_so_far, quiet_images, quiet_parts, quiet_commands, ends_quiet, ends_silent}
+use Rattle.nb_laws.specs.Cores.{answers_open}
+use Rattle.nb_laws.specs.CommandsSoFar.{CommandsSoFar, so_far, shown_table, shown_query, left_table, comes_by, concluded_in, wanted_so_far, arrived_so_far, concluded_by_open, conclusion_so_far, GivesCause}
+use Rattle.nb_laws.specs.Events.{Event}
+use Rattle.nb_laws.specs.Lists.{Opening, openings, opens_file, made, hardware, datagrams_of, calls, came_ok, last_end}
+use Rattle.nb_laws.specs.Wanting.{wanted_by, is_open_of}
+use Rattle.nb_laws.proofs.Inquiries.{IsFetch, fetches_at_once, fetches_of_host, fetch_of}
+use Rattle.nb_laws.proofs.Settling.{comes_keeps, concludes_same, query_of_file}
+use Rattle.nb_laws.proofs.SoFar.{left_unasked, left_by_host, concludes_at_once_so}
+use Rattle.nb_laws.proofs.Tellings.{same_number}
+use Rattle.nb_openlaws.specs.Standings.{live_opening, heard_calls}
+use Rattle.nb_lawful.specs.CommandOpens.{command_end}
+use Rattle.nb_lawful.specs.Results.{GivesResult, by_failed_end, by_file, HasEndedOpens}
+use Rattle.nb_lawful.specs.ScriptAgreement.{FetchesWith}
+use Rattle.nb_lawful.proofs.Begun.{depth_is}
 use Rattle.nb_lawful.proofs.AtOnce.{Goes}
-use Rattle.nb_lawful.proofs.CommandEnds.{HasEnded}
-use Rattle.nb_lawful.proofs.Fetched.{fetched_image, image_is, whole_is, boots_file, conclusion_stands}
+use Rattle.nb_lawful.proofs.CommandEnds.{HasEnded, ends_with, file_heard}
+use Rattle.nb_lawful.proofs.Fits.{Fits, conclusion_fits}
+use Rattle.nb_lawful.proofs.Leading.{ConcludedSo, concluded_so, failed_so, Concluding, conclusion_goes}
 
--- THE SETTINGS
+-- WHAT HAS COME
 
--- a command that fetched a file has found nothing for the settings
-file_left : (before : List Event) (m : CommandsSoFar) (l : Live) (wanted : Wanted) → made before - 1 ≡ l.number → FetchesWith m l wanted → left_table before m.table m.shown ≡ shown_table m.table m.shown
-file_left before m l wanted number f = by (fetch_of (shown_effect l.number m.table f.shown) (live_opening l) wanted f.asked)
+asks_its_file : (m : CommandsSoFar) (l : Live) (wanted : Wanted) → FetchesWith m l wanted → is_open_of wanted (live_opening l) ≡ true
+asks_its_file m l wanted f =
+    let server = wanted.server in
+    let port = target_port wanted.asking.target in
+    let path = target_path wanted.asking.target in
+    ap (λ n. (n == server) && ((l.port == port) && bytes_eq l.target path)) f.server_is
+    ∙ ap (λ n. (server == server) && ((n == port) && bytes_eq l.target path)) f.port_is
+    ∙ ap (λ b. b && ((port == port) && bytes_eq l.target path)) (same_number server)
+    ∙ ap (λ b. b && bytes_eq l.target path) (same_number port)
+    ∙ (bytes_eq-Decides l.target path).1 f.target_is
+
+-- its bytes are those that the history says came
+body_is : (es : List Event) (l : Live) → l.kind ≡ tftp → calls l.number es ≡ heard_calls l.kind l.exchanges → file (datagrams_of l.number es) ≡ fetched l
+body_is es l kind received =
+    ap (λ z. file (flat_map received_by z)) received ∙ ap (λ k. file (flat_map received_by (heard_calls k l.exchanges))) kind ∙ ap file (file_heard l.exchanges)
+    ∙ sym (ap (λ k. fetched_by k l.exchanges) kind)
+
+whole_is : (es : List Event) (outs : List Out) (s : State) (inner : Running) (outer : List Running) (l : Live) (cause : Cause) (wanted : Wanted) → HasEnded es outs s inner outer l cause → FetchesWith (so_far es) l wanted →
+    is_ok_cause cause ≡ is_whole (datagrams_of l.number es)
+whole_is es outs s inner outer l cause wanted h f =
+    h.answered ∙ ap (λ k. answers_open (hardware es) l.number (record { kind = kind_number k; server = l.server; port = l.port; own = l.own; target = l.target; since = l.since }) (datagrams_of l.number es)) f.kind_is
+
+-- what comes of it, by the history
+brings : ℕ → List Event → CommandsSoFar → Opening → Option Conclusion
+brings n es m o = option_and_then (arrived_so_far (datagrams_of n es) m o) (wanted_so_far n m o)
+
+open_concludes : (es : List Event) (outs : List Out) (s : State) (inner : Running) (outer : List Running) (l : Live) (cause : Cause) (wanted : Wanted) → HasEnded es outs s inner outer l cause → FetchesWith (so_far es) l wanted → is_ok_cause cause ≡ true →
+    concluded_by_open es (so_far es) ≡ Some (conclusion ok wanted.asking (fetched l) inner.depth s.images)
+unfolding brings
+open_concludes es outs s inner outer l cause wanted h f well =
+    let m = so_far es in
+    let o = live_opening l in
+    let ds = datagrams_of l.number es in
+    ap (λ n. option_and_then (brings n es m) (find opens_file (openings n es))) h.number
+    ∙ ap (λ os. option_and_then (brings l.number es m) (find opens_file os)) h.opening
+    ∙ ap (λ k. option_and_then (brings l.number es m) (cond (kind_number k == 1) (Some o) None)) f.kind_is
+    ∙ ap (λ x. option_and_then (arrived_so_far ds m o) (option_and_then (λ shown. wanted_by (comes_by l.number m shown) o) x)) f.said
+    ∙ ap (λ x. option_and_then (arrived_so_far ds m o) x) f.asked
+    ∙ ap (λ b. cond (b && is_whole ds) (Some (conclusion ok wanted.asking (file ds) (length m.scripts) m.images)) None) (asks_its_file m l wanted f)
+    ∙ ap (λ b. cond b (Some (conclusion ok wanted.asking (file ds) (length m.scripts) m.images)) None) (sym (whole_is es outs s inner outer l cause wanted h f) ∙ well)
+    ∙ ap (λ body. Some (conclusion ok wanted.asking body (length m.scripts) m.images)) (body_is es l f.kind_is h.received)
+    ∙ ap (λ d. Some (conclusion ok wanted.asking (fetched l) d m.images)) (depth_is es inner outer h.script)
+    ∙ ap (λ list. Some (conclusion ok wanted.asking (fetched l) inner.depth list)) h.images.list
+
+-- WHAT IT LEAVES
+
+pub concluding_file : (es : List Event) (outs : List Out) (s : State) (inner : Running) (outer : List Running) (l : Live) (cause : Cause) (wanted : Wanted) → HasEnded es outs s inner outer l cause → FetchesWith (so_far es) l wanted →
+    Concluding es outs s inner outer (conclusion cause wanted.asking (fetched l) inner.depth s.images)
+concluding_file es outs s inner outer l cause wanted h f = record {
+  script = h.script;
+  settings = h.settings;
+  images = h.images;
+  none_left = h.none_left;
+  concluded = concluded (is_ok_cause cause) refl;
+  keeps_table = ap (shown_table m.table) f.said ∙ keeps_by fetch;
+  leaves_table = leaves_by fetch;
+  holds = holds (is_ok_cause cause) refl;
+  ended = subst HasEndedOpens (sym h.its_end) (cause, refl);
+  fits = subst (λ d. Fits d (conclusion cause wanted.asking (fetched l) inner.depth s.images)) (sym (depth_is es inner outer h.script)) (conclusion_fits cause wanted.asking (fetched l) inner.depth s.images);
+}
   where
-    query : (e : Effect) → shown_effect l.number m.table f.shown ≡ e → shown_query (made before - 1) m.table m.shown ≡ query_in e
-    query e is = ap (shown_query (made before - 1) m.table) f.said ∙ ap (λ n. query_in (shown_effect n m.table f.shown)) number ∙ ap query_in is
+    m : CommandsSoFar
+    m = so_far es
 
-    by : IsFetch (shown_effect l.number m.table f.shown) (live_opening l) wanted → left_table before m.table m.shown ≡ shown_table m.table m.shown
-    by (fetches_at_once is) = left_unasked before m.table m.shown (query (asks wanted) is)
-    by (fetches_of_host file name server is same) = left_by_host before m.table m.shown (fetches_then file) name server (query (inquires (for_host (fetches_then file) name server)) is)
+    fetch : IsFetch (comes_by l.number (so_far es) f.shown) (live_opening l) wanted
+    fetch = fetch_of (comes_by l.number (so_far es) f.shown) (live_opening l) wanted f.asked
 
--- it leaves them as they were
-fetch_keeps : (m : CommandsSoFar) (l : Live) (wanted : Wanted) → FetchesWith m l wanted → shown_table m.table m.shown ≡ m.table
-fetch_keeps m l wanted f = ap (shown_table m.table) f.said ∙ by (fetch_of (shown_effect l.number m.table f.shown) (live_opening l) wanted f.asked)
-  where
-    at_once : (expanded : Bool) (ws : List (List ℕ)) → shown_effect l.number m.table (shown_as expanded ws) ≡ asks wanted → shown_table m.table (Some (shown_as expanded ws)) ≡ m.table
-    at_once true ws e = subst (λ x. KeepsTable x m.table (words_table m.table ws)) e (keeps_words l.number m.table ws)
-    at_once false ws e = refl
+    came : came_ok (last_end es) ≡ is_ok_cause cause
+    came = ap came_ok h.last
 
-    by : IsFetch (shown_effect l.number m.table f.shown) (live_opening l) wanted → shown_table m.table (Some f.shown) ≡ m.table
-    by (fetches_at_once is) = at_once f.shown.expanded f.shown.words is
-    by (fetches_of_host file name server is same) = shown_inquiry_keeps l.number m.table f.shown (for_host (fetches_then file) name server) is
+    concludes_none : IsFetch (comes_by l.number (so_far es) f.shown) (live_opening l) wanted → concluded_in (comes_by l.number (so_far es) f.shown) ≡ None
+    concludes_none (fetches_at_once is) = ap concluded_in is
+    concludes_none (fetches_of_host asking name server is same) = ap concluded_in is
 
-over_is : (es : List Event) (outs : List Out) (s : State) (inner : Running) (l : Live) (c : Cause) (wanted : Wanted) (cause : Cause) → HasEnded es outs s inner l c → FetchesWith (so_far es) l wanted →
-    so_far (es ++ puts (result cause) ∷ []) ≡ over_so_far (so_far es)
-over_is es outs s inner l c wanted cause h f = result_so_far es cause (file_left es (so_far es) l wanted h.number f)
+    keeps_by : IsFetch (comes_by l.number (so_far es) f.shown) (live_opening l) wanted → shown_table (so_far es).table (Some f.shown) ≡ (so_far es).table
+    keeps_by (fetches_at_once is) = comes_keeps l.number (so_far es) f.shown (asks wanted) is tt
+    keeps_by (fetches_of_host asking name server is same) = comes_keeps l.number (so_far es) f.shown (inquires (for_host (fetches_then asking) name server)) is tt
 
-settings_over : (es : List Event) (outs : List Out) (s s' : State) (inner : Running) (l : Live) (c : Cause) (wanted : Wanted) (cause : Cause) → HasEnded es outs s inner l c → FetchesWith (so_far es) l wanted →
-    s'.table ≡ s.table → s'.up ≡ s.up → s'.now ≡ s.now → SettingsAre (so_far (es ++ puts (result cause) ∷ [])) s' false
-settings_over es outs s s' inner l c wanted cause h f table up now =
-    subst (λ m. SettingsAre m s' false) (sym (over_is es outs s inner l c wanted cause h f))
-    (record { table = fetch_keeps (so_far es) l wanted f ∙ h.settings.table ∙ sym table; up = h.settings.up ∙ sym up; now = h.settings.now ∙ sym now; is_open = refl })
+    leaves_by : IsFetch (comes_by l.number (so_far es) f.shown) (live_opening l) wanted → left_table es (so_far es).table (so_far es).shown ≡ shown_table (so_far es).table (so_far es).shown
+    leaves_by (fetches_at_once is) = left_unasked es (so_far es).table (so_far es).shown (ap (shown_query (made es - 1) (so_far es).table) f.said ∙ query_of_file l.number (made es - 1) (so_far es) f.shown (asks wanted) is tt refl)
+    leaves_by (fetches_of_host asking name server is same) =
+        left_by_host es (so_far es) f.shown (fetches_then asking) name server f.said (ap (λ n. comes_by n (so_far es) f.shown) h.number ∙ is)
 
--- THE IMAGES
+    at : (b : Bool) → is_ok_cause cause ≡ b → conclusion cause wanted.asking (fetched l) inner.depth s.images ≡ cond b (conclusion ok wanted.asking (fetched l) inner.depth s.images) (fails cause)
+    at true well = ap (λ b. cond b (file_conclusion (arrived wanted.asking (fetched l) (target_uri wanted.asking.target) inner.depth s.images)) (fails cause)) well
+    at false bad = ap (λ b. cond b (file_conclusion (arrived wanted.asking (fetched l) (target_uri wanted.asking.target) inner.depth s.images)) (fails cause)) bad
 
--- what a conclusion does to the list
-IsAfter : Cause → Bool → Image → ImageList → Conclusion → Type 0
-IsAfter cause booting image list (keeps new) = (is_ok_cause cause ≡ true) × (new.images ≡ with_image image list.images)
-IsAfter cause booting image list (fails c) = is_ok_cause c ≡ false
-IsAfter cause booting image list (boots new kernel) =
-    (is_ok_cause cause ≡ true) × (new.images ≡ with_image image list.images) × (kernel ≡ place_for image list) × (booting ≡ true)
+    by_open : is_ok_cause cause ≡ true → concluded_by_open es (so_far es) ≡ Some (conclusion cause wanted.asking (fetched l) inner.depth s.images)
+    by_open well = open_concludes es outs s inner outer l cause wanted h f well ∙ ap (λ z. Some z) (sym (at true well))
 
-taken_after : (c : Cause) (booting : Bool) (image : Image) (list : ImageList) → is_ok_cause c ≡ true → IsAfter c booting image list (taken_in booting image list)
-unfolding IsAfter
-taken_after c false image list e = (e, refl)
-taken_after c true image list e = by (is_bootable (kind_of image.body))
-  where
-    by : (b : Bool) → IsAfter c true image list (cond b (boots (selected_in image list) (place_for image list)) (fails not_bootable))
-    by true = (e, refl, refl, refl)
-    by false = refl
+    concluded : (b : Bool) → is_ok_cause cause ≡ b → ConcludedSo (conclusion_so_far (last_end es) es (so_far es)) (conclusion cause wanted.asking (fetched l) inner.depth s.images)
+    concluded true well = concluded_so (ap (λ b. cond b (concluded_by_open es (so_far es)) (option_and_then (λ shown. concluded_in (comes_by (made es) (so_far es) shown)) (so_far es).shown)) (came ∙ well) ∙ by_open well)
+    concluded false bad = failed_so cause (at false bad) (concludes_at_once_so es (so_far es) f.shown (came ∙ bad) f.said ∙ concludes_same (made es) l.number (so_far es) f.shown ∙ concludes_none fetch)
 
-error_fails : (e : ImageError) → is_ok_cause (cause_of_error e) ≡ false
-error_fails error.TooMany = refl
-error_fails error.TooLarge = refl
-error_fails error.NoMemory = refl
+    ended : command_end es ≡ Some cause
+    ended = ends_with es outs s inner outer l cause h
 
-stored_after : (c : Cause) (x : Option ImageError) (booting : Bool) (image : Image) (list : ImageList) → is_ok_cause c ≡ true → IsAfter c booting image list (stored x booting image list)
-unfolding IsAfter
-stored_after c (Some x) booting image list e = error_fails x
-stored_after c None booting image list e = taken_after c booting image list e
+    holds : (b : Bool) → is_ok_cause cause ≡ b → (given : Cause) → GivesCause (conclusion cause wanted.asking (fetched l) inner.depth s.images) given → GivesResult es given
+    holds true well given gives = by_file (conclusion cause wanted.asking (fetched l) inner.depth s.images) (ap came_ok ended ∙ well) (by_open well) gives
+    holds false bad given gives =
+        let same : given ≡ cause = subst (λ c. GivesCause c given) (at false bad) gives in
+        subst (GivesResult es) (sym same) (by_failed_end ended bad)
 
-conclusion_after : (c : Cause) (booting : Bool) (image : Image) (list : ImageList) → IsAfter c booting image list (conclusion c booting image list)
-unfolding IsAfter
-conclusion_after c booting image list = by (is_ok_cause c) refl
-  where
-    by : (b : Bool) → is_ok_cause c ≡ b → IsAfter c booting image list (cond b (stored (refusal image list.images) booting image list) (fails c))
-    by true e = stored_after c (refusal image list.images) booting image list e
-    by false e = e
+-- A FILE TELLS NOTHING
 
-listed_more : (images : List Image) (image : Image) → image_list (images ++ image ∷ []) ≡ with_image image (image_list images)
-listed_more images image = fold-append (λ (list : List Image) (i : Image). with_image i list) [] images (image ∷ [])
+-- it prints nothing
+abbrev TellsNone : Conclusion → Type 0
+TellsNone c = (list : ImageList) (lines : List (List ℕ)) → c ≡ tells list lines → ⊥
 
--- RESULT Ok after an end that was Ok brings the open's image
-result_brings : (es : List Event) (cause : Cause) (image : Image) → last_end es ≡ Some cause → is_ok_cause cause ≡ true → is_whole (datagrams_of (made es - 1) es) ≡ true → last_image es ≡ image ∷ [] → images_brought (es ++ puts (result ok) ∷ []) ≡ images_brought es ++ image ∷ []
-result_brings es cause image end is whole last =
-    brought_more es (puts (result ok)) ∙ ap (λ z. images_brought es ++ cond (came_ok z && is_whole (datagrams_of (made es - 1) es)) (last_image es) []) end
-    ∙ ap (λ b. images_brought es ++ cond (b && is_whole (datagrams_of (made es - 1) es)) (last_image es) []) is ∙ ap (λ b. images_brought es ++ cond b (last_image es) []) whole ∙ ap (λ z. images_brought es ++ z) last
+file_tells : (r : ArrivalAnswer) → TellsNone (file_conclusion r)
+file_tells (Ok (arrival.Kept, list)) = λ l x e. absurd (cc e)
+file_tells (Ok (arrival.Run script replace, list)) = λ l x e. absurd (cc e)
+file_tells (Ok (arrival.Boot, list)) = λ l x e. absurd (cc e)
+file_tells (Err why) = λ l x e. absurd (cc e)
 
--- only what is to be booted is
-pub booted_after : (cause : Cause) (booting : Bool) (image : Image) (list new : ImageList) (kernel : ℕ) → conclusion cause booting image list ≡ boots new kernel → booting ≡ true
-unfolding IsAfter
-booted_after cause booting image list new kernel is = (subst (IsAfter cause booting image list) is (conclusion_after cause booting image list)).3
+conclusion_tells : (b : Bool) (r : ArrivalAnswer) (cause : Cause) → TellsNone (cond b (file_conclusion r) (fails cause))
+conclusion_tells true r cause = file_tells r
+conclusion_tells false r cause = λ l x e. absurd (cc e)
 
--- THE SCRIPT GOES ON, OR AN IMAGE IS HANDED OFF
-
--- what was concluded of the file
-record Concluding (es : List Event) (outs : List Out) (s : State) (inner : Running) (l : Live) (cause : Cause) (wanted : Wanted) : Type 0 where
-  ended_so : HasEnded es outs s inner l cause
-  asked : FetchesWith (so_far es) l wanted
-
-brought : (es : List Event) (outs : List Out) (s : State) (inner : Running) (l : Live) (cause : Cause) (wanted : Wanted) → Concluding es outs s inner l cause wanted → is_ok_cause cause ≡ true →
-    images_brought (es ++ puts (result ok) ∷ []) ≡ images_brought es ++ fetched_image wanted l ∷ []
-brought es outs s inner l cause wanted k well =
-    result_brings es cause (fetched_image wanted l) k.ended_so.last well (sym (whole_is es outs s inner l cause wanted k.ended_so k.asked) ∙ well) (image_is es outs s inner l cause wanted k.ended_so k.asked)
-
-by_conclusion : (es : List Event) (outs : List Out) (s : State) (inner : Running) (outer : List Running) (l : Live) (cause : Cause) (wanted : Wanted) (c : Conclusion) (more : List Out) (p : Standing) → Concluding es outs s inner l cause wanted →
-    IsAfter cause wanted.boots (fetched_image wanted l) s.images c → EachEvent CommandsSo es (told (conclusion_records c)) → ConclusionLeads s inner outer c more p → Goes es outs (conclusion_records c ++ more) p
-unfolding IsAfter
-by_conclusion es outs s inner outer l cause wanted (keeps new) more p k h stands (none, leads) =
-    let o = result ok in
-    subst (λ z. Goes es outs (o ∷ z) p) (sym none) (subst (λ z. Goes es outs (o ∷ []) z) (sym leads) (record {
-      stands = stands;
-      agrees = (
-        script_as (es ++ told (o ∷ [])) inner (with_result inner ok) refl refl (script_told es (o ∷ []) inner refl k.ended_so.script),
-        settings_over es outs s (with_images s new) inner l cause wanted ok k.ended_so k.asked refl refl refl,
-        record {
-          list = h.1 ∙ ap (λ z. with_image (fetched_image wanted l) z) k.ended_so.images.list ∙ sym (ap image_list (brought es outs s inner l cause wanted k h.0) ∙ listed_more (images_brought es) (fetched_image wanted l));
-          none = parts_more outs (o ∷ []) k.ended_so.images.none (tt, tt);
-        },
-      );
-    }))
-by_conclusion es outs s inner outer l cause wanted (fails c) more p k h stands (none, leads) =
-    let o = result c in
-    subst (λ z. Goes es outs (o ∷ z) p) (sym none) (subst (λ z. Goes es outs (o ∷ []) z) (sym leads) (record {
-      stands = stands;
-      agrees = (
-        script_as (es ++ told (o ∷ [])) inner (with_result inner c) refl refl (script_told es (o ∷ []) inner refl k.ended_so.script),
-        settings_over es outs s s inner l cause wanted c k.ended_so k.asked refl refl refl,
-        record { list = k.ended_so.images.list ∙ sym (ap image_list (one_keeps es o (failed_image es c h))); none = parts_more outs (o ∷ []) k.ended_so.images.none (tt, tt) },
-      );
-    }))
-by_conclusion es outs s inner outer l cause wanted (boots new kernel) more p k h stands (over, all, leads) =
-    let o = result ok in
-    let image = fetched_image wanted l in
-    let es1 = es ++ puts o ∷ [] in
-    let ends = close_ends s.devices stopped_cause s.live more [] over all in
-    let quiet = ends_quiet stopped_cause more ends in
-    let at : es ++ told (o ∷ more) ≡ es1 ++ told more = sym (append_assoc es (puts o ∷ []) (told more)) in
-    let all_images : images_brought (es ++ told (o ∷ more)) ≡ images_brought es ++ image ∷ [] = ap images_brought at ∙ quiet_images es1 more quiet ∙ brought es outs s inner l cause wanted k h.0 in
-    let list : new.images ≡ image_list (images_brought es ++ image ∷ []) = h.1 ∙ ap (λ z. with_image image z) k.ended_so.images.list ∙ sym (listed_more (images_brought es) image) in
-    let place : kernel ≡ place_for image (record { images = image_list (images_brought es); selected = None }) = h.2 ∙ ap (λ z. unwrap_or (image_place image.name z) (length z)) k.ended_so.images.list in
-    subst (λ z. Goes es outs (o ∷ more) z) (sym leads) (record {
-      stands = (stands.0, quiet_commands es1 more quiet);
-      agrees = (
-        silent_handoff kernel new.images,
-        ap (λ (z : List Event). (so_far z).is_open) at ∙ ap (λ (m : CommandsSoFar). m.is_open) (quiet_so_far es1 more quiet ∙ over_is es outs s inner l cause wanted ok k.ended_so k.asked),
-        record {
-          booted = record { before = es; since = more; ends = refl; silent = ends_silent stopped_cause more ends; boots = boots_file es l wanted k.asked k.ended_so.number h.3 };
-          earlier = images_brought es;
-          last = image;
-          all = all_images;
-          before = outs ++ o ∷ more;
-          none = parts_more outs (o ∷ more) k.ended_so.images.none (tt, quiet_parts more quiet);
-          ends = ap (λ z. (outs ++ o ∷ more) ++ handoff_records z new.images) place
-              ∙ ap (λ z. (outs ++ o ∷ more) ++ handoff_records (place_for image (record { images = image_list (images_brought es); selected = None })) z) list;
-        },
-      );
-    })
-
--- a command that fetches a file is over
-pub fetch_goes : (es : List Event) (outs : List Out) (s : State) (inner : Running) (outer : List Running) (l : Live) (cause : Cause) (wanted : Wanted) (more : List Out) (p : Standing) → HasEnded es outs s inner l cause → FetchesWith (so_far es) l wanted →
-    ConclusionLeads s inner outer (conclusion cause wanted.boots (fetched_image wanted l) s.images) more p → Goes es outs (conclusion_records (conclusion cause wanted.boots (fetched_image wanted l) s.images) ++ more) p
+-- a command that fetches a file is over, or a script runs
+pub fetch_goes : (es : List Event) (outs : List Out) (s : State) (inner : Running) (outer : List Running) (l : Live) (cause : Cause) (wanted : Wanted) (more : List Out) (p : Standing) → HasEnded es outs s inner outer l cause → FetchesWith (so_far es) l wanted →
+    ConclusionLeads s inner outer (conclusion cause wanted.asking (fetched l) inner.depth s.images) more p → Goes es outs (conclusion_records (conclusion cause wanted.asking (fetched l) inner.depth s.images) ++ more) p
 fetch_goes es outs s inner outer l cause wanted more p h f leads =
-    by_conclusion es outs s inner outer l cause wanted (conclusion cause wanted.boots (fetched_image wanted l) s.images) more p (record { ended_so = h; asked = f })
-    (conclusion_after cause wanted.boots (fetched_image wanted l) s.images) (conclusion_stands es outs s inner l cause wanted h f) leads
+    conclusion_goes es outs s inner outer (conclusion cause wanted.asking (fetched l) inner.depth s.images) more p
+    (conclusion_tells (is_ok_cause cause) (arrived wanted.asking (fetched l) (target_uri wanted.asking.target) inner.depth s.images) cause) (concluding_file es outs s inner outer l cause wanted h f) leads

@@ -7,7 +7,9 @@ pub mod Opening
 pub mod Onward
 pub mod Stepping
 pub mod CommandEnds
-pub mod Fetched
+pub mod Fits
+pub mod Leading
+pub mod There
 pub mod Concluded
 pub mod Found
 pub mod Resting

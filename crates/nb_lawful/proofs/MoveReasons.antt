@@ -1,43 +1,52 @@
 -- A run goes on: the records that it puts have their reasons.
-use Rattle.std.proofs.Common.{◌≡◌, ℕ, true, List, [], ◌∷◌, ◌++◌, Option, Some, None, refl, sym, ap, subst}
+use Rattle.std.proofs.Common.{◌≡◌, ℕ, ◌+◌, true, false, List, [], ◌∷◌, ◌++◌, Option, Some, None, refl, sym, ap, subst, map, append_assoc}
 use Rattle.std.specs.Prelude.{slice_get}
 use Rattle.std.specs.List.{AllByRecursion}
 use Rattle.nb_defs.specs.Causes.{ok}
 use Rattle.nb_defs.specs.Commands.{CommandOutcome, refused}
-use Rattle.nb_defs.specs.Records.{In, Out, step, sent, result, ended, leave}
+use Rattle.nb_defs.specs.Records.{In, Out, step, sent, text, result, ended, enter, leave}
+use Rattle.nb_terms.specs.declared.cause.Cause.{Cause}
+use Rattle.nb_defs.specs.ScriptLines.{script_reading}
+use Rattle.nb_image.specs.Images.{ImageList}
+use Rattle.nb_scripts.specs.Records.{replace}
+use Rattle.nb_machine.specs.FirstText.{text_refusal}
+use Rattle.nb_runner.proofs.HandingLemmas.{all_append}
 use Rattle.nb_stack.specs.Client.{Client}
-use Rattle.nb_machine.specs.Conclusions.{fails, conclusion_records}
-use Rattle.nb_machine.specs.Effects.{shuts_device, effect, ShownWords, shown_words, full_opens}
-use Rattle.nb_machine.specs.Running.{Running, no_label}
-use Rattle.nb_machine.specs.CommandRecords.{prints, command_record, command_records, no_route}
+use Rattle.nb_machine.specs.Conclusions.{Conclusion, keeps, tells, fails, boots, runs_script, conclusion_records}
+use Rattle.nb_machine.specs.Effects.{shuts_device, ShownWords, shown_words, full_opens}
+use Rattle.nb_machine.specs.Running.{Running, entered, no_label}
+use Rattle.nb_machine.specs.CommandRecords.{prints, command_record, command_records, no_route, stopped_cause}
 use Rattle.nb_machine.specs.Lives.{close, Live, open_record, end_record}
 use Rattle.nb_machine.specs.States.{State}
 use Rattle.nb_machine.specs.Takings.{Over, AllTake}
 use Rattle.nb_machine.specs.Scripts.{Job, opens, shuts, live_onward, doing}
 use Rattle.nb_machine.specs.Courses as course
-use Rattle.nb_machine.specs.Courses.{Progress, Proceeds, down_cause}
+use Rattle.nb_machine.specs.Courses.{Standing, Progress, text_records, ConclusionLeads, Proceeds, down_cause}
 use Rattle.nb_laws.specs.Events.{Event, puts, EachEvent}
 use Rattle.nb_laws.specs.Histories.{client}
-use Rattle.nb_laws.specs.CommandsSoFar.{CommandsSoFar, ComesTo}
+use Rattle.nb_laws.specs.CommandsSoFar.{CommandsSoFar, so_far, conclusion_so_far}
+use Rattle.nb_laws.specs.Lists.{last_end}
 use Rattle.nb_laws.specs.Progress.{IsAdvanced}
 use Rattle.nb_laws.specs.Silence.{IsSilent}
 use Rattle.nb_laws.specs.Agreement.{IsStill, AreStill}
-use Rattle.nb_laws.proofs.Asides.{still_command}
+use Rattle.nb_laws.proofs.Asides.{still_command, still_conclusion}
 use Rattle.nb_laws.proofs.Tellings.{told, still_advances, still_tries, still_advanced}
 use Rattle.nb_openlaws.specs.Standings.{AgreesState, AgreesDevice}
-use Rattle.nb_openlaws.specs.OpenEndings.{OpensEndSo, FramesSo, by_device}
+use Rattle.nb_openlaws.specs.OpenEndings.{OpensEndSo, FramesSo, by_device, by_hand_off}
 use Rattle.nb_openlaws.specs.OpenReasons.{OpenReasons}
 use Rattle.nb_openlaws.proofs.OpenStates.{still_state}
 use Rattle.nb_openlaws.proofs.Courses.{kept_state, opens_next, onward_next, shuts_keep}
 use Rattle.nb_openlaws.proofs.Sendings.{no_reasons, reasons_then}
-use Rattle.nb_openlaws.proofs.Doings.{shuts_by, opens_by}
+use Rattle.nb_openlaws.proofs.Doings.{comes_to, shuts_by, opens_by}
 use Rattle.nb_openlaws.proofs.KeptOpens.{AreKept, KeptAt}
 use Rattle.nb_openlaws.proofs.Closings.{EndsFor, closes_reasons}
 use Rattle.nb_openlaws.proofs.FirstReasons.{Opens, begins_reasons, lost_reasons}
 use Rattle.nb_lawful.specs.ScriptAgreement.{ScriptsAgree}
-use Rattle.nb_lawful.proofs.Quiet.{ends_quiet}
-use Rattle.nb_lawful.proofs.Begun.{begun_comes, begun_silently, begun_closing}
+use Rattle.nb_lawful.proofs.Quiet.{ends_quiet, ends_silent, ends_fail}
+use Rattle.nb_lawful.proofs.Begun.{has_begun_comes, begun_silently, begun_closing}
 use Rattle.nb_lawful.proofs.Opening.{begins_by}
+use Rattle.nb_lawful.proofs.Leading.{ConcludedSo, said_is}
+use Rattle.nb_lawful.proofs.There.{there_boots}
 use Rattle.nb_lawful.proofs.Scripted.{based}
 use Rattle.nb_lawful.proofs.Devices.{opens_device}
 use Rattle.nb_lawful.proofs.OpenWays.{head_is}
@@ -90,15 +99,52 @@ unsent_silent _ h = tt
 command_reasons : (es : List Event) (inner : Running) (shown : ShownWords) (o : CommandOutcome) → IsAdvanced es → OpenReasons es (command_records inner shown o)
 command_reasons es inner shown o a = still_reasons es (command_records inner shown o) (still_command inner shown o) (unsent_command inner shown o) a
 
+-- A COMMAND CONCLUDES
+
+unsent_texts : (lines : List (List ℕ)) → AreUnsent (map text lines)
+unsent_texts [] = tt
+unsent_texts (line ∷ lines) = (tt, unsent_texts lines)
+
+pub unsent_conclusion : (c : Conclusion) → AreUnsent (conclusion_records c)
+unsent_conclusion (keeps list) = (tt, tt)
+unsent_conclusion (tells list lines) = all_append IsUnsent (map text lines) (result ok ∷ []) (unsent_texts lines) (tt, tt)
+unsent_conclusion (fails cause) = (tt, tt)
+unsent_conclusion (boots list kernel) = (tt, tt)
+unsent_conclusion (runs_script list image true) = (tt, tt)
+unsent_conclusion (runs_script list image false) = tt
+
+-- all that lives is closed before a hand-off
+hand_off_ends : (es : List Event) (list : ImageList) (kernel : ℕ) → conclusion_so_far (last_end es) es (so_far es) ≡ Some (boots list kernel) → EndsFor stopped_cause (es ++ puts (result ok) ∷ [])
+hand_off_ends es list kernel booted = λ ends all k.
+    by_hand_off refl (record { before = es; since = ends; ends = append_assoc es (puts (result ok) ∷ []) (told ends); silent = ends_silent stopped_cause ends all; list = list; kernel = kernel; boots = booted })
+
+text_reasons : (es : List Event) (depth : ℕ) (o : Out) (refused : Option Cause) → AreStill (o ∷ []) → AreUnsent (o ∷ []) → IsAdvanced es → OpenReasons es (text_records depth o refused)
+text_reasons es depth o None still unsent adv = still_reasons es (o ∷ []) still unsent adv
+text_reasons es depth o (Some cause) still unsent adv = still_reasons es (o ∷ leave depth cause ∷ []) (still.0, (tt, tt)) (unsent.0, (tt, tt)) adv
+
+pub conclusion_reasons : (es : List Event) (s : State) (inner : Running) (outer : List Running) (c : Conclusion) (more : List Out) (p : Standing) → ConclusionLeads s inner outer c more p → AgreesState es s → AreKept s.live →
+    IsAdvanced (es ++ told (conclusion_records c)) → ((list : ImageList) (kernel : ℕ) → c ≡ boots list kernel → conclusion_so_far (last_end es) es (so_far es) ≡ Some (boots list kernel)) → OpenReasons (es ++ told (conclusion_records c)) more
+conclusion_reasons es s inner outer (keeps list) more p (none, is) a k adv booted = subst (OpenReasons (es ++ told (result ok ∷ []))) (sym none) (no_reasons (es ++ told (result ok ∷ [])) adv)
+conclusion_reasons es s inner outer (tells list lines) more p (none, is) a k adv booted =
+    subst (OpenReasons (es ++ told (conclusion_records (tells list lines)))) (sym none) (no_reasons (es ++ told (conclusion_records (tells list lines))) adv)
+conclusion_reasons es s inner outer (fails cause) more p (none, is) a k adv booted = subst (OpenReasons (es ++ told (result cause ∷ []))) (sym none) (no_reasons (es ++ told (result cause ∷ [])) adv)
+conclusion_reasons es s inner outer (boots list kernel) more p (over, all, is) a k adv booted =
+    let b = still_state es (result ok ∷ []) s (tt, tt) a in
+    closes_reasons s.devices stopped_cause s.live more [] over all refl (es ++ told (result ok ∷ [])) b.each b.apart k adv (hand_off_ends es list kernel (booted list kernel refl))
+conclusion_reasons es s inner outer (runs_script list image true) more p (puts_so, is) a k adv booted =
+    subst (OpenReasons (es ++ told (result ok ∷ []))) (sym puts_so) (text_reasons (es ++ told (result ok ∷ [])) inner.depth (replace inner.depth) (text_refusal (script_reading image.text)) (tt, tt) (tt, tt) adv)
+conclusion_reasons es s inner outer (runs_script list image false) more p (puts_so, is) a k adv booted =
+    subst (OpenReasons (es ++ told [])) (sym puts_so) (text_reasons (es ++ told []) (inner.depth + 1) (enter (inner.depth + 1)) (text_refusal (script_reading image.text)) (tt, tt) (tt, tt) adv)
+
 -- A COMMAND MAKES AN OPEN
 
 -- its open, after COMMAND
 command_opens : (es : List Event) (outs : List Out) (s s2 : State) (inner : Running) (outer : List Running) (ws : List (List ℕ)) (l : Live) (job : Job) (link : Client) → AgreesState es s → AgreesDevice es s → ScriptsAgree es outs (course.running s inner outer) →
-    doing s ws ≡ opens s2 l job → slice_get s2.devices l.device ≡ Some link → IsAdvanced es → Opens (es ++ told (command_record inner (shown_words s.table ws) ∷ [])) s2 l link
+    doing s inner ws ≡ opens s2 l job → slice_get s2.devices l.device ≡ Some link → IsAdvanced es → Opens (es ++ told (command_record inner (shown_words s.table ws) ∷ [])) s2 l link
 command_opens es outs s s2 inner outer ws l job link a d h is got adv =
     let b = command_record inner (shown_words s.table ws) ∷ [] in
     let es1 = es ++ told b in
-    let by = opens_by s ws s2 l job is in
+    let by = opens_by s inner ws s2 l job is in
     let k = begins_by es outs s s2 inner outer ws l job (based es s a) h by in
     let n = opens_next s s2 _ _ _ l job is in
     let device : AgreesDevice es1 s2 = opens_device es b s s2 s2 ws l job _ true by refl refl refl d h.1 k.under_way.settings in
@@ -110,20 +156,20 @@ command_opens es outs s s2 inner outer ws l job link a d h is got adv =
     }
 
 -- `ifclose`
-device_ends : (es : List Event) (s : State) (inner : Running) (outs : List Out) (outer : List Running) (ws : List (List ℕ)) → AgreesState es s → ScriptsAgree es outs (course.running s inner outer) → effect s.opens s.table ws ≡ shuts_device →
+device_ends : (es : List Event) (s : State) (inner : Running) (outs : List Out) (outer : List Running) (ws : List (List ℕ)) → AgreesState es s → ScriptsAgree es outs (course.running s inner outer) → comes_to s inner ws ≡ shuts_device →
     EndsFor down_cause (es ++ told (command_record inner (shown_words s.table ws) ∷ []))
 device_ends es s inner outs outer ws a h e = λ ends all k.
     let es1 = es ++ told (command_record inner (shown_words s.table ws) ∷ []) in
-    let b = begun_closing es1 s inner ws ends (ends_quiet down_cause ends all) (begun_silently es s inner ws a.opens h.0 h.1) in
-    by_device refl (ap (λ (x : CommandsSoFar). x.is_open) b.so_far_is.2)
-    (subst (λ n. ComesTo (es1 ++ told ends) n shuts_device) (sym b.opens) (begun_comes (es1 ++ told ends) b.so_far_is.0 s.opens s.table ws shuts_device b.so_far_is.1 b.so_far_is.2 e))
+    let first = begun_silently es outs s inner outer ws a.opens h in
+    let b = begun_closing es1 s inner ws ends (ends_quiet down_cause ends all) (ends_fail down_cause es1 ends refl all first.ended_none) first in
+    by_device refl (ap (λ (x : CommandsSoFar). x.is_open) b.so_far_is) (has_begun_comes (es1 ++ told ends) s inner ws shuts_device b e)
 
 shuts_reasons : (es : List Event) (outs : List Out) (s s2 : State) (inner : Running) (outer : List Running) (ws : List (List ℕ)) (put : List Out) (over : List Over) → AgreesState es s → ScriptsAgree es outs (course.running s inner outer) → AreKept s.live →
-    doing s ws ≡ shuts s2 → AllTake s2.devices (close down_cause) s2.live put [] over → IsAdvanced es → OpenReasons es (command_record inner (shown_words s.table ws) ∷ put ++ (result ok ∷ []))
+    doing s inner ws ≡ shuts s2 → AllTake s2.devices (close down_cause) s2.live put [] over → IsAdvanced es → OpenReasons es (command_record inner (shown_words s.table ws) ∷ put ++ (result ok ∷ []))
 shuts_reasons es outs s s2 inner outer ws put over a h kept is all adv =
     let b = command_record inner (shown_words s.table ws) ∷ [] in
     let es1 = es ++ told b in
-    let d = shuts_by s ws s2 is in
+    let d = shuts_by s inner ws s2 is in
     let base : AgreesState es1 s2 = kept_state es1 s s2 (shuts_keep s s2 _ _ _ is) (still_state es b s (tt, tt) a) in
     let first = still_reasons es b (tt, tt) (tt, tt) adv in
     let closes = closes_reasons s2.devices down_cause s2.live put [] over all refl es1 base.each base.apart (subst (λ (z : State). AreKept z.live) (sym d.1) kept) first.after (device_ends es s inner outs outer ws a h d.0) in
@@ -135,6 +181,16 @@ shuts_reasons es outs s s2 inner outer ws put over a h kept is all adv =
 pub move_reasons : (ins : List In) (outs : List Out) (es : List Event) (m : Progress) (added : List Out) (m2 : Progress) → Proceeds m added m2 → Story ins outs es m.standing → KeptAt m.standing → OpenReasons es added
 move_reasons ins outs es m added m2 (course.passes n s inner next outer comes) t k = no_reasons es t.advanced
 move_reasons ins outs es m added m2 (course.is_left n s inner outer cause comes) t k = still_reasons es (leave inner.depth cause ∷ []) (tt, tt) (tt, tt) t.advanced
+move_reasons ins outs es m added m2 (course.hands_back n s inner outer cause) t k = still_reasons es (result cause ∷ []) (tt, tt) (tt, tt) t.advanced
+move_reasons ins outs es m added m2 (course.concludes_there n s inner outer c cs x put p comes few is leads) t k =
+    let command = command_record inner (shown_words s.table (c ∷ cs)) in
+    let b = command ∷ [] in
+    let es1 = es ++ told b in
+    let first = still_reasons es b (tt, tt) (tt, tt) t.advanced in
+    let second = still_reasons es1 (conclusion_records x) (still_conclusion x) (unsent_conclusion x) first.after in
+    let third = conclusion_reasons es1 s (entered inner) outer x put p leads (still_state es b s (tt, tt) t.base) k second.after
+    (λ list kernel same. said_is (boots list kernel) (λ cause e. absurd (cc e)) (subst (ConcludedSo (conclusion_so_far (last_end es1) es1 (so_far es1))) same (there_boots es outs s inner outer (c ∷ cs) x t.base.opens is t.scripts).concluded)) in
+    reasons_then es b (conclusion_records x ++ put) first (reasons_then es1 (conclusion_records x) put second third)
 move_reasons ins outs es m added m2 (course.yields n s inner outer c cs comes full) t k = no_reasons es t.advanced
 move_reasons ins outs es m added m2 (course.does n s s2 inner outer c cs x comes few is stays) t k = command_reasons es inner (shown_words s.table (c ∷ cs)) x t.advanced
 move_reasons ins outs es m added m2 (course.closes_device n s s2 inner outer c cs put over comes few is all) t k = shuts_reasons es outs s s2 inner outer (c ∷ cs) put over t.base t.scripts k is all t.advanced

@@ -1,24 +1,27 @@
 -- Of each open that lives the history says that there was a way to its server when it was made.
-use Rattle.std.proofs.Common.{◌≡◌, ℕ, ◌+◌, Bool, true, false, cond, List, [], ◌∷◌, ◌++◌, Some, None, refl, sym, ◌∙◌, ap, subst, append_assoc, append-nil}
+use Rattle.std.proofs.Common.{◌≡◌, ℕ, ◌+◌, Bool, true, false, cond, List, [], ◌∷◌, ◌++◌, Option, Some, None, refl, sym, ◌∙◌, ap, subst, append_assoc, append-nil}
 use Rattle.std.specs.Prelude.{slice_get}
 use Rattle.std.specs.List.{AllByRecursion}
 use Rattle.std.proofs.lemmas.Option.{none-some}
 use Rattle.nb_defs.specs.Records.{In, Out}
 use Rattle.nb_stack.specs.Client.{Client}
 use Rattle.nb_settings.specs.Tables.{TableLists}
-use Rattle.nb_machine.specs.Conclusions.{keeps, fails, boots}
+use Rattle.nb_terms.specs.declared.cause.Cause.{Cause}
+use Rattle.nb_defs.specs.ScriptLines.{script_reading}
+use Rattle.nb_machine.specs.Conclusions.{Conclusion, keeps, tells, fails, boots, runs_script}
+use Rattle.nb_machine.specs.FirstText.{text_refusal}
 use Rattle.nb_machine.specs.Effects.{Effect}
 use Rattle.nb_machine.specs.Sendings.{has_route}
-use Rattle.nb_machine.specs.Running.{Running, anew}
+use Rattle.nb_machine.specs.Running.{Running, entered, anew}
 use Rattle.nb_runner.proofs.HandingLemmas.{all_append}
 use Rattle.nb_machine.specs.Lives.{OpenKind, tftp, dns, dhcp, ping, OpenInput, Live}
 use Rattle.nb_machine.specs.Kinds.{first_records}
-use Rattle.nb_machine.specs.States.{State, net0, with_opened}
+use Rattle.nb_machine.specs.States.{State, net0, with_images, with_opened}
 use Rattle.nb_machine.specs.Takings.{Over, AllTake, all_have, lives_on, is_over}
 use Rattle.nb_machine.specs.Network.{Network, passes_by, brings, brings_reply, passes_time}
 use Rattle.nb_machine.specs.Scripts.{Job, live_onward, Upshot, concludes, settles, goes_onward, upshot_records, concluded_by}
 use Rattle.nb_machine.specs.Courses as course
-use Rattle.nb_machine.specs.Courses.{Standing, Progress, ConclusionLeads, LeadsTo, StepBegins, Proceeds}
+use Rattle.nb_machine.specs.Courses.{Standing, Progress, text_standing, ConclusionLeads, LeadsTo, StepBegins, Proceeds}
 use Rattle.nb_laws.specs.Events.{Event}
 use Rattle.nb_laws.specs.Histories.{client}
 use Rattle.nb_laws.specs.Lists.{hardware}
@@ -104,10 +107,20 @@ opened_way es s l link put a d got first =
 
 -- THE COURSE
 
+text_ways : (es : List Event) (s : State) (new : Running) (outer : List Running) (refused : Option Cause) → HaveWays es s.live → WaysAt es (text_standing s new outer refused)
+text_ways es s new outer None h = h
+text_ways es s new outer (Some cause) h = h
+
+conclusion_ways : (es : List Event) (s : State) (inner : Running) (outer : List Running) (c : Conclusion) (put : List Out) (p : Standing) → ConclusionLeads s inner outer c put p → HaveWays es s.live → WaysAt es p
+conclusion_ways es s inner outer (keeps list) put p (none, is) h = subst (WaysAt es) (sym is) h
+conclusion_ways es s inner outer (tells list lines) put p (none, is) h = subst (WaysAt es) (sym is) h
+conclusion_ways es s inner outer (fails cause) put p (none, is) h = subst (WaysAt es) (sym is) h
+conclusion_ways es s inner outer (boots list kernel) put p (over, all, is) h = subst (WaysAt es) (sym is) tt
+conclusion_ways es s inner outer (runs_script list image false) put p (puts_so, is) h = subst (WaysAt es) (sym is) (text_ways es (with_images s list) _ (inner ∷ outer) (text_refusal (script_reading image.text)) h)
+conclusion_ways es s inner outer (runs_script list image true) put p (puts_so, is) h = subst (WaysAt es) (sym is) (text_ways es (with_images s list) _ outer (text_refusal (script_reading image.text)) h)
+
 upshot_ways : (es : List Event) (s : State) (inner : Running) (outer : List Running) (u : Upshot) (put : List Out) (p : Standing) → LeadsTo s inner outer u put p → HaveWays es s.live → WaysAt es p
-upshot_ways es s inner outer (concludes (keeps list)) put p (none, is) h = subst (WaysAt es) (sym is) h
-upshot_ways es s inner outer (concludes (fails cause)) put p (none, is) h = subst (WaysAt es) (sym is) h
-upshot_ways es s inner outer (concludes (boots list kernel)) put p (over, all, is) h = subst (WaysAt es) (sym is) tt
+upshot_ways es s inner outer (concludes c) put p leads h = conclusion_ways es s inner outer c put p leads h
 upshot_ways es s inner outer (settles x) put p (none, is) h = subst (WaysAt es) (sym is) h
 upshot_ways es s inner outer (goes_onward next) put p (none, is) h = subst (WaysAt es) (sym is) h
 
@@ -121,7 +134,7 @@ step_ways es m r added m2 (course.runs n s code valid reads) a h = tt
 step_ways es m r added m2 (course.refuses n s cause valid refuses) a h = tt
 step_ways es m r added m2 (course.waits_on n s s2 w r0 put over valid net none) a h = further_ways es _ put s2.live (network_ways es s s2 (n + 1) r put over net h)
 step_ways es m r added m2 (course.is_answered n s s2 w r0 put more over x p valid net some leads) a h =
-    upshot_ways _ s2 (anew w.script) w.outer (concluded_by s2 w.job x) more p leads (further_ways es _ (put ++ upshot_records (concluded_by s2 w.job x) ++ more) s2.live (network_ways es s s2 (n + 1) r put over net h))
+    upshot_ways _ s2 (anew w.script) w.outer (concluded_by s2 w.script.depth w.job x) more p leads (further_ways es _ (put ++ upshot_records (concluded_by s2 w.script.depth w.job x) ++ more) s2.live (network_ways es s s2 (n + 1) r put over net h))
 step_ways es m r added m2 (course.switches_off n s w put over all) a h = tt
 step_ways es m r added m2 (course.resumes n s s2 inner outer r0 put over valid net) a h = further_ways es _ put s2.live (network_ways es s s2 (n + 1) r put over net h)
 step_ways es m r added m2 (course.goes_off n s inner outer put over all) a h = tt
@@ -133,18 +146,20 @@ same_lives s s' table up e l job (opens_query query is state live work) = ap (λ
 pub move_ways : (es : List Event) (m : Progress) (added : List Out) (m2 : Progress) → Proceeds m added m2 → WaysAt es m.standing → AgreesStanding (es ++ told added) m2.standing → DeviceAgrees (es ++ told added) m2.standing → WaysAt (es ++ told added) m2.standing
 move_ways es m added m2 (course.passes n s inner next outer comes) h a d = have_ways es (told added) s.live h
 move_ways es m added m2 (course.is_left n s inner outer cause comes) h a d = have_ways es (told added) s.live h
+move_ways es m added m2 (course.hands_back n s inner outer cause) h a d = have_ways es (told added) s.live h
+move_ways es m added m2 (course.concludes_there n s inner outer c cs x put p comes few is leads) h a d = conclusion_ways (es ++ told added) s (entered inner) outer x put p leads (have_ways es (told added) s.live h)
 move_ways es m added m2 (course.yields n s inner outer c cs comes full) h a d = have_ways es (told added) s.live h
-move_ways es m added m2 (course.does n s s2 inner outer c cs x comes few is stays) h a d = subst (λ (z : State). HaveWays (es ++ told added) z.live) (sym (ends_by s (c ∷ cs) x s2 is).1) (have_ways es (told added) s.live h)
+move_ways es m added m2 (course.does n s s2 inner outer c cs x comes few is stays) h a d = subst (λ (z : State). HaveWays (es ++ told added) z.live) (sym (ends_by s inner (c ∷ cs) x s2 is).1) (have_ways es (told added) s.live h)
 move_ways es m added m2 (course.closes_device n s s2 inner outer c cs put over comes few is all) h a d = tt
-move_ways es m added m2 (course.leaves n s s2 inner outer c cs x comes few is away) h a d = subst (λ (z : State). HaveWays (es ++ told added) z.live) (sym (ends_by s (c ∷ cs) x s2 is).1) (have_ways es (told added) s.live h)
+move_ways es m added m2 (course.leaves n s s2 inner outer c cs x comes few is away) h a d = subst (λ (z : State). HaveWays (es ++ told added) z.live) (sym (ends_by s inner (c ∷ cs) x s2 is).1) (have_ways es (told added) s.live h)
 move_ways es m added m2 (course.jumps n s inner outer c cs name line comes few is there) h a d = have_ways es (told added) s.live h
 move_ways es m added m2 (course.finds_no_label n s inner outer c cs name comes few is none) h a d = have_ways es (told added) s.live h
 move_ways es m added m2 (course.falls_asleep n s inner outer c cs t comes few is) h a d = have_ways es (told added) s.live h
 move_ways es m added m2 (course.opens_one n s s2 inner outer c cs l job link put comes few is got first) h a d =
     all_append (λ (x : Live). HadWay x.number (es ++ told added) (live_opening x)) s2.live (l ∷ [])
-    (subst (HaveWays (es ++ told added)) (sym (same_lives s s2 _ _ _ l job (opens_by s (c ∷ cs) s2 l job is))) (have_ways es (told added) s.live h)) (opened_way (es ++ told added) s2 l link put a d got first, tt)
+    (subst (HaveWays (es ++ told added)) (sym (same_lives s s2 _ _ _ l job (opens_by s inner (c ∷ cs) s2 l job is))) (have_ways es (told added) s.live h)) (opened_way (es ++ told added) s2 l link put a d got first, tt)
 move_ways es m added m2 (course.finds_no_route n s s2 inner outer c cs l job link comes few is got none) h a d =
-    subst (HaveWays (es ++ told added)) (sym (same_lives s s2 _ _ _ l job (opens_by s (c ∷ cs) s2 l job is))) (have_ways es (told added) s.live h)
+    subst (HaveWays (es ++ told added)) (sym (same_lives s s2 _ _ _ l job (opens_by s inner (c ∷ cs) s2 l job is))) (have_ways es (told added) s.live h)
 move_ways es m added m2 (course.opens_onward n s inner outer next link put few got first) h a d =
     all_append (λ (x : Live). HadWay x.number (es ++ told added) (live_opening x)) s.live (live_onward s next ∷ []) (have_ways es (told added) s.live h) (opened_way (es ++ told added) s (live_onward s next) link put a d got first, tt)
 move_ways es m added m2 (course.finds_no_way n s inner outer next link few got none) h a d = have_ways es (told added) s.live h

@@ -1,6 +1,7 @@
 -- A command that is under way makes an open: it begins, and the command waits for it, or it finds no route and has ended.
 use Rattle.std.proofs.Common.{◌≡◌, ℕ, ◌+◌, Bool, true, false, cond, List, [], ◌∷◌, ◌++◌, Some, None, refl, sym, ◌∙◌, ap, subst, append_assoc, append-nil}
 use Rattle.std.specs.List.{AllByRecursion}
+use Rattle.std.specs.Option.{option_and_then}
 use Rattle.std.proofs.lemmas.Option.{none-some, same_Some}
 use Rattle.nb_terms.specs.declared.acts.SendTo.{SendTo}
 use Rattle.nb_defs.specs.Records.{Out, result}
@@ -15,6 +16,7 @@ use Rattle.nb_machine.specs.Transfers.{transfer_of}
 use Rattle.nb_machine.specs.Conclusions.{fails, conclusion_records}
 use Rattle.nb_machine.specs.Running.{Running, with_result}
 use Rattle.nb_machine.specs.CommandRecords.{no_route}
+use Rattle.nb_machine.specs.Effects.{Effect, ShownWords}
 use Rattle.nb_machine.specs.Errands.{Wanted}
 use Rattle.nb_machine.specs.Queries.{Query}
 use Rattle.nb_machine.specs.Lives.{OpenKind, tftp, dns, dhcp, ping, Live, open_record, end_record}
@@ -23,22 +25,22 @@ use Rattle.nb_machine.specs.States.{State, with_opened, with_one_made}
 use Rattle.nb_machine.specs.Scripts.{Job, fetch, job_for, answer, Waiting}
 use Rattle.nb_machine.specs.Courses as course
 use Rattle.nb_laws.specs.Events.{Event, puts}
-use Rattle.nb_laws.specs.Lists.{hardware, port_offset, commands_begun, came_ok, last_end}
-use Rattle.nb_laws.specs.CommandsSoFar.{CommandsSoFar, so_far, shown_table}
-use Rattle.nb_laws.specs.HandOff.{image_list}
+use Rattle.nb_laws.specs.Lists.{hardware, port_offset, commands_begun, made, came_ok, last_end}
+use Rattle.nb_laws.specs.CommandsSoFar.{CommandsSoFar, so_far, shown_table, comes_by, conclusion_so_far, concluded_in, concluded_by_open}
 use Rattle.nb_laws.specs.Agreement.{AgreesScript}
 use Rattle.nb_laws.proofs.Histories.{hardware_more, offset_more}
 use Rattle.nb_laws.proofs.Tellings.{told, same_number}
 use Rattle.nb_laws.proofs.Commands.{script_as, script_told}
-use Rattle.nb_laws.proofs.HandOffs.{AreOpens, opens_send, parts_more, one_keeps, failed_image, last_end_more}
+use Rattle.nb_laws.proofs.HandOffs.{AreOpens, opens_send, last_end_more}
 use Rattle.nb_laws.proofs.SoFar.{so_far_more, over_so_far, left_quiet, result_so_far}
+use Rattle.nb_laws.proofs.Settling.{concludes_same}
 use Rattle.nb_openlaws.proofs.Puts.{opens_quiet}
 use Rattle.nb_lawful.specs.CommandOpens.{command_open_by, command_end, over_of}
-use Rattle.nb_lawful.specs.Results.{by_failed_end, CommandsSo}
-use Rattle.nb_lawful.specs.ScriptAgreement.{SettingsAre, FetchesWith, AsksIn, IsAnother, IsAwaited, AwaitsSo, awaits_file, awaits_query, HasImages, ScriptsAgree}
-use Rattle.nb_lawful.proofs.Quiet.{quiet_so_far, quiet_begin, quiet_images, quiet_parts, quiet_commands, command_open_more}
+use Rattle.nb_lawful.specs.Results.{by_failed_end, GivesOf, CommandsSo}
+use Rattle.nb_lawful.specs.ScriptAgreement.{SettingsAre, FetchesWith, AsksIn, IsAnother, IsAwaited, AwaitsSo, awaits_file, awaits_query, HasImages, NoneLeft, ScriptsAgree}
+use Rattle.nb_lawful.proofs.Quiet.{quiet_so_far, quiet_begin, quiet_parts, quiet_scripts, quiet_commands, command_open_more}
 use Rattle.nb_lawful.proofs.Awaited.{opens_keep_open}
-use Rattle.nb_lawful.proofs.AtOnce.{Goes}
+use Rattle.nb_lawful.proofs.AtOnce.{Goes, images_as}
 
 pub told_hardware : (es : List Event) (outs : List Out) → hardware (es ++ told outs) ≡ hardware es
 told_hardware es [] = ap hardware (append-nil es)
@@ -69,11 +71,19 @@ first_opens l link put is = by l.kind is
 -- UNDER WAY
 
 -- a command has begun, and has no result yet
-pub record UnderWay (es : List Event) (outs : List Out) (s : State) (inner : Running) : Type 0 where
-  pub script : AgreesScript es inner
+pub record UnderWay (es : List Event) (outs : List Out) (s : State) (inner : Running) (outer : List Running) : Type 0 where
+  pub script : AgreesScript es inner outer
   pub settings : SettingsAre (so_far es) s true
   pub images : HasImages es outs s
+  pub none_left : NoneLeft es
   pub fewer : AllByRecursion (IsAnother s.opens) s.live
+
+-- the command that began last concludes nothing at once
+abbrev pub ConcludesNot : CommandsSoFar → Type 0
+ConcludesNot m = (k : ℕ) → option_and_then (λ shown. concluded_in (comes_by k m shown)) m.shown ≡ None
+
+pub concludes_not : (m : CommandsSoFar) (shown : ShownWords) (k : ℕ) (e : Effect) → m.shown ≡ Some shown → comes_by k m shown ≡ e → concluded_in e ≡ None → ConcludesNot m
+concludes_not m shown k e said is none = λ j. ap (option_and_then (λ x. concluded_in (comes_by j m x))) said ∙ concludes_same j k m shown ∙ ap concluded_in is ∙ none
 
 -- what the command asks by its open
 pub data Purpose (es : List Event) (l : Live) (job : Job) : Type 0 where
@@ -88,7 +98,7 @@ abbrev waiting_for : Running → List Running → Live → Job → Waiting
 waiting_for inner outer l job = record { script = inner; outer = outer; awaited = answer l.number; job = job }
 
 -- the open begins, and the command waits for it
-pub begins_open : (es : List Event) (outs : List Out) (s : State) (inner : Running) (outer : List Running) (l : Live) (link : Client) (put : List Out) (job : Job) → UnderWay es outs s inner → first_records l.kind l link ≡ Some put →
+pub begins_open : (es : List Event) (outs : List Out) (s : State) (inner : Running) (outer : List Running) (l : Live) (link : Client) (put : List Out) (job : Job) → UnderWay es outs s inner outer → first_records l.kind l link ≡ Some put →
     l.number ≡ s.opens → CommandsSo es (puts (open_record l)) → Purpose es l job → Goes es outs (open_record l ∷ put) (course.waiting (with_opened s l) (waiting_for inner outer l job))
 begins_open es outs s inner outer l link put job u first number stands purpose =
     let o = open_record l in
@@ -102,9 +112,10 @@ begins_open es outs s inner outer l link put job u first number stands purpose =
     record {
       stands = (stands, quiet_commands es2 put quiet);
       agrees = subst (λ z. ScriptsAgree z (outs ++ (o ∷ put)) (course.waiting (with_opened s l) (waiting_for inner outer l job))) (sym at) (
-        script_told es2 put inner (quiet_begin (commands_begun es2) put quiet) (script_told es (o ∷ []) inner refl u.script),
+        script_told es2 put inner outer (quiet_scripts put quiet) (quiet_begin (commands_begun es2) put quiet) (script_told es (o ∷ []) inner outer (tt, tt) refl u.script),
         subst (λ m. SettingsAre m (with_opened s l) true) (sym same) (record { table = u.settings.table; up = u.settings.up; now = u.settings.now; is_open = u.settings.is_open }),
-        record { list = u.images.list ∙ sym (ap image_list (quiet_images es2 put quiet ∙ one_keeps es o refl)); none = parts_more outs (o ∷ put) u.images.none (tt, quiet_parts put quiet) },
+        images_as es es3 outs (o ∷ put) s (with_opened s l) (ap (λ (m : CommandsSoFar). m.images) same) refl (tt, quiet_parts put quiet) u.images,
+        ap (λ (m : CommandsSoFar). m.left) same ∙ u.none_left,
         awaits_so es es3 (with_opened s l) (waiting_for inner outer l job) l same hard (record {
           earlier = s.live;
           last = refl;
@@ -117,10 +128,10 @@ begins_open es outs s inner outer l link put job u first number stands purpose =
     }
 
 -- there is no way to its server: it has ended, and so has the command
-pub finds_none : (es : List Event) (outs : List Out) (s : State) (inner : Running) (outer : List Running) (l : Live) → UnderWay es outs s inner → CommandsSo es (puts (open_record l)) →
-    shown_table (so_far es).table (so_far es).shown ≡ (so_far es).table →
+pub finds_none : (es : List Event) (outs : List Out) (s : State) (inner : Running) (outer : List Running) (l : Live) → UnderWay es outs s inner outer → CommandsSo es (puts (open_record l)) →
+    shown_table (so_far es).table (so_far es).shown ≡ (so_far es).table → ConcludesNot (so_far es) →
     Goes es outs (open_record l ∷ end_record l (no_route l.server) ∷ conclusion_records (fails (no_route l.server))) (course.running (with_one_made s) (with_result inner (no_route l.server)) outer)
-finds_none es outs s inner outer l u stands keeps =
+finds_none es outs s inner outer l u stands keeps quiet =
     let o = open_record l in
     let cause = no_route l.server in
     let e = end_record l cause in
@@ -131,15 +142,18 @@ finds_none es outs s inner outer l u stands keeps =
     let same : so_far es3 ≡ so_far es = so_far_more es2 (puts e) ∙ so_far_more es (puts o) in
     let failed : came_ok (last_end es3) ≡ false = ap came_ok (last_end_more es2 (puts e)) in
     let its_end : command_end es3 ≡ Some cause = ap over_of (command_open_more es2 (puts e) ∙ ap (λ z. command_open_by z (puts e)) (command_open_more es (puts o))) ∙ ap (λ b. over_of (Some (cond b (record { number = l.number; over = Some cause }) (record { number = l.number; over = None })))) (same_number l.number) in
-    let over_is : so_far (es3 ++ puts (result cause) ∷ []) ≡ over_so_far (so_far es) = result_so_far es3 cause (left_quiet es3 (so_far es3).table (so_far es3).shown failed) ∙ ap over_so_far same in
+    let none : conclusion_so_far (last_end es3) es3 (so_far es3) ≡ None =
+    ap (λ b. cond b (concluded_by_open es3 (so_far es3)) (option_and_then (λ x. concluded_in (comes_by (made es3) (so_far es3) x)) (so_far es3).shown)) failed
+    ∙ ap (λ (m : CommandsSoFar). option_and_then (λ x. concluded_in (comes_by (made es3) m x)) m.shown) same ∙ quiet (made es3) in
+    let none_left : (so_far es3).left ≡ None = ap (λ (m : CommandsSoFar). m.left) same ∙ u.none_left in
+    let over_is : so_far (es3 ++ puts (result cause) ∷ []) ≡ over_so_far None (so_far es) = result_so_far es3 cause None none_left none (left_quiet es3 (so_far es3).table (so_far es3).shown failed) ∙ ap (over_so_far None) same in
     record {
-      stands = (stands, (tt, (record { is_open = ap (λ (m : CommandsSoFar). m.is_open) same ∙ u.settings.is_open; holds = by_failed_end its_end refl }, tt)));
+      stands = (stands, (tt, (record { is_open = ap (λ (m : CommandsSoFar). m.is_open) same ∙ u.settings.is_open; holds = subst (λ l. GivesOf l es3 cause) (sym none_left) (by_failed_end its_end refl) }, tt)));
       agrees = subst (λ z. ScriptsAgree z (outs ++ all) (course.running (with_one_made s) (with_result inner cause) outer)) (sym at) (
-        script_as (es3 ++ puts (result cause) ∷ []) inner (with_result inner cause) refl refl (script_told es3 (result cause ∷ []) inner refl (script_told es2 (e ∷ []) inner refl (script_told es (o ∷ []) inner refl u.script))),
+        script_as (es3 ++ puts (result cause) ∷ []) inner (with_result inner cause) outer (record { same = refl; depth = refl; begun = refl })
+            (script_told es3 (result cause ∷ []) inner outer (tt, tt) refl (script_told es2 (e ∷ []) inner outer (tt, tt) refl (script_told es (o ∷ []) inner outer (tt, tt) refl u.script))),
         subst (λ m. SettingsAre m (with_one_made s) false) (sym over_is) (record { table = keeps ∙ u.settings.table; up = u.settings.up; now = u.settings.now; is_open = refl }),
-        record {
-          list = u.images.list ∙ sym (ap image_list (one_keeps es3 (result cause) (failed_image es3 cause refl) ∙ one_keeps es2 e refl ∙ one_keeps es o refl));
-          none = parts_more outs all u.images.none (tt, (tt, (tt, tt)));
-        },
+        images_as es (es3 ++ puts (result cause) ∷ []) outs all s (with_one_made s) (ap (λ (m : CommandsSoFar). m.images) over_is) refl (tt, (tt, (tt, tt))) u.images,
+        ap (λ (m : CommandsSoFar). m.left) over_is ∙ u.none_left,
       );
     }

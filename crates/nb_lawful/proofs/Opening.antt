@@ -6,7 +6,7 @@ use Rattle.nb_settings.specs.Tables.{TableLists}
 use Rattle.nb_stack.specs.Client.{Client}
 use Rattle.nb_machine.specs.Starting.{own_port}
 use Rattle.nb_machine.specs.Conclusions.{fails, conclusion_records}
-use Rattle.nb_machine.specs.Effects.{asks, inquires, effect, ShownWords, shown_words, table_after, up_after}
+use Rattle.nb_machine.specs.Effects.{asks, inquires, ShownWords, shown_words, table_after, up_after}
 use Rattle.nb_machine.specs.Queries.{Query, for_lease, for_echo, for_host, for_address}
 use Rattle.nb_machine.specs.Running.{Running, entered, further}
 use Rattle.nb_machine.specs.CommandRecords.{command_record, no_route}
@@ -18,29 +18,26 @@ use Rattle.nb_machine.specs.Courses as course
 use Rattle.nb_machine.specs.Courses.{Standing}
 use Rattle.nb_laws.specs.Events.{Event, puts}
 use Rattle.nb_laws.specs.Lists.{Hardware, hardware, port_offset, made}
-use Rattle.nb_laws.specs.CommandsSoFar.{CommandsSoFar, so_far, shown_effect, shown_table, ComesTo}
-use Rattle.nb_laws.specs.HandOff.{wanted_by, images_brought, image_list}
+use Rattle.nb_laws.specs.CommandsSoFar.{CommandsSoFar, so_far, shown_table, comes_by, ComesTo}
+use Rattle.nb_laws.specs.Wanting.{wanted_by}
 use Rattle.nb_laws.specs.Cores.{asker_by}
 use Rattle.nb_machine.specs.Findings.{query_id}
-use Rattle.nb_defs.specs.Parts.{HaveNoParts}
-use Rattle.nb_image.specs.Images.{ImageList}
 use Rattle.nb_laws.specs.Openings.{inquiry_fields, open_fields}
 use Rattle.nb_laws.specs.Agreement.{asks_at_once}
 use Rattle.nb_laws.proofs.Histories.{offset_more, hardware_more}
 use Rattle.nb_laws.proofs.Tellings.{told, made_more}
 use Rattle.nb_laws.proofs.Commands.{may_begin, script_begins}
-use Rattle.nb_laws.proofs.HandOffs.{parts_more, one_keeps}
-use Rattle.nb_laws.proofs.Inquiries.{inquiry_keeps}
-use Rattle.nb_laws.proofs.SoFar.{begun_so_far, begins_so_far, shown_effect_is, shown_table_is}
+use Rattle.nb_laws.proofs.Settling.{comes_keeps}
+use Rattle.nb_laws.proofs.SoFar.{begun_so_far, begins_so_far, shown_table_is}
 use Rattle.nb_openlaws.specs.Standings.{live_opening}
-use Rattle.nb_openlaws.proofs.Doings.{OpensBy, opens_transfer, opens_query, opens_by, table_stays, up_stays}
+use Rattle.nb_openlaws.proofs.Doings.{comes_to, OpensBy, opens_transfer, opens_query, opens_by, up_stays}
 use Rattle.nb_lawful.specs.OpenPurposes.{first_for_file, first_for_query, OpenStands}
 use Rattle.nb_lawful.specs.Results.{CommandsSo}
-use Rattle.nb_lawful.specs.ScriptAgreement.{FetchesWith, IsLiveFor, AsksIn, IsAnother, HasImages, ScriptsAgree}
+use Rattle.nb_lawful.specs.ScriptAgreement.{FetchesWith, IsLiveFor, AsksIn, IsAnother, ScriptsAgree}
 use Rattle.nb_lawful.proofs.Quiet.{command_open_more}
-use Rattle.nb_lawful.proofs.Begun.{command_comes, begins_so, settings_begun}
-use Rattle.nb_lawful.proofs.AtOnce.{Goes}
-use Rattle.nb_lawful.proofs.Opened.{UnderWay, Purpose, for_file, for_query, begins_open, finds_none}
+use Rattle.nb_lawful.proofs.Begun.{running_finds, comes_is, command_comes, begins_so, settings_begun}
+use Rattle.nb_lawful.proofs.AtOnce.{Goes, images_as}
+use Rattle.nb_lawful.proofs.Opened.{UnderWay, ConcludesNot, concludes_not, Purpose, for_file, for_query, begins_open, finds_none}
 
 -- what the history says of a state besides its scripts
 pub record Based (es : List Event) (s : State) : Type 0 where
@@ -55,9 +52,6 @@ goes_after es outs o more p stands g = record {
   stands = (stands, g.stands);
   agrees = subst (λ z. ScriptsAgree z (outs ++ (o ∷ more)) p) (append_assoc es (puts o ∷ []) (told more)) (subst (λ z. ScriptsAgree ((es ++ puts o ∷ []) ++ told more) z p) (append_assoc outs (o ∷ []) more) g.agrees);
 }
-
-begun_images : (es : List Event) (outs : List Out) (s s' : State) (o : Out) → s'.images ≡ s.images → images_brought (es ++ puts o ∷ []) ≡ images_brought es → HaveNoParts (o ∷ []) → HasImages es outs s → HasImages (es ++ puts o ∷ []) (outs ++ o ∷ []) s'
-begun_images es outs s s' o same keeps part a = record { list = ap (λ (x : ImageList). x.images) same ∙ a.list ∙ sym (ap image_list keeps); none = parts_more outs (o ∷ []) a.none part }
 
 following_mac : (table : TableLists) (up : Bool) (devices : List Client) → net0_mac (following table up devices) ≡ net0_mac devices
 following_mac table up [] = refl
@@ -86,32 +80,35 @@ number_of s (for_address setting name by) = refl
 -- A COMMAND BEGINS WITH IT
 
 -- what is known then
-pub record Begins (es : List Event) (outs : List Out) (s s' : State) (inner : Running) (l : Live) (job : Job) (command : Out) : Type 0 where
-  pub under_way : UnderWay (es ++ puts command ∷ []) (outs ++ command ∷ []) s' (entered inner)
+pub record Begins (es : List Event) (outs : List Out) (s s' : State) (inner : Running) (outer : List Running) (l : Live) (job : Job) (command : Out) : Type 0 where
+  pub under_way : UnderWay (es ++ puts command ∷ []) (outs ++ command ∷ []) s' (entered inner) outer
   pub number : l.number ≡ s'.opens
   pub stands : OpenStands (es ++ puts command ∷ []) l.number (kind_number l.kind) l.server l.port l.own l.target
   pub purpose : Purpose (es ++ puts command ∷ []) l job
   pub keeps : shown_table (so_far (es ++ puts command ∷ [])).table (so_far (es ++ puts command ∷ [])).shown ≡ (so_far (es ++ puts command ∷ [])).table
+  pub quiet : ConcludesNot (so_far (es ++ puts command ∷ []))
 
 pub begins_by : (es : List Event) (outs : List Out) (s s' : State) (inner : Running) (outer : List Running) (ws : List (List ℕ)) (l : Live) (job : Job) → Based es s → ScriptsAgree es outs (course.running s inner outer) →
-    OpensBy s s' (table_after s.table ws) (up_after s.table s.up ws) (effect s.opens s.table ws) l job → Begins es outs s s' inner l job (command_record inner (shown_words s.table ws))
+    OpensBy s s' (table_after s.table ws) (up_after s.table s.up ws) (comes_to s inner ws) l job → Begins es outs s s' inner outer l job (command_record inner (shown_words s.table ws))
 begins_by es outs s s' inner outer ws l job b a (opens_transfer wanted e state live work) =
-    subst (λ z. Begins es outs s z inner l job command) (sym state) (subst (λ z. Begins es outs s s inner z job command) (sym live) (subst (λ z. Begins es outs s s inner (transfer_for s wanted) z command) (sym work) (record {
+    subst (λ z. Begins es outs s z inner outer l job command) (sym state) (subst (λ z. Begins es outs s s inner outer z job command) (sym live) (subst (λ z. Begins es outs s s inner outer (transfer_for s wanted) z command) (sym work) (record {
       under_way = record {
-        script = script_begins es (command ∷ []) inner (entered inner) refl refl refl a.0;
-        settings = settings_begun s s ws began refl (up_stays s (asks wanted) ws e) refl a.1;
-        images = begun_images es outs s s command refl (one_keeps es command refl) (tt, tt) a.2;
+        script = script_begins es (command ∷ []) inner (entered inner) outer (tt, tt) refl refl refl refl a.0;
+        settings = settings_begun s s ws began refl (up_stays s inner (asks wanted) ws e) refl a.1;
+        images = images_as es (es ++ puts command ∷ []) outs (command ∷ []) s s (ap (λ (m : CommandsSoFar). m.images) began) refl (tt, tt) a.2;
+        none_left = ap (λ (m : CommandsSoFar). m.left) began ∙ a.3;
         fewer = b.fewer;
       };
       number = refl;
       stands = record {
         next = sym (made_more es (puts command) ∙ add-zero (made es) ∙ b.opens);
         is_open = ap (λ (m : CommandsSoFar). m.is_open) began;
+        none_left = ap (λ (m : CommandsSoFar). m.left) began ∙ a.3;
         is_for = first_for_file (record {
           first = command_open_more es (puts command);
           own_is = ap (λ z. own_port z s.opens) (sym (offset_more es (puts command) ∙ b.offset_is));
           wanted = wanted;
-          names = command_comes es s inner ws (asks wanted) a.1 e;
+          names = command_comes es outs s inner outer ws (asks wanted) a e;
           kind_is = refl;
           server_is = refl;
           port_is = refl;
@@ -121,15 +118,19 @@ begins_by es outs s s' inner outer ws l job b a (opens_transfer wanted e state l
       purpose = for_file wanted refl (subst (λ m. FetchesWith m (transfer_for s wanted) wanted) (sym began) (record {
         shown = shown;
         said = refl;
-        asked = ap (λ x. wanted_by x (live_opening (transfer_for s wanted))) (ap (λ t. shown_effect s.opens t shown) a.1.table ∙ shown_effect_is s.opens s.table ws ∙ e);
+        asked = ap (λ x. wanted_by x (live_opening (transfer_for s wanted))) (here ∙ e);
         kind_is = refl;
         server_is = refl;
         port_is = refl;
         target_is = refl;
       }));
-      keeps = subst (λ (m : CommandsSoFar). shown_table m.table m.shown ≡ m.table) (sym began) (ap (λ t. shown_table t (Some shown)) a.1.table ∙ shown_table_is s.table ws ∙ table_stays s (asks wanted) ws e ∙ sym a.1.table);
+      keeps = subst (λ (m : CommandsSoFar). shown_table m.table m.shown ≡ m.table) (sym began) (comes_keeps s.opens (so_far es) shown (asks wanted) (here ∙ e) tt);
+      quiet = subst ConcludesNot (sym began) (concludes_not (begun_so_far (so_far es) shown) shown s.opens (asks wanted) refl (here ∙ e) refl);
     })))
   where
+    here : comes_by s.opens (so_far es) (shown_words s.table ws) ≡ comes_to s inner ws
+    here = comes_is (so_far es) s inner ws (running_finds es outs s inner outer a)
+
     shown : ShownWords
     shown = shown_words s.table ws
 
@@ -139,35 +140,44 @@ begins_by es outs s s' inner outer ws l job b a (opens_transfer wanted e state l
     began : so_far (es ++ puts (command_record inner (shown_words s.table ws)) ∷ []) ≡ begun_so_far (so_far es) (shown_words s.table ws)
     began = begins_so_far es inner (shown_words s.table ws)
 begins_by es outs s s' inner outer ws l job b a (opens_query query e state live work) =
-    subst (λ z. Begins es outs s z inner l job command) (sym state) (subst (λ z. Begins es outs s v inner z job command) (sym live) (subst (λ z. Begins es outs s v inner (live_for v query) z command) (sym work) (record {
+    subst (λ z. Begins es outs s z inner outer l job command) (sym state) (subst (λ z. Begins es outs s v inner outer z job command) (sym live) (subst (λ z. Begins es outs s v inner outer (live_for v query) z command) (sym work) (record {
       under_way = record {
-        script = script_begins es (command ∷ []) inner (entered inner) refl refl refl a.0;
-        settings = settings_begun s v ws began (inquiry_keeps s.opens s.table ws query e) refl refl a.1;
-        images = begun_images es outs s v command refl (one_keeps es command refl) (tt, tt) a.2;
+        script = script_begins es (command ∷ []) inner (entered inner) outer (tt, tt) refl refl refl refl a.0;
+        settings = settings_begun s v ws began stays refl refl a.1;
+        images = images_as es (es ++ puts command ∷ []) outs (command ∷ []) s v (ap (λ (m : CommandsSoFar). m.images) began) refl (tt, tt) a.2;
+        none_left = ap (λ (m : CommandsSoFar). m.left) began ∙ a.3;
         fewer = b.fewer;
       };
       number = number_of v query;
       stands = record {
         next = number_of v query ∙ sym (made_more es (puts command) ∙ add-zero (made es) ∙ b.opens);
         is_open = ap (λ (m : CommandsSoFar). m.is_open) began;
+        none_left = ap (λ (m : CommandsSoFar). m.left) began ∙ a.3;
         is_for = first_for_query (record {
           first = command_open_more es (puts command);
           query = query;
-          names = subst (λ k. ComesTo (es ++ puts command ∷ []) k (inquires query)) (sym (number_of v query)) (command_comes es s inner ws (inquires query) a.1 e);
+          names = subst (λ k. ComesTo (es ++ puts command ∷ []) k (inquires query)) (sym (number_of v query)) (command_comes es outs s inner outer ws (inquires query) a e);
           fields_are = query_fields (port_offset (es ++ puts command ∷ [])) v query (offset_more es (puts command) ∙ b.offset_is);
         });
       };
       purpose = for_query query refl (subst (λ m. AsksIn (hardware (es ++ puts command ∷ [])) m (live_for v query) query) (sym began) (record {
         shown = shown;
         said = refl;
-        asked = asks_at_once (ap (λ t. shown_effect (live_for v query).number t shown) a.1.table ∙ ap (λ k. shown_effect k s.table shown) (number_of v query) ∙ shown_effect_is s.opens s.table ws ∙ e);
+        asked = asks_at_once (ap (λ k. comes_by k (so_far es) shown) (number_of v query) ∙ here ∙ e);
         is_for = live_is_for (hardware (es ++ puts command ∷ [])) v query (hardware_more es (puts command) ∙ b.hardware_is ∙ ap (λ m. record { mac = m; identity = s.machine }) (sym (following_mac (table_after s.table ws) (up_after s.table s.up ws) s.devices)));
       }));
-      keeps = subst (λ (m : CommandsSoFar). shown_table m.table m.shown ≡ m.table) (sym began) (ap (λ t. shown_table t (Some shown)) a.1.table ∙ shown_table_is s.table ws ∙ inquiry_keeps s.opens s.table ws query e ∙ sym a.1.table);
+      keeps = subst (λ (m : CommandsSoFar). shown_table m.table m.shown ≡ m.table) (sym began) (comes_keeps s.opens (so_far es) shown (inquires query) (here ∙ e) tt);
+      quiet = subst ConcludesNot (sym began) (concludes_not (begun_so_far (so_far es) shown) shown s.opens (inquires query) refl (here ∙ e) refl);
     })))
   where
     v : State
     v = with_settings s (table_after s.table ws) (up_after s.table s.up ws)
+
+    here : comes_by s.opens (so_far es) (shown_words s.table ws) ≡ comes_to s inner ws
+    here = comes_is (so_far es) s inner ws (running_finds es outs s inner outer a)
+
+    stays : table_after s.table ws ≡ s.table
+    stays = sym (ap (λ t. shown_table t (Some (shown_words s.table ws))) a.1.table ∙ shown_table_is s.table ws) ∙ comes_keeps s.opens (so_far es) (shown_words s.table ws) (inquires query) (here ∙ e) tt ∙ a.1.table
 
     shown : ShownWords
     shown = shown_words s.table ws
@@ -178,20 +188,20 @@ begins_by es outs s s' inner outer ws l job b a (opens_query query e state live 
     began : so_far (es ++ puts (command_record inner (shown_words s.table ws)) ∷ []) ≡ begun_so_far (so_far es) (shown_words s.table ws)
     began = begins_so_far es inner (shown_words s.table ws)
 
-pub opens_goes : (es : List Event) (outs : List Out) (s s' : State) (inner : Running) (outer : List Running) (ws : List (List ℕ)) (l : Live) (job : Job) (link : Client) (put : List Out) → Based es s → inner.begun < 4096 → doing s ws ≡ opens s' l job →
+pub opens_goes : (es : List Event) (outs : List Out) (s s' : State) (inner : Running) (outer : List Running) (ws : List (List ℕ)) (l : Live) (job : Job) (link : Client) (put : List Out) → Based es s → inner.begun < 4096 → doing s inner ws ≡ opens s' l job →
     first_records l.kind l link ≡ Some put → ScriptsAgree es outs (course.running s inner outer) →
     Goes es outs (command_record inner (shown_words s.table ws) ∷ open_record l ∷ put) (course.waiting (with_opened s' l) (record { script = entered inner; outer = outer; awaited = answer l.number; job = job }))
 opens_goes es outs s s' inner outer ws l job link put b few is first a =
     let command = command_record inner (shown_words s.table ws) in
-    let k = begins_by es outs s s' inner outer ws l job b a (opens_by s ws s' l job is) in
-    goes_after es outs command (open_record l ∷ put) _ (begins_so es s inner ws a.1 (may_begin es inner a.0 few))
+    let k = begins_by es outs s s' inner outer ws l job b a (opens_by s inner ws s' l job is) in
+    goes_after es outs command (open_record l ∷ put) _ (begins_so es s inner ws a.1 (may_begin es inner outer a.0 few))
     (begins_open (es ++ puts command ∷ []) (outs ++ command ∷ []) s' (entered inner) outer l link put job k.under_way first k.number k.stands k.purpose)
 
-pub no_route_goes : (es : List Event) (outs : List Out) (s s' : State) (inner : Running) (outer : List Running) (ws : List (List ℕ)) (l : Live) (job : Job) → Based es s → inner.begun < 4096 → doing s ws ≡ opens s' l job →
+pub no_route_goes : (es : List Event) (outs : List Out) (s s' : State) (inner : Running) (outer : List Running) (ws : List (List ℕ)) (l : Live) (job : Job) → Based es s → inner.begun < 4096 → doing s inner ws ≡ opens s' l job →
     ScriptsAgree es outs (course.running s inner outer) →
     Goes es outs (command_record inner (shown_words s.table ws) ∷ open_record l ∷ end_record l (no_route l.server) ∷ conclusion_records (fails (no_route l.server))) (course.running (with_one_made s') (further inner (no_route l.server)) outer)
 no_route_goes es outs s s' inner outer ws l job b few is a =
     let command = command_record inner (shown_words s.table ws) in
-    let k = begins_by es outs s s' inner outer ws l job b a (opens_by s ws s' l job is) in
-    goes_after es outs command (open_record l ∷ end_record l (no_route l.server) ∷ conclusion_records (fails (no_route l.server))) _ (begins_so es s inner ws a.1 (may_begin es inner a.0 few))
-    (finds_none (es ++ puts command ∷ []) (outs ++ command ∷ []) s' (entered inner) outer l k.under_way k.stands k.keeps)
+    let k = begins_by es outs s s' inner outer ws l job b a (opens_by s inner ws s' l job is) in
+    goes_after es outs command (open_record l ∷ end_record l (no_route l.server) ∷ conclusion_records (fails (no_route l.server))) _ (begins_so es s inner ws a.1 (may_begin es inner outer a.0 few))
+    (finds_none (es ++ puts command ∷ []) (outs ++ command ∷ []) s' (entered inner) outer l k.under_way k.stands k.keeps k.quiet)

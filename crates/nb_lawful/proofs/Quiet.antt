@@ -4,17 +4,16 @@ use Rattle.std.specs.List.{AllByRecursion}
 use Rattle.std.proofs.lemmas.List.Sums.{fold-append}
 use Rattle.nb_terms.specs.declared.cause.Cause.{Cause}
 use Rattle.nb_defs.specs.Parts.{IsNoPart, HaveNoParts}
-use Rattle.nb_defs.specs.Records.{Out, step, sent, command, result, opened, tried, advanced, ended, part, done}
+use Rattle.nb_defs.specs.Records.{Out, step, sent, command, result, script, opened, tried, advanced, ended, part, done}
 use Rattle.nb_machine.specs.CommandRecords.{reply_records}
 use Rattle.nb_laws.specs.Events.{Event, puts, EachEvent, followed}
 use Rattle.nb_laws.specs.Lists.{commands_by, came_ok, last_end, end_by, made, opens_by}
-use Rattle.nb_laws.specs.CommandsSoFar.{CommandsSoFar, so_far, so_far_by, no_commands}
-use Rattle.nb_laws.specs.HandOff.{image_at, images_brought}
+use Rattle.nb_laws.specs.CommandsSoFar.{CommandsSoFar, so_far, so_far_by}
 use Rattle.nb_laws.specs.Agreement.{IsStill}
 use Rattle.nb_laws.specs.Silence.{IsSilent, AreSilent}
-use Rattle.nb_laws.proofs.Histories.{followed_append}
 use Rattle.nb_laws.proofs.Tellings.{told, made_more}
-use Rattle.nb_laws.proofs.HandOffs.{one_keeps, last_end_more}
+use Rattle.nb_laws.proofs.HandOffs.{last_end_more}
+use Rattle.nb_laws.proofs.SoFar.{told_so_far, IsNoScript, HaveNoScripts}
 use Rattle.nb_openlaws.proofs.Puts.{IsQuiet, AreQuiet, IsEndWith}
 use Rattle.nb_lawful.specs.CommandOpens.{command_open_by, command_open}
 use Rattle.nb_lawful.specs.Results.{CommandsSo}
@@ -25,10 +24,6 @@ reply_quiet [] = tt
 reply_quiet (b ∷ bytes) = (tt, tt)
 
 -- THE SETTINGS AND THE COMMAND
-
-told_so_far : (es : List Event) (outs : List Out) → so_far (es ++ told outs) ≡ followed so_far_by es (so_far es) (told outs)
-unfolding so_far
-told_so_far es outs = followed_append so_far_by [] no_commands es (told outs)
 
 quiet_one : (before : List Event) (m : CommandsSoFar) (o : Out) → IsQuiet o → so_far_by before m (puts o) ≡ m
 unfolding IsQuiet
@@ -59,21 +54,17 @@ pub quiet_begin : (n : ℕ) (outs : List Out) → AreQuiet outs → fold command
 quiet_begin n [] h = refl
 quiet_begin n (o ∷ outs) h = ap (λ z. fold commands_by z (told outs)) (quiet_begins_none n o h.0) ∙ quiet_begin n outs h.1
 
--- THE IMAGES
+-- THE SCRIPTS
 
-quiet_image : (es : List Event) (o : Out) → IsQuiet o → image_at es (puts o) ≡ []
+quiet_script : (o : Out) → IsQuiet o → IsNoScript o
 unfolding IsQuiet
-quiet_image es (sent bytes) h = refl
-quiet_image es (tried number count) h = refl
-quiet_image es (advanced number place) h = refl
-quiet_image es (ended number cause) h = refl
-quiet_image es _ h = absurd h
+quiet_script (script what depth cause) h = absurd h
+quiet_script (step number) h = absurd h
+quiet_script _ h = tt
 
-pub quiet_images : (es : List Event) (outs : List Out) → AreQuiet outs → images_brought (es ++ told outs) ≡ images_brought es
-quiet_images es [] h = ap images_brought (append-nil es)
-quiet_images es (o ∷ outs) h =
-    ap images_brought (sym (append_assoc es (puts o ∷ []) (told outs))) ∙ quiet_images (es ++ puts o ∷ []) outs h.1
-    ∙ one_keeps es o (quiet_image es o h.0)
+pub quiet_scripts : (outs : List Out) → AreQuiet outs → HaveNoScripts outs
+quiet_scripts [] h = tt
+quiet_scripts (o ∷ outs) h = (quiet_script o h.0, quiet_scripts outs h.1)
 
 quiet_part : (o : Out) → IsQuiet o → IsNoPart o
 unfolding IsQuiet
@@ -118,6 +109,7 @@ pub silent_stands : (before : List Event) (o : Out) → IsStill o → IsSilent o
 silent_stands before (sent bytes) still h = absurd h
 silent_stands before (command depth line place expanded words) still h = absurd h
 silent_stands before (result cause) still h = absurd h
+silent_stands before (script what depth cause) still h = absurd h
 silent_stands before (opened number kind server port own target) still h = absurd h
 silent_stands before (done status) still h = absurd h
 silent_stands before (step number) still h = absurd still

@@ -9,11 +9,11 @@ use Rattle.nb_machine.specs.States.{State}
 use Rattle.nb_machine.specs.Scripts.{Waiting}
 use Rattle.nb_laws.specs.Events.{Event}
 use Rattle.nb_laws.specs.Lists.{hardware, made}
-use Rattle.nb_laws.specs.CommandsSoFar.{CommandsSoFar, so_far, shown_effect, ComesTo}
-use Rattle.nb_laws.specs.HandOff.{wanted_by}
+use Rattle.nb_laws.specs.CommandsSoFar.{CommandsSoFar, so_far, comes_by, ComesTo}
+use Rattle.nb_laws.specs.Wanting.{wanted_by}
 use Rattle.nb_laws.specs.Progress.{NoneOversleeps}
 use Rattle.nb_laws.proofs.Inquiries.{asks_some}
-use Rattle.nb_laws.proofs.SoFar.{shown_sleeps, same_shown, same_seconds, inquiry_rests}
+use Rattle.nb_laws.proofs.Settling.{comes_sleeps, same_shown, same_seconds, inquiry_rests}
 use Rattle.nb_openlaws.specs.Standings.{live_opening}
 use Rattle.nb_lawful.specs.ScriptAgreement.{SleepsUntil, FetchesWith, AsksIn, AwaitsSo, awaits_time, awaits_file, awaits_query}
 
@@ -21,20 +21,20 @@ fetch_rests : (es : List Event) (l : Live) (wanted : Wanted) → FetchesWith (so
 fetch_rests es l wanted a = λ seconds still comes.
     let (shown, is, sleeps_so) = comes in
     let same : shown ≡ a.shown = same_shown (so_far es).shown shown a.shown is a.said in
-    let asleep : shown_effect (made es) (so_far es).table a.shown ≡ sleeps seconds = subst (λ x. shown_effect (made es) (so_far es).table x ≡ sleeps seconds) same sleeps_so in
-    let again : shown_effect l.number (so_far es).table a.shown ≡ sleeps seconds = shown_sleeps (made es) l.number (so_far es).table a.shown.expanded a.shown.words seconds asleep in
+    let asleep : comes_by (made es) (so_far es) a.shown ≡ sleeps seconds = subst (λ x. comes_by (made es) (so_far es) x ≡ sleeps seconds) same sleeps_so in
+    let again : comes_by l.number (so_far es) a.shown ≡ sleeps seconds = comes_sleeps (made es) l.number (so_far es) a.shown seconds asleep in
     absurd (none-some wanted (sym (ap (λ e. wanted_by e (live_opening l)) again) ∙ a.asked))
 
 query_rests : (es : List Event) (l : Live) (query : Query) → AsksIn (hardware es) (so_far es) l query → NoneOversleeps es
 query_rests es l query a =
-    let (q, is) = asks_some (shown_effect l.number (so_far es).table a.shown) query a.asked in
+    let (q, is) = asks_some (comes_by l.number (so_far es) a.shown) query a.asked in
     inquiry_rests es l.number q (a.shown, a.said, is)
 
 sleep_rests : (es : List Event) (s : State) (until : ℕ) → made es ≡ s.opens → (so_far es).now ≡ s.now → SleepsUntil (so_far es) s until → NoneOversleeps es
 sleep_rests es s until opens now a = λ seconds still comes.
     let (shown, is, sleeps_so) = comes in
     let same : shown ≡ a.shown = same_shown (so_far es).shown shown a.shown is a.is_shown in
-    let here : shown_effect s.opens (so_far es).table a.shown ≡ sleeps seconds = subst (λ x. shown_effect s.opens (so_far es).table x ≡ sleeps seconds) same (subst (λ k. shown_effect k (so_far es).table shown ≡ sleeps seconds) opens sleeps_so) in
+    let here : comes_by s.opens (so_far es) a.shown ≡ sleeps seconds = subst (λ x. comes_by s.opens (so_far es) x ≡ sleeps seconds) same (subst (λ k. comes_by k (so_far es) shown ≡ sleeps seconds) opens sleeps_so) in
     let seconds_are : a.seconds ≡ seconds = same_seconds a.seconds seconds (sym a.sleeps_so ∙ here) in
     let due : until ≡ (so_far es).since + 1000 * seconds = a.until_is ∙ ap (λ n. (so_far es).since + 1000 * n) seconds_are in
     subst (λ t. t < (so_far es).since + 1000 * seconds) (sym now) (subst (λ u. s.now < u) due a.early)
@@ -46,11 +46,11 @@ waiting_rests es s w opens now (awaits_query l query at job a) = query_rests es 
 
 -- and it is that command that sleeps
 pub sleeping_comes : (es : List Event) (s : State) (until : ℕ) → made es ≡ s.opens → (a : SleepsUntil (so_far es) s until) → ComesTo es (made es) (sleeps a.seconds)
-sleeping_comes es s until opens a = (a.shown, a.is_shown, subst (λ k. shown_effect k (so_far es).table a.shown ≡ sleeps a.seconds) (sym opens) a.sleeps_so)
+sleeping_comes es s until opens a = (a.shown, a.is_shown, subst (λ k. comes_by k (so_far es) a.shown ≡ sleeps a.seconds) (sym opens) a.sleeps_so)
 
 -- it rests on where nothing was done and no time has passed
 abbrev RestsBy : CommandsSoFar → ℕ → Type 0
-RestsBy m opens = (seconds : ℕ) → m.is_open ≡ true → ((shown : ShownWords) × (m.shown ≡ Some shown) × (shown_effect opens m.table shown ≡ sleeps seconds)) → m.now < m.since + 1000 * seconds
+RestsBy m opens = (seconds : ℕ) → m.is_open ≡ true → ((shown : ShownWords) × (m.shown ≡ Some shown) × (comes_by opens m shown ≡ sleeps seconds)) → m.now < m.since + 1000 * seconds
 
 pub rests_on : (es es2 : List Event) → so_far es2 ≡ record (so_far es) { now = (so_far es).now + 0 } → made es2 ≡ made es → NoneOversleeps es → NoneOversleeps es2
 rests_on es es2 same opens h =

@@ -1,5 +1,6 @@
 -- Each course has a history, and it keeps the laws.
 use Rattle.std.proofs.Common.{◌≡◌, inl, inr, ℕ, List, [], ◌∷◌, ◌++◌, length, refl, sym, ◌∙◌, ap, subst}
+use Rattle.std.proofs.lemmas.Option.{none-some}
 use Rattle.nb_defs.specs.Records.{In, Out, step}
 use Rattle.std.specs.List.{AllByRecursion}
 use Rattle.nb_machine.specs.Lives.{Live}
@@ -15,7 +16,8 @@ use Rattle.nb_laws.specs.HandOff.{HandsOff}
 use Rattle.nb_laws.specs.Lawful.{HandsAsBrought}
 use Rattle.nb_laws.specs.Progress.{StepsSo, AdvancesSo, IsAdvanced, NoneOversleeps}
 use Rattle.nb_laws.proofs.Histories.{each_append, each_then_append, one_history}
-use Rattle.nb_laws.proofs.SoFar.{over_rests, nothing_so_far, inquiry_rests}
+use Rattle.nb_laws.proofs.SoFar.{nothing_so_far}
+use Rattle.nb_laws.proofs.Settling.{over_rests, inquiry_rests}
 use Rattle.nb_laws.proofs.Tellings.{told, tries_later}
 use Rattle.nb_laws.specs.CommandsSoFar.{CommandsSoFar}
 use Rattle.nb_machine.specs.Queries.{for_host}
@@ -60,11 +62,12 @@ pub record Story (ins : List In) (outs : List Out) (es : List Event) (p : Standi
 pub standing_rests : (es : List Event) (outs : List Out) (p : Standing) → AgreesStanding es p → ScriptsAgree es outs p → NoneOversleeps es
 standing_rests es outs course.ready a h = over_rests es (ap (λ (x : CommandsSoFar). x.is_open) (nothing_so_far es h.0))
 standing_rests es outs (course.running s inner outer) a h = over_rests es h.1.is_open
-standing_rests es outs (course.waiting s w) a h = waiting_rests es s w a.opens h.1.now h.3
-standing_rests es outs (course.reaching s inner outer next) a h = inquiry_rests es _ (for_host h.3.errand h.3.name h.3.by) h.3.names
+standing_rests es outs (course.waiting s w) a h = waiting_rests es s w a.opens h.1.now h.4
+standing_rests es outs (course.reaching s inner outer next) a h = inquiry_rests es _ (for_host h.4.errand h.4.name h.4.by) h.4.names
 standing_rests es outs (course.yielded s inner outer) a h = over_rests es h.1.is_open
 standing_rests es outs (course.handing s rest) a h = over_rests es h.1
-standing_rests es outs (course.left s outer cause) a h = over_rests es h.0
+standing_rests es outs (course.left s [] cause) a h = over_rests es h.2.0
+standing_rests es outs (course.left s (inner ∷ outer) cause) a h = λ seconds still comes. absurd (let (shown, said, sleeps_so) = comes in none-some shown (sym h.2.2 ∙ said))
 standing_rests es outs (course.handed_off s) a h = over_rests es h.0
 standing_rests es outs (course.stopped s) a h = h.0
 
@@ -75,7 +78,7 @@ standing_hands es outs (course.waiting s w) h = inl h.2.none
 standing_hands es outs (course.reaching s inner outer next) h = inl h.2.none
 standing_hands es outs (course.yielded s inner outer) h = inl h.2.none
 standing_hands es outs (course.handing s rest) h = inr (rest, h.2)
-standing_hands es outs (course.left s outer cause) h = inl h.1
+standing_hands es outs (course.left s outer cause) h = inl h.4.none
 standing_hands es outs (course.handed_off s) h = inr ([], h.1)
 standing_hands es outs (course.stopped s) h = inl h.1
 

@@ -1,12 +1,14 @@
 -- A course goes on by one step or one move: the scripts' side of its history.
-use Rattle.std.proofs.Common.{◌≡◌, ℕ, ◌+◌, ◌≤◌, Bool, true, false, List, [], ◌∷◌, ◌++◌, Some, None, refl, sym, ◌∙◌, ap, subst, append_assoc, add-zero, arith, ne_eqb}
+use Rattle.std.proofs.Common.{◌≡◌, ℕ, ◌+◌, ◌≤◌, length, Bool, true, false, List, [], ◌∷◌, ◌++◌, Some, None, refl, sym, ◌∙◌, ap, subst, append_assoc, add-zero, arith, ne_eqb}
 use Rattle.std.specs.List.{AllByRecursion}
 use Rattle.std.proofs.lemmas.List.{map-append}
 use Rattle.nb_terms.specs.declared.cause.Cause.{Cause}
 use Rattle.nb_defs.specs.Records.{Start, In, Out, step, enter, leave, result}
 use Rattle.nb_defs.specs.ScriptLines.{Line, script}
 use Rattle.nb_defs.specs.Causes.{ok}
-use Rattle.nb_machine.specs.FirstText.{first_reading}
+use Rattle.nb_machine.specs.FirstText.{first_text, first_reading, lines_of}
+use Rattle.nb_machine.specs.StartTable.{start_table}
+use Rattle.nb_machine.specs.Starting.{is_up}
 use Rattle.nb_machine.specs.Running.{Running, first_script, anew}
 use Rattle.nb_machine.specs.CommandRecords.{stopped_cause}
 use Rattle.nb_runner.proofs.HandingLemmas.{all_append}
@@ -18,30 +20,31 @@ use Rattle.nb_machine.specs.Scripts.{sleep, Answer, by_end, by_time, answer_in, 
 use Rattle.nb_machine.specs.Courses as course
 use Rattle.nb_machine.specs.Courses.{Standing, Progress, LeadsTo, StepBegins, Proceeds}
 use Rattle.nb_laws.specs.Events.{Event, starts, stops, puts, EachEvent}
-use Rattle.nb_laws.specs.Lists.{made, ms_of, gathered}
-use Rattle.nb_laws.specs.Code.{code_read}
-use Rattle.nb_laws.specs.CommandsSoFar.{CommandsSoFar, so_far}
-use Rattle.nb_laws.specs.HandOff.{images_brought, image_list}
+use Rattle.nb_laws.specs.Lists.{made, ms_of}
+use Rattle.nb_laws.specs.CommandsSoFar.{CommandsSoFar, so_far, no_commands, script_so_far}
+use Rattle.nb_laws.specs.Frames.{enters_first}
 use Rattle.nb_laws.specs.Progress.{NoneOversleeps}
 use Rattle.nb_laws.specs.Silence.{IsSilent}
 use Rattle.nb_laws.specs.Agreement.{AgreesScript, IsStill}
 use Rattle.nb_laws.proofs.Histories.{time_more}
 use Rattle.nb_laws.proofs.Tellings.{told, made_more}
-use Rattle.nb_laws.proofs.Codes.{code_more, told_code}
 use Rattle.nb_laws.proofs.Commands.{told_begun, begun_more}
-use Rattle.nb_laws.proofs.HandOffs.{parts_more, one_keeps, silent_image}
-use Rattle.nb_laws.proofs.SoFar.{so_far_more, silent_so_far, first_so_far, over_rests}
+use Rattle.nb_laws.proofs.HandOffs.{parts_more}
+use Rattle.nb_laws.proofs.SoFar.{so_far_more, silent_so_far, starts_so_far}
+use Rattle.nb_laws.proofs.Settling.{over_rests}
 use Rattle.nb_openlaws.specs.Standings.{AreLive, AgreesState, AgreesStanding}
 use Rattle.nb_openlaws.proofs.Networks.{network_agrees}
 use Rattle.nb_openlaws.proofs.OpenStates as states
 use Rattle.nb_openlaws.proofs.Courses.{step_event, step_more}
 use Rattle.nb_openlaws.proofs.Puts.{close_ends}
-use Rattle.nb_lawful.specs.Results.{CommandsSo}
-use Rattle.nb_lawful.specs.ScriptAgreement.{SettingsAre, IsAnother, HasImages, ScriptsAgree}
-use Rattle.nb_lawful.proofs.Quiet.{silent_stands, quiet_commands, quiet_made, ends_quiet}
+use Rattle.nb_lawful.specs.CommandOpens.{command_open}
+use Rattle.nb_lawful.specs.Results.{HasEndedOpens, CommandsSo}
+use Rattle.nb_lawful.specs.ScriptAgreement.{SettingsAre, IsAnother, HasImages, NoneLeft, ScriptsAgree}
+use Rattle.nb_lawful.proofs.Quiet.{silent_stands, quiet_commands, quiet_made, command_open_more, ends_quiet}
 use Rattle.nb_lawful.proofs.Begun.{told_two, stand_then}
-use Rattle.nb_lawful.proofs.AtOnce.{Goes, goes_nowhere, passes_goes, left_goes, does_goes, leaves_goes, jumps_goes, no_label_goes, shuts_goes, sleeps_goes}
+use Rattle.nb_lawful.proofs.AtOnce.{Goes, goes_nowhere, passes_goes, left_goes, hands_back_goes, does_goes, leaves_goes, jumps_goes, no_label_goes, shuts_goes, sleeps_goes}
 use Rattle.nb_lawful.proofs.Opening.{Based, opens_goes, no_route_goes}
+use Rattle.nb_lawful.proofs.There.{there_goes}
 use Rattle.nb_lawful.proofs.Onward.{onward_goes, no_way_goes, full_goes}
 use Rattle.nb_lawful.proofs.Stepping.{network_leaves, told_time, comes}
 use Rattle.nb_lawful.proofs.Answered.{job_goes, slept_goes}
@@ -86,7 +89,7 @@ pub network_steps : (es : List Event) (outs : List Out) (s s' : State) (w : Wait
 network_steps es outs s s' w n r put over net a h =
     let u = network_agrees es s n r put s' over net a in
     let leaves = network_leaves s s' n r put over net in
-    record { at = refl; came = comes es outs s s' w.script true n u.event put u.used u.further leaves (now_is es s s' u.event put a u.agrees) h.0 h.1 h.2; leaves = leaves; net = net }
+    record { at = refl; came = comes es outs s s' w.script w.outer true n u.event put u.used u.further leaves (now_is es s s' u.event put a u.agrees) h.0 h.1 h.2 h.3; leaves = leaves; net = net }
   where
     now_is : (es : List Event) (s s' : State) (e : Event) (put : List Out) → AgreesState es s → AgreesState ((es ++ e ∷ []) ++ told put) s' → s'.now ≡ s.now + ms_of e
     now_is es s s' e put a b = sym b.time ∙ told_time (es ++ e ∷ []) put ∙ time_more es e ∙ ap (λ z. z + ms_of e) a.time
@@ -104,26 +107,26 @@ waits_step es outs s s' w n r put over net a unanswered h =
     let k = network_steps es outs s s' w n r put over net a h in
     record {
       stands = quiet_commands (es ++ u.event ∷ []) put k.leaves.quiet;
-      agrees = (k.came.script, k.came.settings, k.came.images, waits_so es es2 outs s s' w r n u.event put over k unanswered h.3);
+      agrees = (k.came.script, k.came.settings, k.came.images, k.came.none_left, waits_so es es2 outs s s' w r n u.event put over k unanswered h.4);
     }
 
 -- what it waits for has come
 answered_step : (es : List Event) (outs : List Out) (s s' : State) (w : Waiting) (n : ℕ) (r : In) (put more : List Out) (over : List Over) (x : Answer) (p : Standing) (net : Network s n r put s' over) (a : AgreesState es s) → AnswersIn es s →
-    answer_in s' r over w.awaited ≡ Some x → LeadsTo s' (anew w.script) w.outer (concluded_by s' w.job x) more p → ScriptsAgree es outs (course.waiting s w) →
-    StepGoes es outs (network_agrees es s n r put s' over net a).event n (put ++ (upshot_records (concluded_by s' w.job x) ++ more)) p
+    answer_in s' r over w.awaited ≡ Some x → LeadsTo s' (anew w.script) w.outer (concluded_by s' w.script.depth w.job x) more p → ScriptsAgree es outs (course.waiting s w) →
+    StepGoes es outs (network_agrees es s n r put s' over net a).event n (put ++ (upshot_records (concluded_by s' w.script.depth w.job x) ++ more)) p
 answered_step es outs s s' w n r put more over x p net a answers answered leads h =
     let u = network_agrees es s n r put s' over net a in
     let es2 = (es ++ u.event ∷ []) ++ told put in
     let k = network_steps es outs s s' w n r put over net a h in
-    step_then es outs u.event n put (upshot_records (concluded_by s' w.job x) ++ more) p (quiet_commands (es ++ u.event ∷ []) put k.leaves.quiet)
-    (by es2 (comes_so es es2 outs s s' w r n u.event put over x k u.agrees.opens u.ended (answers n r put s' over net a) answered h.3))
+    step_then es outs u.event n put (upshot_records (concluded_by s' w.script.depth w.job x) ++ more) p (quiet_commands (es ++ u.event ∷ []) put k.leaves.quiet)
+    (by es2 (comes_so es es2 outs s s' w r n u.event put over x k u.agrees.opens u.ended (answers n r put s' over net a) answered h.4))
   where
-    by : (es2 : List Event) → Comes es2 outs s s' w n put x → Goes es2 (outs ++ step n ∷ put) (upshot_records (concluded_by s' w.job x) ++ more) p
+    by : (es2 : List Event) → Comes es2 outs s s' w n put x → Goes es2 (outs ++ step n ∷ put) (upshot_records (concluded_by s' w.script.depth w.job x) ++ more) p
     by es2 (its_time until is job slept) =
-        let at : concluded_by s' w.job x ≡ concluded_by s' sleep by_time = ap (λ z. concluded_by s' z x) job ∙ ap (concluded_by s' sleep) is in
+        let at : concluded_by s' w.script.depth w.job x ≡ concluded_by s' w.script.depth sleep by_time = ap (λ z. concluded_by s' w.script.depth z x) job ∙ ap (concluded_by s' w.script.depth sleep) is in
         subst (λ z. Goes es2 (outs ++ step n ∷ put) (upshot_records z ++ more) p) (sym at) (slept_goes es2 (outs ++ step n ∷ put) s' s (anew w.script) w.outer until more p slept (subst (λ z. LeadsTo s' (anew w.script) w.outer z more p) at leads))
     by es2 (its_end l cause is ended purpose) =
-        let at : concluded_by s' w.job x ≡ concluded_by s' w.job (by_end (record { live = l; cause = cause })) = ap (concluded_by s' w.job) is in
+        let at : concluded_by s' w.script.depth w.job x ≡ concluded_by s' w.script.depth w.job (by_end (record { live = l; cause = cause })) = ap (concluded_by s' w.script.depth w.job) is in
         subst (λ z. Goes es2 (outs ++ step n ∷ put) (upshot_records z ++ more) p) (sym at) (job_goes es2 (outs ++ step n ∷ put) s' (anew w.script) w.outer l cause w.job more p ended purpose (subst (λ z. LeadsTo s' (anew w.script) w.outer z more p) at leads))
 
 -- a script goes on
@@ -133,48 +136,59 @@ resumes_step es outs s s' inner outer n r put over net a h =
     let u = network_agrees es s n r put s' over net a in
     let leaves = network_leaves s s' n r put over net in
     let now : s'.now ≡ s.now + ms_of u.event = sym u.agrees.time ∙ told_time (es ++ u.event ∷ []) put ∙ time_more es u.event ∙ ap (λ z. z + ms_of u.event) a.time in
-    let c = comes es outs s s' inner false n u.event put u.used u.further leaves now h.0 h.1 h.2 in
-    record { stands = quiet_commands (es ++ u.event ∷ []) put leaves.quiet; agrees = (c.script, c.settings, c.images) }
+    let c = comes es outs s s' inner outer false n u.event put u.used u.further leaves now h.0 h.1 h.2 h.3 in
+    record { stands = quiet_commands (es ++ u.event ∷ []) put leaves.quiet; agrees = (c.script, c.settings, c.images, c.none_left) }
 
 -- the power is switched off
-off_step : (es : List Event) (outs : List Out) (s : State) (inner : Running) (still : Bool) (n : ℕ) (put : List Out) (over : List Over) → AllTake s.devices (close stopped_cause) s.live put [] over → AgreesScript es inner → SettingsAre (so_far es) s still →
-    HasImages es outs s → NoneOversleeps es → StepGoes es outs (stops n) n put (course.stopped (with_live s []))
-off_step es outs s inner still n put over all lines settings images rests =
+off_step : (es : List Event) (outs : List Out) (s : State) (inner : Running) (outer : List Running) (still : Bool) (n : ℕ) (put : List Out) (over : List Over) → AllTake s.devices (close stopped_cause) s.live put [] over → AgreesScript es inner outer → SettingsAre (so_far es) s still →
+    HasImages es outs s → NoneLeft es → NoneOversleeps es → StepGoes es outs (stops n) n put (course.stopped (with_live s []))
+off_step es outs s inner outer still n put over all lines settings images none_left rests =
     let quiet = ends_quiet stopped_cause put (close_ends s.devices stopped_cause s.live put [] over all) in
-    let c = comes es outs s (with_live s []) inner still n (stops n) put tt tt (record { table = refl; up = refl; images = refl; opens = refl; quiet = quiet }) (sym (add-zero s.now)) lines settings images in
+    let c = comes es outs s (with_live s []) inner outer still n (stops n) put tt tt (record { table = refl; up = refl; images = refl; opens = refl; quiet = quiet }) (sym (add-zero s.now)) lines settings images none_left in
     let made_is : made ((es ++ stops n ∷ []) ++ told put) ≡ made es = quiet_made (es ++ stops n ∷ []) put quiet ∙ made_more es (stops n) ∙ add-zero (made es) in
     record { stands = quiet_commands (es ++ stops n ∷ []) put quiet; agrees = (rests_on es ((es ++ stops n ∷ []) ++ told put) c.same made_is rests, c.images.none) }
 
 -- START
-none_brought : (s : Start) (n : ℕ) → [] ≡ image_list (images_brought (starts n s ∷ told (enter 1 ∷ [])))
-unfolding images_brought gathered
-none_brought s n = refl
+starts_agrees : (es : List Event) (outs : List Out) (s : Start) (n : ℕ) → ScriptsAgree es outs course.ready →
+    ScriptsAgree ((es ++ starts n s ∷ []) ++ told (enter 1 ∷ [])) (outs ++ step n ∷ enter 1 ∷ []) (course.running (state_at_start s) (first_script (lines_of (first_reading s.script))) [])
+starts_agrees es outs s n h =
+    let es1 = es ++ starts n s ∷ [] in
+    let b = enter 1 ∷ [] in
+    let is : so_far (es1 ++ told b) ≡ record no_commands { table = start_table s; up = is_up s; scripts = script_so_far (first_text s.script) None ∷ [] } = so_far_more es1 (puts (enter 1)) ∙ starts_so_far es n s h.0 in (
+      record { scripts = record { same = ap (λ (m : CommandsSoFar). m.scripts) is; depths = ((refl, tt), omega arith) }; begun = told_begun es1 b ∙ begun_more es (starts n s) },
+      subst (λ m. SettingsAre m (state_at_start s) false) (sym is) (record { table = refl; up = refl; now = refl; is_open = refl }),
+      record { list = ap (λ (m : CommandsSoFar). m.images) is; none = parts_more outs (step n ∷ b) h.1 (tt, (tt, tt)) },
+      ap (λ (m : CommandsSoFar). m.left) is,
+    )
+
+nothing_opened : (es : List Event) → es ≡ [] → command_open es ≡ None
+unfolding command_open
+nothing_opened es e = ap command_open e
+
+none_opened : (es : List Event) (n : ℕ) (s : Start) → es ≡ [] → command_open (es ++ starts n s ∷ []) ≡ None
+none_opened es n s e = command_open_more es (starts n s) ∙ nothing_opened es e
+
+enter_stands : (es : List Event) (outs : List Out) (s : Start) (n : ℕ) → ScriptsAgree es outs course.ready → EachEvent CommandsSo (es ++ starts n s ∷ []) (told (enter 1 ∷ []))
+enter_stands es outs s n h =
+    let is = starts_so_far es n s h.0 in (
+      record {
+        stands = enters_first (ap (λ (m : CommandsSoFar). m.is_open) is) (ap (λ (m : CommandsSoFar). length m.scripts) is);
+        ended = λ enters. subst HasEndedOpens (sym (none_opened es n s h.0)) tt;
+      },
+      tt,
+    )
 
 starts_step : (es : List Event) (outs : List Out) (s : Start) (n : ℕ) (code : List Line) → first_reading s.script ≡ script code → ScriptsAgree es outs course.ready →
     StepGoes es outs (starts n s) n (enter 1 ∷ []) (course.running (state_at_start s) (first_script code) [])
-starts_step es outs s n code reads h =
-    let e = starts n s in
-    let b = enter 1 ∷ [] in
-    let es1 = es ++ e ∷ [] in
-    record {
-      stands = (tt, tt);
-      agrees = (
-        record { code = sym (told_code es1 b ∙ code_more es e ∙ ap code_read reads); begun = told_begun es1 b ∙ begun_more es e },
-        subst (λ m. SettingsAre m (state_at_start s) false) (sym (first_so_far es n s b h.0 (tt, tt))) (record { table = refl; up = refl; now = refl; is_open = refl }),
-        record {
-          list = subst (λ (z : List Event). [] ≡ image_list (images_brought ((z ++ starts n s ∷ []) ++ told (enter 1 ∷ [])))) (sym h.0) (none_brought s n);
-          none = parts_more outs (step n ∷ b) h.1 (tt, (tt, tt));
-        },
-      );
-    }
+starts_step es outs s n code reads h = record {
+  stands = enter_stands es outs s n h;
+  agrees = subst (λ z. ScriptsAgree ((es ++ starts n s ∷ []) ++ told (enter 1 ∷ [])) (outs ++ step n ∷ enter 1 ∷ []) (course.running (state_at_start s) (first_script z) [])) (ap lines_of reads) (starts_agrees es outs s n h);
+}
 
 refused_step : (es : List Event) (outs : List Out) (s : Start) (n : ℕ) (cause : Cause) → ScriptsAgree es outs course.ready → StepGoes es outs (starts n s) n (enter 1 ∷ leave 1 cause ∷ []) (course.left (state_at_start s) [] cause)
 refused_step es outs s n cause h =
-    let b = enter 1 ∷ leave 1 cause ∷ [] in
-    record {
-      stands = (tt, (tt, tt));
-      agrees = (ap (λ (m : CommandsSoFar). m.is_open) (first_so_far es n s b h.0 (tt, (tt, tt))), parts_more outs (step n ∷ b) h.1 (tt, (tt, (tt, tt))));
-    }
+    step_then es outs (starts n s) n (enter 1 ∷ []) (leave 1 cause ∷ []) (course.left (state_at_start s) [] cause) (enter_stands es outs s n h)
+    (left_goes ((es ++ starts n s ∷ []) ++ told (enter 1 ∷ [])) (outs ++ step n ∷ enter 1 ∷ []) (state_at_start s) (first_script (lines_of (first_reading s.script))) [] cause (starts_agrees es outs s n h))
 
 -- what a step needs to know of the opens that end in it
 abbrev pub AnswersAt : List Event → Standing → Type 0
@@ -196,13 +210,13 @@ step_scripts es outs m r added m2 (course.refuses n s cause valid refuses) a ans
 step_scripts es outs m r added m2 (course.waits_on n s s2 w r0 put over valid net none) a answers h = waits_step es outs s s2 w (n + 1) r put over net a none h
 step_scripts es outs m r added m2 (course.is_answered n s s2 w r0 put more over x p valid net some leads) a answers h =
     let u = network_agrees es s (n + 1) r put s2 over net a in
-    step_as es outs u.event (n + 1) (put ++ (upshot_records (concluded_by s2 w.job x) ++ more)) (put ++ upshot_records (concluded_by s2 w.job x) ++ more) p (sym (append_assoc put (upshot_records (concluded_by s2 w.job x)) more))
+    step_as es outs u.event (n + 1) (put ++ (upshot_records (concluded_by s2 w.script.depth w.job x) ++ more)) (put ++ upshot_records (concluded_by s2 w.script.depth w.job x) ++ more) p (sym (append_assoc put (upshot_records (concluded_by s2 w.script.depth w.job x)) more))
     (answered_step es outs s s2 w (n + 1) r put more over x p net a answers some leads h)
 step_scripts es outs m r added m2 (course.switches_off n s w put over all) a answers h =
-    off_step es outs s w.script true (n + 1) put over all h.0 h.1 h.2 (waiting_rests es s w a.opens h.1.now h.3)
+    off_step es outs s w.script w.outer true (n + 1) put over all h.0 h.1 h.2 h.3 (waiting_rests es s w a.opens h.1.now h.4)
 step_scripts es outs m r added m2 (course.resumes n s s2 inner outer r0 put over valid net) a answers h = resumes_step es outs s s2 inner outer (n + 1) r put over net a h
 step_scripts es outs m r added m2 (course.goes_off n s inner outer put over all) a answers h =
-    off_step es outs s inner false (n + 1) put over all h.0 h.1 h.2 (over_rests es h.1.is_open)
+    off_step es outs s inner outer false (n + 1) put over all h.0 h.1 h.2 h.3 (over_rests es h.1.is_open)
 
 -- A MOVE
 
@@ -219,11 +233,11 @@ hands_goes es outs s r rest still (silent, over, hands) = record {
         ends = ap (λ z. z ++ puts r ∷ []) hands.booted.ends ∙ append_assoc hands.booted.before (puts (result ok) ∷ told hands.booted.since) (puts r ∷ [])
             ∙ ap (λ z. hands.booted.before ++ puts (result ok) ∷ z) (sym (map-append puts hands.booted.since (r ∷ [])));
         silent = all_append IsSilent hands.booted.since (r ∷ []) hands.booted.silent (silent.0, tt);
+        list = hands.booted.list;
+        kernel = hands.booted.kernel;
         boots = hands.booted.boots;
       };
-      earlier = hands.earlier;
-      last = hands.last;
-      all = one_keeps es r (silent_image es r silent.0) ∙ hands.all;
+      place = hands.place;
       before = hands.before;
       none = hands.none;
       ends = append_assoc outs (r ∷ []) rest ∙ hands.ends;
@@ -235,7 +249,9 @@ hands_goes es outs s r rest still (silent, over, hands) = record {
 pub move_scripts : (es : List Event) (outs : List Out) (m : Progress) (added : List Out) (m2 : Progress) → Proceeds m added m2 → AgreesStanding es m.standing → ScriptsAgree es outs m.standing → Goes es outs added m2.standing
 move_scripts es outs m added m2 (course.passes n s inner next outer comes) a h = passes_goes es outs s inner next outer comes h
 move_scripts es outs m added m2 (course.is_left n s inner outer cause comes) a h = left_goes es outs s inner outer cause h
-move_scripts es outs m added m2 (course.yields n s inner outer c cs comes full) a h = goes_nowhere es outs (course.yielded s inner outer) (h.0, h.1, h.2, full)
+move_scripts es outs m added m2 (course.hands_back n s inner outer cause) a h = hands_back_goes es outs s inner outer cause h
+move_scripts es outs m added m2 (course.concludes_there n s inner outer c cs x put p comes few is leads) a h = there_goes es outs s inner outer (c ∷ cs) x put p a.opens few is leads h
+move_scripts es outs m added m2 (course.yields n s inner outer c cs comes full) a h = goes_nowhere es outs (course.yielded s inner outer) (h.0, h.1, h.2, h.3, full)
 move_scripts es outs m added m2 (course.does n s s2 inner outer c cs x comes few is stays) a h = does_goes es outs s s2 inner outer (c ∷ cs) x a.opens few is h
 move_scripts es outs m added m2 (course.closes_device n s s2 inner outer c cs put over comes few is all) a h = shuts_goes es outs s s2 inner outer (c ∷ cs) put over a.opens few is all h
 move_scripts es outs m added m2 (course.leaves n s s2 inner outer c cs x comes few is away) a h = leaves_goes es outs s s2 inner outer (c ∷ cs) x a.opens few is h

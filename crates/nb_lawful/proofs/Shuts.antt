@@ -1,20 +1,19 @@
 -- A command that sets the device down does so however many opens were made.
-use Rattle.std.proofs.Common.{◌≡◌, ℕ, Bool, true, false, List, Result, Ok, Err, subst}
+use Rattle.std.proofs.Common.{◌≡◌, ℕ, Bool, true, false, List, Result, Ok, Err, sym, ◌∙◌, subst}
 use Rattle.nb_settings.specs.Tables.{TableLists}
 use Rattle.nb_expand.specs.declared.error.ExpandError.{ExpandError}
 use Rattle.nb_command.specs.declared.command_plan.CommandPlan.{CommandPlan}
 use Rattle.nb_command.specs.declared.command_plan.CommandPlan.TheVariants as plan
 use Rattle.nb_command.specs.declared.error.ApplyError.{ApplyError}
-use Rattle.nb_command.specs.declared.error.PlanError.{PlanError}
-use Rattle.nb_command.specs.declared.locating.Located.{Located}
+use Rattle.nb_imagecmd.specs.declared.error.PlanError.{PlanError}
 use Rattle.nb_command.specs.Device.{device_change}
-use Rattle.nb_command.specs.Locating.{located}
 use Rattle.nb_command.specs.Planning.{planned}
-use Rattle.nb_machine.specs.Effects.{Effect, says, asks, goes, sleeps, shuts_device, inquires, unless_full, device_effect, fetch, fetched, shown_as, effect, words_effect, expansion, expanded_effect, plan_effect, planned_effect}
-use Rattle.nb_machine.specs.Errands.{fetches_then, echoes_then, remote_file}
+use Rattle.nb_machine.specs.Effects.{Effect, says, asks, goes, sleeps, shuts_device, inquires, on_images, concludes_at_once, unless_full, device_effect, ShownWords, shown_as, effect, words_effect, expansion, expanded_effect, plan_effect, planned_effect}
+use Rattle.nb_machine.specs.Errands.{echoes_then}
 use Rattle.nb_machine.specs.Queries.{for_lease}
-use Rattle.nb_machine.proofs.Eithers.{full_either}
-use Rattle.nb_laws.specs.CommandsSoFar.{shown_effect}
+use Rattle.nb_machine.proofs.Eithers.{full_either, images_either}
+use Rattle.nb_laws.specs.CommandsSoFar.{CommandsSoFar, shown_effect, surroundings_in, comes_by}
+use Rattle.nb_laws.proofs.Settling.{WordsAre, images_words, other_words, words_are, images_come, plain_comes}
 use Rattle.nb_laws.proofs.Hosts.{host_cases, address_cases}
 
 abbrev IsUpOn : Effect → Type 0
@@ -24,17 +23,12 @@ IsUpOn (says o) = Unit {0}
 IsUpOn (asks wanted) = Unit {0}
 IsUpOn (goes name) = Unit {0}
 IsUpOn (inquires q) = Unit {0}
+IsUpOn (on_images c) = Unit {0}
+IsUpOn (concludes_at_once c) = Unit {0}
 
 device_up_on : (e : Effect) → IsUpOn e → (r : Result Bool ApplyError) → IsUpOn (device_effect e r)
 device_up_on e is (Ok up) = is
 device_up_on e is (Err why) = tt
-
-fetch_up_on : (opens : ℕ) (booting : Bool) (table : TableLists) (uri : List ℕ) → IsUpOn (fetch opens booting table uri)
-fetch_up_on opens booting table uri = by (located table uri)
-  where
-    by : (r : Result Located ApplyError) → IsUpOn (fetched opens booting table r)
-    by (Ok file) = host_cases IsUpOn (λ o. tt) (fetches_then (remote_file booting file)) (λ address. tt) (λ name by. tt) opens table file.host
-    by (Err why) = tt
 
 plan_shuts : (k j : ℕ) (table : TableLists) (p : CommandPlan) → plan_effect k table p ≡ shuts_device → plan_effect j table p ≡ shuts_device
 plan_shuts k j table (plan.Echo newline text) e = e
@@ -46,8 +40,7 @@ plan_shuts k j table (plan.Set name value) e = e
 plan_shuts k j table (plan.Clear name) e = e
 plan_shuts k j table (plan.Show name) e = e
 plan_shuts k j table (plan.Inc name by) e = e
-plan_shuts k j table (plan.Fetch uri) e = absurd (subst IsUpOn e (fetch_up_on k false table uri))
-plan_shuts k j table (plan.Exec uri) e = absurd (subst IsUpOn e (fetch_up_on k true table uri))
+plan_shuts k j table (plan.Images c) e = e
 plan_shuts k j table (plan.Ifopen device) e = e
 plan_shuts k j table (plan.Ifclose device) e = e
 plan_shuts k j table (plan.Dhcp device) e = absurd (subst IsUpOn e (device_up_on (unless_full k (inquires for_lease)) (full_either IsUpOn (λ o. tt) k (inquires for_lease) tt) (device_change device true)))
@@ -71,6 +64,14 @@ written_shuts : (k j : ℕ) (table : TableLists) (ws : List (List ℕ)) → effe
 unfolding effect
 written_shuts k j table ws e = expanded_shuts k j table (expansion table ws) e
 
-pub shown_shuts : (k j : ℕ) (table : TableLists) (expanded : Bool) (ws : List (List ℕ)) → shown_effect k table (shown_as expanded ws) ≡ shuts_device → shown_effect j table (shown_as expanded ws) ≡ shuts_device
+shown_shuts : (k j : ℕ) (table : TableLists) (expanded : Bool) (ws : List (List ℕ)) → shown_effect k table (shown_as expanded ws) ≡ shuts_device → shown_effect j table (shown_as expanded ws) ≡ shuts_device
 shown_shuts k j table true ws e = words_shut k j table ws e
 shown_shuts k j table false ws e = written_shuts k j table ws e
+
+-- by all that it finds
+pub comes_shuts : (k j : ℕ) (m : CommandsSoFar) (shown : ShownWords) → comes_by k m shown ≡ shuts_device → comes_by j m shown ≡ shuts_device
+comes_shuts k j m shown e = by (words_are m.table shown.expanded shown.words)
+  where
+    by : WordsAre m.table shown.expanded shown.words → comes_by j m shown ≡ shuts_device
+    by (images_words c at keeps stays) = absurd (subst IsUpOn (sym (images_come k m shown c (at k)) ∙ e) (images_either IsUpOn (λ o. tt) (λ x. tt) (λ wanted. tt) (λ q. tt) (surroundings_in k m) c))
+    by (other_words plain) = plain_comes j m shown (plain j) ∙ shown_shuts k j m.table shown.expanded shown.words (sym (plain_comes k m shown (plain k)) ∙ e)

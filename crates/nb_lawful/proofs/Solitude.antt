@@ -1,17 +1,19 @@
 -- By the laws alone no open outlives its command: each that lives is the command's own, which has no result yet.
-use Rattle.std.proofs.Common.{◌≡◌, ◌⊎◌, inl, inr, ℕ, ◌+◌, ◌-◌, ◌≤◌, true, false, ◌||◌, List, [], ◌∷◌, ◌++◌, Option, Some, None, refl, sym, ◌∙◌, ap, subst, append_assoc, append-nil, add-zero}
+use Rattle.std.proofs.Common.{◌≡◌, ◌⊎◌, inl, inr, ℕ, ◌+◌, ◌-◌, ◌≤◌, length, true, false, ◌||◌, List, [], ◌∷◌, ◌++◌, Option, Some, None, refl, sym, ◌∙◌, ap, subst, append_assoc, append-nil, add-zero}
 use Rattle.std.proofs.Math.Bool.{or-false}
 use Rattle.nb_terms.specs.declared.cause.Cause.{Cause}
-use Rattle.nb_machine.specs.Effects.{Effect, says, asks, goes, sleeps, shuts_device, inquires, ShownWords}
+use Rattle.nb_machine.specs.Effects.{Effect, says, asks, goes, sleeps, shuts_device, inquires, on_images, concludes_at_once, ShownWords, settled_effect}
 use Rattle.nb_laws.specs.Events.{Event}
-use Rattle.nb_laws.specs.CommandsSoFar.{CommandsSoFar, so_far, so_far_by, shown_effect}
+use Rattle.nb_laws.specs.CommandsSoFar.{CommandsSoFar, ScriptSoFar, so_far, so_far_by, running_base, shown_effect, comes_by}
+use Rattle.nb_image.specs.Images.{ImageList}
+use Rattle.nb_settings.specs.Tables.{TableLists}
 use Rattle.nb_laws.specs.Lists.{made, opens_by, Opening, opening_at, openings, is_end_of, open_has_ended, live, last_end, end_by, came_ok}
 use Rattle.nb_laws.proofs.HandOffs.{last_end_more}
 use Rattle.nb_laws.proofs.SoFar.{so_far_more}
 use Rattle.nb_laws.proofs.Tellings.{made_more, openings_more, over_more, no_more, live_same}
 use Rattle.nb_lawful.specs.CommandOpens.{CommandOpen, command_open_by, command_open, over_of}
 use Rattle.nb_lawful.specs.OpenPurposes.{OpenIsFor, first_for_file, first_for_query, next_for_host}
-use Rattle.nb_lawful.specs.Results.{GivesResult, by_words, by_jump, by_no_label, by_shut, by_sleep, by_failed_end, by_found, by_image, by_full_next, by_echo_of_host, by_image_of_host}
+use Rattle.nb_lawful.specs.Results.{GivesResult, by_words, by_jump, by_no_label, by_shut, by_sleep, by_failed_end, by_found, by_images, by_file, by_full_next, by_echo_of_host, HasEndedOpens}
 use Rattle.nb_lawful.proofs.Quiet.{command_open_more}
 use Rattle.nb_lawful.proofs.Awaited.{its, snoc_both}
 
@@ -43,11 +45,13 @@ AsksByOpen (says o) = ⊥
 AsksByOpen (goes name) = ⊥
 AsksByOpen (sleeps seconds) = ⊥
 AsksByOpen shuts_device = ⊥
+AsksByOpen (on_images c) = ⊥
+AsksByOpen (concludes_at_once c) = ⊥
 
 -- a command that has made an open asks for something by its words
 abbrev pub HasAsked : Option CommandOpen → CommandsSoFar → Type 0
 HasAsked None m = Unit {0}
-HasAsked (Some o) m = (n : ℕ) × (shown : ShownWords) × (m.shown ≡ Some shown) × AsksByOpen (shown_effect n m.table shown)
+HasAsked (Some o) m = (n : ℕ) × (shown : ShownWords) × (m.shown ≡ Some shown) × AsksByOpen (comes_by n m shown)
 
 -- while an open lives the settings and the device's state stay
 abbrev pub SettingsStay : List Event → Type 0
@@ -58,7 +62,9 @@ pub record Solitude (es : List Event) : Type 0 where
   pub one : (j : ℕ) → (live j es ≡ []) ⊎ ((o : Opening) × (live j es ≡ o ∷ []))
   pub ends : EndsMatch (command_open es) (last_end es)
   pub idle : (so_far es).is_open ≡ false → IsSettled (command_open es)
-  pub asked : (so_far es).is_open ≡ true → HasAsked (command_open es) (so_far es)
+  -- but where a script was left that a command has run
+  pub asked : (so_far es).is_open ≡ true → (so_far es).left ≡ None → HasAsked (command_open es) (so_far es)
+  pub handed : (cause : Cause) → (so_far es).left ≡ Some cause → IsSettled (command_open es)
   pub unopened : (j : ℕ) → made es ≤ j → openings j es ≡ []
   pub stay : SettingsStay es
 
@@ -95,10 +101,14 @@ settled_by es cause (by_shut none comes is) = settled_none es none
 settled_by es cause (by_sleep seconds none comes due is) = settled_none es none
 settled_by es cause (by_failed_end end bad) = settled_end (command_open es) cause end
 settled_by es cause (by_found query last well comes is) = settled_well (command_open es) well
-settled_by es cause (by_image wanted image well comes last is) = settled_well (command_open es) well
+settled_by es cause (by_images c none comes gives) = settled_none es none
+settled_by es cause (by_file c well comes gives) = settled_well (command_open es) well
 settled_by es cause (by_full_next errand name by well comes kind full is) = settled_well (command_open es) well
 settled_by es cause (by_echo_of_host name by well comes kind is) = settled_well (command_open es) well
-settled_by es cause (by_image_of_host file name by image well comes last is) = settled_well (command_open es) well
+
+pub settled_opens : (x : Option CommandOpen) → HasEndedOpens x → IsSettled x
+settled_opens None h = tt
+settled_opens (Some o) (cause, e) = subst IsOver (sym e) tt
 
 pub settled_for : (es : List Event) (number kind server port own : ℕ) (target : List ℕ) → OpenIsFor es number kind server port own target → IsSettled (command_open es)
 settled_for es number kind server port own target (first_for_file r) = settled_none es r.first
@@ -106,7 +116,7 @@ settled_for es number kind server port own target (first_for_query r) = settled_
 settled_for es number kind server port own target (next_for_host r) = settled_well (command_open es) r.finds.ended
 
 -- such an open is asked for
-pub asked_for : (es : List Event) (number kind server port own : ℕ) (target : List ℕ) → OpenIsFor es number kind server port own target → (n : ℕ) × (shown : ShownWords) × ((so_far es).shown ≡ Some shown) × AsksByOpen (shown_effect n (so_far es).table shown)
+pub asked_for : (es : List Event) (number kind server port own : ℕ) (target : List ℕ) → OpenIsFor es number kind server port own target → (n : ℕ) × (shown : ShownWords) × ((so_far es).shown ≡ Some shown) × AsksByOpen (comes_by n (so_far es) shown)
 asked_for es number kind server port own target (first_for_file r) = let (shown, said, names) = r.names in (number, shown, said, subst AsksByOpen (sym names) tt)
 asked_for es number kind server port own target (first_for_query r) = let (shown, said, names) = r.names in (number, shown, said, subst AsksByOpen (sym names) tt)
 asked_for es number kind server port own target (next_for_host r) = let (shown, said, names) = r.names in (made es - 1, shown, said, subst AsksByOpen (sym names) tt)
@@ -123,6 +133,9 @@ pub record IsCalm (es : List Event) (e : Event) : Type 0 where
   pub up : (so_far_by es (so_far es) e).up ≡ (so_far es).up
   pub shown : (so_far_by es (so_far es) e).shown ≡ (so_far es).shown
   pub is_open : (so_far_by es (so_far es) e).is_open ≡ (so_far es).is_open
+  pub left : (so_far_by es (so_far es) e).left ≡ (so_far es).left
+  pub images : (so_far_by es (so_far es) e).images ≡ (so_far es).images
+  pub scripts : (so_far_by es (so_far es) e).scripts ≡ (so_far es).scripts
 
 -- an event at which no open begins or ends
 pub live_then : (es : List Event) (e : Event) (j : ℕ) → opening_at j es e ≡ [] → is_end_of j e ≡ false → live j (es ++ e ∷ []) ≡ live j es
@@ -153,9 +166,16 @@ stay_more es e stay same = λ j o was before since lives split made_one. by j o 
         let t = stay j o was before front s.0 two.0 made_one in
         (t.0 ∙ sym s.1, t.1 ∙ sym s.2)
 
-pub asked_as : (x : Option CommandOpen) (m m' : CommandsSoFar) → m'.shown ≡ m.shown → m'.table ≡ m.table → HasAsked x m → HasAsked x m'
-asked_as None m m' shown table a = tt
-asked_as (Some o) m m' shown table (n, words, said, by_open) = (n, words, shown ∙ said, subst (λ t. AsksByOpen (shown_effect n t words)) (sym table) by_open)
+-- a command comes to the same
+comes_as : (n : ℕ) (m m' : CommandsSoFar) (words : ShownWords) → m'.table ≡ m.table → m'.images ≡ m.images → m'.scripts ≡ m.scripts → comes_by n m' words ≡ comes_by n m words
+comes_as n m m' words table images scripts =
+    ap (λ (t : TableLists). settled_effect (record { opens = n; table = t; images = m'.images; base = running_base m'.scripts; depth = length m'.scripts }) (shown_effect n t words)) table
+    ∙ ap (λ (l : ImageList). settled_effect (record { opens = n; table = m.table; images = l; base = running_base m'.scripts; depth = length m'.scripts }) (shown_effect n m.table words)) images
+    ∙ ap (λ (z : List ScriptSoFar). settled_effect (record { opens = n; table = m.table; images = m.images; base = running_base z; depth = length z }) (shown_effect n m.table words)) scripts
+
+pub asked_as : (x : Option CommandOpen) (m m' : CommandsSoFar) → m'.shown ≡ m.shown → m'.table ≡ m.table → m'.images ≡ m.images → m'.scripts ≡ m.scripts → HasAsked x m → HasAsked x m'
+asked_as None m m' shown table images scripts a = tt
+asked_as (Some o) m m' shown table images scripts (n, words, said, by_open) = (n, words, shown ∙ said, subst AsksByOpen (sym (comes_as n m m' words table images scripts)) by_open)
 
 pub calm_then : (es : List Event) (e : Event) → IsCalm es e → Solitude es → Solitude (es ++ e ∷ [])
 calm_then es e c a =
@@ -166,13 +186,17 @@ calm_then es e c a =
     let table : (so_far (es ++ e ∷ [])).table ≡ (so_far es).table = ap (λ (m : CommandsSoFar). m.table) now ∙ c.table in
     let up : (so_far (es ++ e ∷ [])).up ≡ (so_far es).up = ap (λ (m : CommandsSoFar). m.up) now ∙ c.up in
     let shown : (so_far (es ++ e ∷ [])).shown ≡ (so_far es).shown = ap (λ (m : CommandsSoFar). m.shown) now ∙ c.shown in
+    let left : (so_far (es ++ e ∷ [])).left ≡ (so_far es).left = ap (λ (m : CommandsSoFar). m.left) now ∙ c.left in
+    let images : (so_far (es ++ e ∷ [])).images ≡ (so_far es).images = ap (λ (m : CommandsSoFar). m.images) now ∙ c.images in
+    let scripts : (so_far (es ++ e ∷ [])).scripts ≡ (so_far es).scripts = ap (λ (m : CommandsSoFar). m.scripts) now ∙ c.scripts in
     let made_is : made (es ++ e ∷ []) ≡ made es = made_more es e ∙ ap (λ n. made es + n) c.none ∙ add-zero (made es) in
     record {
       lives = λ j o is. opens ∙ a.lives j o (sym (same j) ∙ is);
       one = λ j. subst (λ z. (z ≡ []) ⊎ ((o : Opening) × (z ≡ o ∷ []))) (sym (same j)) (a.one j);
       ends = subst (λ z. EndsMatch z (last_end (es ++ e ∷ []))) (sym opens) (subst (EndsMatch (command_open es)) (sym (last_end_more es e ∙ c.last (last_end es))) a.ends);
       idle = λ off. subst IsSettled (sym opens) (a.idle (sym is_open ∙ off));
-      asked = λ still. asked_as (command_open (es ++ e ∷ [])) (so_far es) (so_far (es ++ e ∷ [])) shown table (subst (λ z. HasAsked z (so_far es)) (sym opens) (a.asked (sym is_open ∙ still)));
+      asked = λ still none. asked_as (command_open (es ++ e ∷ [])) (so_far es) (so_far (es ++ e ∷ [])) shown table images scripts (subst (λ z. HasAsked z (so_far es)) (sym opens) (a.asked (sym is_open ∙ still) (sym left ∙ none)));
+      handed = λ cause some. subst IsSettled (sym opens) (a.handed cause (sym left ∙ some));
       unopened = λ j more. openings_more j es e ∙ no_more (openings j es) _ (c.unopens j) ∙ a.unopened j (subst (λ n. n ≤ j) made_is more);
       stay = stay_more es e a.stay (λ j o was before since is split made_one. (sym (same j) ∙ is, table, up));
     }

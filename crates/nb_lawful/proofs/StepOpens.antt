@@ -1,10 +1,9 @@
 -- A step: what its opens put has its reasons, and so have the records after it.
 use Rattle.std.proofs.Common.{◌≡◌, ℕ, ◌+◌, true, false, List, [], ◌∷◌, ◌++◌, Some, refl, sym, ◌∙◌, ap, subst, append_assoc, append-nil}
 use Rattle.std.proofs.lemmas.List.Sums.{fold-append}
-use Rattle.nb_defs.specs.Causes.{ok}
 use Rattle.nb_defs.specs.Records.{In, Out, enter, leave, result}
 use Rattle.nb_image.specs.Images.{ImageList}
-use Rattle.nb_machine.specs.Conclusions.{keeps, fails, boots}
+use Rattle.nb_machine.specs.Conclusions.{boots}
 use Rattle.nb_machine.specs.Running.{Running, anew}
 use Rattle.nb_machine.specs.CommandRecords.{stopped_cause}
 use Rattle.nb_machine.specs.Lives.{close}
@@ -17,7 +16,6 @@ use Rattle.nb_machine.specs.Courses.{Standing, Progress, LeadsTo, StepBegins}
 use Rattle.nb_laws.specs.Events.{Event, starts, hears, waits, stops, puts}
 use Rattle.nb_laws.specs.Endings.{off_by, is_off, by_stop}
 use Rattle.nb_laws.specs.Frames.{TriesSo}
-use Rattle.nb_laws.specs.HandOff.{BootsFile}
 use Rattle.nb_laws.specs.Progress.{AdvancesSo, IsAdvanced}
 use Rattle.nb_laws.specs.Agreement.{AreStill}
 use Rattle.nb_laws.proofs.Asides.{still_conclusion}
@@ -33,14 +31,13 @@ use Rattle.nb_openlaws.proofs.NetworkReasons.{used_advanced, off_advanced}
 use Rattle.nb_openlaws.proofs.OpenReasons.{network_so}
 use Rattle.nb_openlaws.proofs.Sendings.{no_reasons, reasons_then}
 use Rattle.nb_openlaws.proofs.Courses.{step_event, step_more}
-use Rattle.nb_openlaws.proofs.OpenStates.{still_state}
 use Rattle.nb_openlaws.proofs.KeptOpens.{AreKept, KeptAt, network_kept}
 use Rattle.nb_openlaws.proofs.Closings.{EndsFor, closes_reasons}
 use Rattle.nb_lawful.specs.ScriptAgreement.{ScriptsAgree}
 use Rattle.nb_lawful.proofs.Begun.{told_two}
 use Rattle.nb_lawful.proofs.Scripted.{AnswersIn, AnswersAt}
-use Rattle.nb_lawful.proofs.MoveReasons.{AreUnsent, still_reasons, move_reasons}
-use Rattle.nb_lawful.proofs.Booting.{step_boots, hand_off_ends}
+use Rattle.nb_lawful.proofs.MoveReasons.{AreUnsent, still_reasons, unsent_conclusion, conclusion_reasons, move_reasons}
+use Rattle.nb_lawful.proofs.Booting.{BootsSo, step_boots}
 use Rattle.nb_lawful.proofs.Runs.{Story, OpensGive}
 
 -- THE NETWORK'S PART
@@ -71,33 +68,26 @@ still_upshot (settles x) = (tt, tt)
 still_upshot (goes_onward next) = tt
 
 unsent_upshot : (u : Upshot) → AreUnsent (upshot_records u)
-unsent_upshot (concludes (keeps list)) = (tt, tt)
-unsent_upshot (concludes (fails cause)) = (tt, tt)
-unsent_upshot (concludes (boots list kernel)) = (tt, tt)
+unsent_upshot (concludes c) = unsent_conclusion c
 unsent_upshot (settles x) = (tt, tt)
 unsent_upshot (goes_onward next) = tt
 
--- all that lives is closed before a hand-off
 leads_reasons : (es : List Event) (s : State) (inner : Running) (outer : List Running) (u : Upshot) (more : List Out) (p : Standing) → LeadsTo s inner outer u more p → AgreesState es s → AreKept s.live → IsAdvanced (es ++ told (upshot_records u)) →
-    ((list : ImageList) (kernel : ℕ) → u ≡ concludes (boots list kernel) → BootsFile es) → OpenReasons (es ++ told (upshot_records u)) more
-leads_reasons es s inner outer (concludes (keeps list)) more p (none, is) a k adv file = subst (OpenReasons (es ++ told (result ok ∷ []))) (sym none) (no_reasons (es ++ told (result ok ∷ [])) adv)
-leads_reasons es s inner outer (concludes (fails cause)) more p (none, is) a k adv file = subst (OpenReasons (es ++ told (result cause ∷ []))) (sym none) (no_reasons (es ++ told (result cause ∷ [])) adv)
-leads_reasons es s inner outer (concludes (boots list kernel)) more p (over, all, is) a k adv file =
-    let b = still_state es (result ok ∷ []) s (tt, tt) a in
-    closes_reasons s.devices stopped_cause s.live more [] over all refl (es ++ told (result ok ∷ [])) b.each b.apart k adv (hand_off_ends es (file list kernel refl))
-leads_reasons es s inner outer (settles x) more p (none, is) a k adv file = subst (OpenReasons (es ++ told (result x.cause ∷ []))) (sym none) (no_reasons (es ++ told (result x.cause ∷ [])) adv)
-leads_reasons es s inner outer (goes_onward next) more p (none, is) a k adv file = subst (OpenReasons (es ++ told [])) (sym none) (no_reasons (es ++ told []) adv)
+    ((list : ImageList) (kernel : ℕ) → u ≡ concludes (boots list kernel) → BootsSo es list kernel) → OpenReasons (es ++ told (upshot_records u)) more
+leads_reasons es s inner outer (concludes c) more p leads a k adv booted = conclusion_reasons es s inner outer c more p leads a k adv (λ list kernel same. booted list kernel (ap concludes same))
+leads_reasons es s inner outer (settles x) more p (none, is) a k adv booted = subst (OpenReasons (es ++ told (result x.cause ∷ []))) (sym none) (no_reasons (es ++ told (result x.cause ∷ [])) adv)
+leads_reasons es s inner outer (goes_onward next) more p (none, is) a k adv booted = subst (OpenReasons (es ++ told [])) (sym none) (no_reasons (es ++ told []) adv)
 
 answered_reasons : (es : List Event) (outs : List Out) (s s2 : State) (w : Waiting) (n : ℕ) (r : In) (put more : List Out) (over : List Over) (x : Answer) (p : Standing) (net : Network s n r put s2 over) (o : OpensAgree es s) → answer_in s2 r over w.awaited ≡ Some x →
-    LeadsTo s2 (anew w.script) w.outer (concluded_by s2 w.job x) more p → ScriptsAgree es outs (course.waiting s w) →
-    OpenReasons (es ++ (network_agrees es s n r put s2 over net o.base).event ∷ []) (put ++ upshot_records (concluded_by s2 w.job x) ++ more)
+    LeadsTo s2 (anew w.script) w.outer (concluded_by s2 w.script.depth w.job x) more p → ScriptsAgree es outs (course.waiting s w) →
+    OpenReasons (es ++ (network_agrees es s n r put s2 over net o.base).event ∷ []) (put ++ upshot_records (concluded_by s2 w.script.depth w.job x) ++ more)
 answered_reasons es outs s s2 w n r put more over x p net o some leads h =
     let u = network_agrees es s n r put s2 over net o.base in
     let es1 = es ++ u.event ∷ [] in
-    let c = upshot_records (concluded_by s2 w.job x) in
+    let c = upshot_records (concluded_by s2 w.script.depth w.job x) in
     let first = (network_so es s s2 n r put over net o o.base).reasons in
-    let second = still_reasons (es1 ++ told put) c (still_upshot (concluded_by s2 w.job x)) (unsent_upshot (concluded_by s2 w.job x)) first.after in
-    let third = leads_reasons (es1 ++ told put) s2 (anew w.script) w.outer (concluded_by s2 w.job x) more p leads u.agrees (network_kept s s2 n r put over net o.kept) second.after
+    let second = still_reasons (es1 ++ told put) c (still_upshot (concluded_by s2 w.script.depth w.job x)) (unsent_upshot (concluded_by s2 w.script.depth w.job x)) first.after in
+    let third = leads_reasons (es1 ++ told put) s2 (anew w.script) w.outer (concluded_by s2 w.script.depth w.job x) more p leads u.agrees (network_kept s s2 n r put over net o.kept) second.after
     (λ list kernel is. step_boots es outs s s2 w n r put over x list kernel net o.base (network_answers es s o) some is h) in
     reasons_then es1 (put ++ c) more (reasons_then es1 put c first second) (subst (λ z. OpenReasons z more) (sym (told_two es1 put c)) third)
 
@@ -148,7 +138,7 @@ step_reasons ins outs es m r added m2 (course.waits_on n s s2 w r0 put over vali
     with_event es u.event put u.used t.advanced (network_so es s s2 (n + 1) r put over net (record { base = t.base; device = t.device; kept = k; ways = t.ways; advanced = t.advanced }) t.base).reasons
 step_reasons ins outs es m r added m2 (course.is_answered n s s2 w r0 put more over x p valid net some leads) t k =
     let u = network_agrees es s (n + 1) r put s2 over net t.base in
-    with_event es u.event (put ++ upshot_records (concluded_by s2 w.job x) ++ more) u.used t.advanced
+    with_event es u.event (put ++ upshot_records (concluded_by s2 w.script.depth w.job x) ++ more) u.used t.advanced
     (answered_reasons es outs s s2 w (n + 1) r put more over x p net (record { base = t.base; device = t.device; kept = k; ways = t.ways; advanced = t.advanced }) some leads t.scripts)
 step_reasons ins outs es m r added m2 (course.switches_off n s w put over all) t k =
     with_event es (stops (n + 1)) put tt t.advanced (off_reasons es s (n + 1) put over (record { base = t.base; device = t.device; kept = k; ways = t.ways; advanced = t.advanced }) all)

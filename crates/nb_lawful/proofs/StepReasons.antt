@@ -9,7 +9,8 @@ use Rattle.nb_machine.specs.Courses as course
 use Rattle.nb_machine.specs.Courses.{Progress, StepBegins, Proceeds, Course}
 use Rattle.nb_laws.specs.Events.{Event, starts, hears, waits, stops, puts, inputs, written_by}
 use Rattle.nb_laws.specs.Progress.{NoneIsAnswered, IsStep, IsResumed, by_live, by_count, by_sleep, StepsSo}
-use Rattle.nb_laws.proofs.SoFar.{over_rests, nothing_so_far}
+use Rattle.nb_laws.proofs.SoFar.{nothing_so_far}
+use Rattle.nb_laws.proofs.Settling.{over_rests}
 use Rattle.nb_laws.specs.CommandsSoFar.{CommandsSoFar}
 use Rattle.nb_openlaws.specs.Standings.{AgreesLive, AreLive, live_opening, AgreesState, AgreesStanding}
 use Rattle.nb_openlaws.proofs.UsedEvents.{IsUsed, IsFurther, live_one}
@@ -32,6 +33,8 @@ step_counts m r added m2 (course.goes_off n s inner outer put over all) = refl
 pub move_counts : (m : Progress) (added : List Out) (m2 : Progress) → Proceeds m added m2 → m2.used ≡ m.used
 move_counts m added m2 (course.passes n s inner next outer comes) = refl
 move_counts m added m2 (course.is_left n s inner outer cause comes) = refl
+move_counts m added m2 (course.hands_back n s inner outer cause) = refl
+move_counts m added m2 (course.concludes_there n s inner outer c cs x put p comes few is leads) = refl
 move_counts m added m2 (course.yields n s inner outer c cs comes full) = refl
 move_counts m added m2 (course.does n s s2 inner outer c cs x comes few is stays) = refl
 move_counts m added m2 (course.closes_device n s s2 inner outer c cs put over comes few is all) = refl
@@ -65,7 +68,7 @@ awaited_lives es s w l a at =
     by_live l.number (live_opening l) (live_one l.number es (live_opening l) k.opening k.lives)
 
 pub waiting_resumes : (es : List Event) (outs : List Out) (s : State) (w : Waiting) → AgreesState es s → ScriptsAgree es outs (course.waiting s w) → IsResumed es
-waiting_resumes es outs s w a h = by h.3
+waiting_resumes es outs s w a h = by h.4
   where
     by : AwaitsSo es s w → IsResumed es
     by (awaits_time until at job none t) = by_sleep t.seconds h.1.is_open (sleeping_comes es s until a.opens t)
@@ -89,14 +92,14 @@ step_stands es outs m r added m2 (course.refuses n s cause valid refuses) a coun
     (record { counted = ap (λ z. z + 1) counted; unfinished = none; rested = over_rests es (ap (λ (x : CommandsSoFar). x.is_open) (nothing_so_far es h.0)) }, h.0)
 step_stands es outs m r added m2 (course.waits_on n s s2 w r0 put over valid net unanswered) a counted none h =
     let u = network_agrees es s (n + 1) r put s2 over net a in
-    further_step es u.event (n + 1) u.used u.further u.is_step (record { counted = ap (λ z. z + 1) counted; unfinished = none; rested = waiting_rests es s w a.opens h.1.now h.3 }) (waiting_resumes es outs s w a h)
+    further_step es u.event (n + 1) u.used u.further u.is_step (record { counted = ap (λ z. z + 1) counted; unfinished = none; rested = waiting_rests es s w a.opens h.1.now h.4 }) (waiting_resumes es outs s w a h)
 step_stands es outs m r added m2 (course.is_answered n s s2 w r0 put more over x p valid net some leads) a counted none h =
     let u = network_agrees es s (n + 1) r put s2 over net a in
-    further_step es u.event (n + 1) u.used u.further u.is_step (record { counted = ap (λ z. z + 1) counted; unfinished = none; rested = waiting_rests es s w a.opens h.1.now h.3 }) (waiting_resumes es outs s w a h)
+    further_step es u.event (n + 1) u.used u.further u.is_step (record { counted = ap (λ z. z + 1) counted; unfinished = none; rested = waiting_rests es s w a.opens h.1.now h.4 }) (waiting_resumes es outs s w a h)
 step_stands es outs m r added m2 (course.switches_off n s w put over all) a counted none h =
-    (record { counted = ap (λ z. z + 1) counted; unfinished = none; rested = waiting_rests es s w a.opens h.1.now h.3 }, waiting_resumes es outs s w a h)
+    (record { counted = ap (λ z. z + 1) counted; unfinished = none; rested = waiting_rests es s w a.opens h.1.now h.4 }, waiting_resumes es outs s w a h)
 step_stands es outs m r added m2 (course.resumes n s s2 inner outer r0 put over valid net) a counted none h =
     let u = network_agrees es s (n + 1) r put s2 over net a in
-    further_step es u.event (n + 1) u.used u.further u.is_step (record { counted = ap (λ z. z + 1) counted; unfinished = none; rested = over_rests es h.1.is_open }) (by_count (h.0.begun ∙ h.3) h.1.is_open)
+    further_step es u.event (n + 1) u.used u.further u.is_step (record { counted = ap (λ z. z + 1) counted; unfinished = none; rested = over_rests es h.1.is_open }) (by_count (h.0.begun ∙ h.4) h.1.is_open)
 step_stands es outs m r added m2 (course.goes_off n s inner outer put over all) a counted none h =
-    (record { counted = ap (λ z. z + 1) counted; unfinished = none; rested = over_rests es h.1.is_open }, by_count (h.0.begun ∙ h.3) h.1.is_open)
+    (record { counted = ap (λ z. z + 1) counted; unfinished = none; rested = over_rests es h.1.is_open }, by_count (h.0.begun ∙ h.4) h.1.is_open)

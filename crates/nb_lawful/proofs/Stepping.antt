@@ -2,8 +2,6 @@
 use Rattle.std.proofs.Common.{◌≡◌, ◌⊎◌, inl, inr, ℕ, ◌+◌, Bool, List, [], ◌∷◌, ◌++◌, Option, None, refl, sym, ◌∙◌, ap, subst, append_assoc, append-nil, add-zero, fold}
 use Rattle.std.specs.List.{AllByRecursion}
 use Rattle.nb_defs.specs.Records.{In, Out, step}
-use Rattle.nb_defs.specs.ScriptLines.{Line}
-use Rattle.nb_image.specs.Images.{ImageList}
 use Rattle.nb_stack.specs.Client.{Client}
 use Rattle.nb_stack.specs.Takes.{reply_of}
 use Rattle.nb_machine.specs.CommandRecords.{reply_records}
@@ -15,22 +13,20 @@ use Rattle.nb_machine.specs.Takings.{Over, AllTake}
 use Rattle.nb_machine.specs.Network.{Network, passes_by, brings, brings_reply, passes_time}
 use Rattle.nb_laws.specs.Events.{Event, starts, hears, waits, stops, puts}
 use Rattle.nb_laws.specs.Lists.{time, ms_of, commands_by, commands_begun, hardware, hardware_by}
-use Rattle.nb_laws.specs.Code.{code_by, script_code}
 use Rattle.nb_laws.specs.CommandsSoFar.{CommandsSoFar, so_far, so_far_by}
-use Rattle.nb_laws.specs.HandOff.{images_brought, image_list}
 use Rattle.nb_laws.specs.Agreement.{AgreesScript}
 use Rattle.nb_laws.proofs.Histories.{hardware_more, time_more}
 use Rattle.nb_laws.proofs.Tellings.{told}
 use Rattle.nb_laws.proofs.Commands.{script_used, script_told}
-use Rattle.nb_laws.proofs.HandOffs.{used_keep, parts_more}
 use Rattle.nb_laws.proofs.SoFar.{so_far_more}
 use Rattle.nb_openlaws.proofs.UsedEvents.{IsUsed, IsFurther}
 use Rattle.nb_openlaws.proofs.Puts.{AreQuiet, take_quiet}
 use Rattle.nb_lawful.specs.CommandOpens.{CommandOpen, command_open_by, command_open}
 use Rattle.nb_lawful.specs.Results.{CommandsSo}
-use Rattle.nb_lawful.specs.ScriptAgreement.{SettingsAre, IsAnother, HasImages}
-use Rattle.nb_lawful.proofs.Quiet.{reply_quiet, quiet_so_far, quiet_begin, quiet_images, quiet_parts, command_open_more, told_command_open}
+use Rattle.nb_lawful.specs.ScriptAgreement.{SettingsAre, IsAnother, HasImages, NoneLeft}
+use Rattle.nb_lawful.proofs.Quiet.{reply_quiet, quiet_so_far, quiet_begin, quiet_parts, quiet_scripts, command_open_more, told_command_open}
 use Rattle.nb_lawful.proofs.Awaited.{its, others_took, with_exchanges, Took, took_on, took_last, snoc_both, took}
+use Rattle.nb_lawful.proofs.AtOnce.{images_as}
 use Rattle.nb_lawful.proofs.Opened.{told_hardware}
 
 -- WHAT THE NETWORK LEAVES
@@ -109,24 +105,16 @@ network_took s s' n r put over (passes_time ms after _ _ takes) earlier l last h
 -- what an event that is used, after START's, leaves of the commands
 pub record Stepped (e : Event) : Type 0 where
   pub commands : (before : List Event) (m : CommandsSoFar) → so_far_by before m e ≡ record m { now = m.now + ms_of e }
-  pub code : (code : List Line) → code_by code e ≡ code
+  pub scripts : (before : List Event) (m : CommandsSoFar) → (so_far_by before m e).scripts ≡ m.scripts
   pub begun : (n : ℕ) → commands_by n e ≡ 0
   pub same_hardware : (es : List Event) → hardware_by (hardware es) e ≡ hardware es
 
 pub stepped : (e : Event) → IsUsed e → IsFurther e → Stepped e
 stepped (starts n s) u f = absurd f
-stepped (hears n bytes m) u f = record { commands = λ before c. ap (λ t. record c { now = t }) (sym (add-zero c.now)); code = λ code. refl; begun = λ k. refl; same_hardware = λ es. refl }
-stepped (waits n ms) u f = record { commands = λ before c. refl; code = λ code. refl; begun = λ k. refl; same_hardware = λ es. refl }
-stepped (stops n) u f = record { commands = λ before c. ap (λ t. record c { now = t }) (sym (add-zero c.now)); code = λ code. refl; begun = λ k. refl; same_hardware = λ es. refl }
+stepped (hears n bytes m) u f = record { commands = λ before c. ap (λ t. record c { now = t }) (sym (add-zero c.now)); scripts = λ before m. refl; begun = λ k. refl; same_hardware = λ es. refl }
+stepped (waits n ms) u f = record { commands = λ before c. refl; scripts = λ before m. refl; begun = λ k. refl; same_hardware = λ es. refl }
+stepped (stops n) u f = record { commands = λ before c. ap (λ t. record c { now = t }) (sym (add-zero c.now)); scripts = λ before m. refl; begun = λ k. refl; same_hardware = λ es. refl }
 stepped (puts o) u f = absurd u
-
--- such an event brings no image
-pub used_images : (es : List Event) (e : Event) → IsUsed e → images_brought (es ++ e ∷ []) ≡ images_brought es
-used_images es (starts n s) u = used_keep es (starts n s) tt
-used_images es (hears n bytes m) u = used_keep es (hears n bytes m) tt
-used_images es (waits n ms) u = used_keep es (waits n ms) tt
-used_images es (stops n) u = used_keep es (stops n) tt
-used_images es (puts o) u = absurd u
 
 pub used_stands : (es : List Event) (e : Event) → IsUsed e → CommandsSo es e
 used_stands es (starts n s) u = tt
@@ -152,28 +140,27 @@ told_time es (o ∷ outs) = ap time (sym (append_assoc es (puts o ∷ []) (told 
 -- WHAT A STEP LEAVES
 
 -- what the history says of the scripts once the network has done its part
-pub record Came (es es2 : List Event) (outs : List Out) (s s' : State) (inner : Running) (still : Bool) (n : ℕ) (e : Event) (put : List Out) : Type 0 where
-  pub script : AgreesScript es2 (anew inner)
+pub record Came (es es2 : List Event) (outs : List Out) (s s' : State) (inner : Running) (outer : List Running) (still : Bool) (n : ℕ) (e : Event) (put : List Out) : Type 0 where
+  pub script : AgreesScript es2 (anew inner) outer
   pub same : so_far es2 ≡ record (so_far es) { now = (so_far es).now + ms_of e }
   pub settings : SettingsAre (so_far es2) s' still
   pub images : HasImages es2 (outs ++ step n ∷ put) s'
+  pub none_left : NoneLeft es2
   pub hard : hardware es2 ≡ hardware es
   pub opens : command_open es2 ≡ fold command_open_by (command_open es) (told put)
 
-pub comes : (es : List Event) (outs : List Out) (s s' : State) (inner : Running) (still : Bool) (n : ℕ) (e : Event) (put : List Out) → IsUsed e → IsFurther e → Leaves s s' put → s'.now ≡ s.now + ms_of e →
-    AgreesScript es inner → SettingsAre (so_far es) s still → HasImages es outs s → Came es ((es ++ e ∷ []) ++ told put) outs s s' inner still n e put
-comes es outs s s' inner still n e put used further leaves now script settings images =
+pub comes : (es : List Event) (outs : List Out) (s s' : State) (inner : Running) (outer : List Running) (still : Bool) (n : ℕ) (e : Event) (put : List Out) → IsUsed e → IsFurther e → Leaves s s' put → s'.now ≡ s.now + ms_of e →
+    AgreesScript es inner outer → SettingsAre (so_far es) s still → HasImages es outs s → NoneLeft es → Came es ((es ++ e ∷ []) ++ told put) outs s s' inner outer still n e put
+comes es outs s s' inner outer still n e put used further leaves now script settings images none_left =
     let es1 = es ++ e ∷ [] in
     let t = stepped e used further in
     let same : so_far (es1 ++ told put) ≡ record (so_far es) { now = (so_far es).now + ms_of e } = quiet_so_far es1 put leaves.quiet ∙ so_far_more es e ∙ t.commands es (so_far es) in
     record {
-      script = script_told es1 put (anew inner) (quiet_begin (commands_begun es1) put leaves.quiet) (script_used es e inner (t.code (script_code es)) (t.begun (commands_begun es)) script);
+      script = script_told es1 put (anew inner) outer (quiet_scripts put leaves.quiet) (quiet_begin (commands_begun es1) put leaves.quiet) (script_used es e inner outer (t.scripts es (so_far es)) (t.begun (commands_begun es)) script);
       same = same;
       settings = subst (λ m. SettingsAre m s' still) (sym same) (record { table = settings.table ∙ sym leaves.table; up = settings.up ∙ sym leaves.up; now = ap (λ z. z + ms_of e) settings.now ∙ sym now; is_open = settings.is_open });
-      images = record {
-        list = ap (λ (x : ImageList). x.images) leaves.images ∙ images.list ∙ sym (ap image_list (quiet_images es1 put leaves.quiet ∙ used_images es e used));
-        none = parts_more outs (step n ∷ put) images.none (tt, quiet_parts put leaves.quiet);
-      };
+      images = images_as es (es1 ++ told put) outs (step n ∷ put) s s' (ap (λ (m : CommandsSoFar). m.images) same) leaves.images (tt, quiet_parts put leaves.quiet) images;
+      none_left = ap (λ (m : CommandsSoFar). m.left) same ∙ none_left;
       hard = told_hardware es1 put ∙ hardware_more es e ∙ t.same_hardware es;
       opens = told_command_open es1 put ∙ ap (λ z. fold command_open_by z (told put)) (used_command_open es e used);
     }

@@ -15,10 +15,10 @@ use Rattle.nb_machine.specs.Sendings.{is_on_its_way}
 use Rattle.nb_machine.specs.Link.{address_in_table}
 use Rattle.nb_machine.specs.Effects.{shuts_device}
 use Rattle.nb_laws.specs.Events.{Event, starts, hears, waits, stops, puts, EachEvent}
-use Rattle.nb_laws.specs.CommandsSoFar.{CommandsSoFar, so_far, shown_effect, ComesTo}
+use Rattle.nb_laws.specs.CommandsSoFar.{CommandsSoFar, so_far, comes_by, ComesTo}
 use Rattle.nb_laws.specs.Endings.{fate_to, Holds, EndsSo}
 use Rattle.nb_laws.specs.Frames as old
-use Rattle.nb_laws.specs.Frames.{IsPut, HoldsResult, IsResult, IsOpened, WritesSo}
+use Rattle.nb_laws.specs.Frames.{IsPut, HoldsResult, HoldsOf, IsResult, IsOpened, WritesSo}
 use Rattle.nb_laws.specs.HandOff.{HasBooted}
 use Rattle.nb_laws.specs.Histories.{client}
 use Rattle.nb_laws.specs.Lawful.{IsLawful}
@@ -27,17 +27,18 @@ use Rattle.nb_laws.specs.Openings.{OpensFor, opens_for_file, opens_onward, opens
 use Rattle.nb_laws.specs.Progress.{StepsSo}
 use Rattle.nb_laws.specs.Silence.{AreSilent}
 use Rattle.nb_laws.proofs.Histories.{client_linked}
-use Rattle.nb_laws.proofs.SoFar.{so_far_more, silent_so_far, same_shown}
+use Rattle.nb_laws.proofs.SoFar.{so_far_more, silent_so_far}
+use Rattle.nb_laws.proofs.Settling.{same_shown}
 use Rattle.nb_laws.proofs.Tellings.{told}
 use Rattle.nb_openlaws.specs.OpenEndings.{HadWay, EndsBecause, by_itself, by_lost_way, by_device, by_hand_off, OpensEndSo, FramesSo}
 use Rattle.nb_lawful.specs.CommandOpens.{CommandOpen, over_of, command_open, command_end}
 use Rattle.nb_lawful.specs.Lawful.{KeepsLaws}
 use Rattle.nb_lawful.specs.OpenPurposes.{OpenIsFor, first_for_file, first_for_query, next_for_host}
-use Rattle.nb_lawful.specs.Results.{GivesResult, by_words, by_jump, by_no_label, by_shut, by_sleep, by_failed_end, by_found, by_image, by_full_next, by_echo_of_host, by_image_of_host, CommandsSo}
+use Rattle.nb_lawful.specs.Results.{GivesResult, by_words, by_jump, by_no_label, by_shut, by_sleep, by_failed_end, by_found, by_images, by_file, by_full_next, by_echo_of_host, GivesOf, CommandsSo}
 use Rattle.nb_lawful.proofs.Awaited.{its}
-use Rattle.nb_lawful.proofs.Shuts.{shown_shuts}
-use Rattle.nb_lawful.proofs.Solitude.{OverMatches, EndsMatch, AsksByOpen, HasAsked, Solitude, none_lives, settled_by, settled_for}
-use Rattle.nb_lawful.proofs.Alone.{solitude_first, solitude_then}
+use Rattle.nb_lawful.proofs.Shuts.{comes_shuts}
+use Rattle.nb_lawful.proofs.Solitude.{OverMatches, EndsMatch, AsksByOpen, HasAsked, IsSettled, Solitude, none_lives, settled_for}
+use Rattle.nb_lawful.proofs.Alone.{solitude_first, solitude_then, result_over, settled_result}
 
 -- THE LAST END
 
@@ -68,10 +69,14 @@ holds_so es cause a (by_shut none comes is) = old.by_shut (last_none es a none) 
 holds_so es cause a (by_sleep seconds none comes due is) = old.by_sleep seconds (last_none es a none) comes due is
 holds_so es cause a (by_failed_end end bad) = old.by_failed_end (last_is es cause a end) bad
 holds_so es cause a (by_found query last well comes is) = old.by_found query last (last_well es a well) comes is
-holds_so es cause a (by_image wanted image well comes last is) = old.by_image wanted image (last_well es a well) comes last is
+holds_so es cause a (by_images c none comes gives) = old.by_images c (last_none es a none) comes gives
+holds_so es cause a (by_file c well comes gives) = old.by_file c (last_well es a well) comes gives
 holds_so es cause a (by_full_next errand name by well comes kind full is) = old.by_full_next errand name by (last_well es a well) comes kind full is
 holds_so es cause a (by_echo_of_host name by well comes kind is) = old.by_echo_of_host name by (last_well es a well) comes kind is
-holds_so es cause a (by_image_of_host file name by image well comes last is) = old.by_image_of_host file name by image (last_well es a well) comes last is
+
+holds_of : (es : List Event) (cause : Cause) → Solitude es → (left : Option Cause) → GivesOf left es cause → HoldsOf left es cause
+holds_of es cause a (Some given) h = h
+holds_of es cause a None h = holds_so es cause a h
 
 opens_so : (es : List Event) (number kind server port own : ℕ) (target : List ℕ) → Solitude es → OpenIsFor es number kind server port own target → OpensFor es number kind server port own target
 opens_so es number kind server port own target a (first_for_file r) =
@@ -90,13 +95,13 @@ opens_so es number kind server port own target a (next_for_host r) = opens_onwar
 writes_so : (es : List Event) (e : Event) → Solitude es → CommandsSo es e → FramesSo es e → WritesSo es e
 writes_so es (puts (sent bytes)) a c f = f
 writes_so es (puts (command depth line place expanded words)) a c f = c
-writes_so es (puts (result cause)) a c f = record { is_open = c.is_open; alone = none_lives es a (settled_by es cause c.holds); holds = holds_so es cause a c.holds }
+writes_so es (puts (result cause)) a c f = record { is_open = c.is_open; alone = none_lives es a (settled_result es cause a c); holds = holds_of es cause a (so_far es).left c.holds }
 writes_so es (puts (opened number kind server port own target)) a c f =
-    record { next = c.next; is_open = c.is_open; alone = none_lives es a (settled_for es number kind server port own target c.is_for); is_for = opens_so es number kind server port own target a c.is_for }
+    record { next = c.next; is_open = c.is_open; none_left = c.none_left; alone = none_lives es a (settled_for es number kind server port own target c.is_for); is_for = opens_so es number kind server port own target a c.is_for }
 writes_so es (puts (step number)) a c f = tt
 writes_so es (puts (done status)) a c f = c
 writes_so es (puts (text bytes)) a c f = tt
-writes_so es (puts (script what depth cause)) a c f = tt
+writes_so es (puts (script what depth cause)) a c f = c.stands
 writes_so es (puts (tried number count)) a c f = tt
 writes_so es (puts (advanced number place)) a c f = tt
 writes_so es (puts (ended number cause)) a c f = tt
@@ -111,13 +116,17 @@ writes_so es (stops n) a c f = tt
 
 -- a command that has made an open doesn't set the device down
 not_shut : (es : List Event) (k : ℕ) (o : Opening) → Solitude es → live k es ≡ o ∷ [] → (so_far es).is_open ≡ true → ComesTo es (made es) shuts_device → ⊥
-not_shut es k o a lives still (shown, said, shuts) = by (subst (λ z. HasAsked z (so_far es)) (a.lives k o lives) (a.asked still))
+not_shut es k o a lives still (shown, said, shuts) = by_left (so_far es).left refl
   where
     by : HasAsked (its k None) (so_far es) → ⊥
     by (n, words, is, by_open) =
         let same : shown ≡ words = same_shown (so_far es).shown shown words said is in
-        let then_shuts : shown_effect n (so_far es).table shown ≡ shuts_device = shown_shuts (made es) n (so_far es).table shown.expanded shown.words shuts in
-        subst AsksByOpen then_shuts (subst (λ x. AsksByOpen (shown_effect n (so_far es).table x)) (sym same) by_open)
+        let then_shuts : comes_by n (so_far es) shown ≡ shuts_device = comes_shuts (made es) n (so_far es) shown shuts in
+        subst AsksByOpen then_shuts (subst (λ x. AsksByOpen (comes_by n (so_far es) x)) (sym same) by_open)
+
+    by_left : (left : Option Cause) → (so_far es).left ≡ left → ⊥
+    by_left None is = by (subst (λ z. HasAsked z (so_far es)) (a.lives k o lives) (a.asked still is))
+    by_left (Some cause) is = subst IsSettled (a.lives k o lives) (a.handed cause is)
 
 silent_over : (es : List Event) (outs : List Out) → AreSilent outs → (so_far (es ++ told outs)).is_open ≡ (so_far es).is_open
 silent_over es [] h = ap (λ (z : List Event). (so_far z).is_open) (append-nil es)
@@ -129,7 +138,9 @@ silent_over es (o ∷ outs) h =
 not_booted : (es : List Event) (k : ℕ) (o : Opening) → Solitude es → live k es ≡ o ∷ [] → HasBooted es → ⊥
 not_booted es k o a lives b =
     let at : es ≡ (b.before ++ puts (result ok) ∷ []) ++ told b.since = b.ends ∙ sym (append_assoc b.before (puts (result ok) ∷ []) (told b.since)) in
-    let off : (so_far es).is_open ≡ false = ap (λ (z : List Event). (so_far z).is_open) at ∙ silent_over (b.before ++ puts (result ok) ∷ []) b.since b.silent ∙ ap (λ (m : CommandsSoFar). m.is_open) (so_far_more b.before (puts (result ok))) in
+    let off : (so_far es).is_open ≡ false =
+    ap (λ (z : List Event). (so_far z).is_open) at ∙ silent_over (b.before ++ puts (result ok) ∷ []) b.since b.silent ∙ ap (λ (m : CommandsSoFar). m.is_open) (so_far_more b.before (puts (result ok)))
+    ∙ result_over (so_far b.before).left b.before (so_far b.before) in
     let no : [] ≡ o ∷ [] = sym (none_lives es a (a.idle off) k) ∙ lives in cc no
 
 -- whether there is a way hangs on the device's state and its address alone

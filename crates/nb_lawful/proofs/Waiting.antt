@@ -18,7 +18,7 @@ use Rattle.nb_machine.specs.Scripts.{sleep, Answer, by_end, by_time, is_number, 
 use Rattle.nb_laws.specs.Events.{Event}
 use Rattle.nb_laws.specs.Lists.{Hardware, hardware, made, ms_of, last_end}
 use Rattle.nb_laws.specs.Cores.{has_its_answer}
-use Rattle.nb_laws.specs.CommandsSoFar.{CommandsSoFar, so_far, shown_effect}
+use Rattle.nb_laws.specs.CommandsSoFar.{CommandsSoFar, so_far, comes_by}
 use Rattle.nb_laws.proofs.Tellings.{told}
 use Rattle.nb_openlaws.specs.Standings.{live_opening}
 use Rattle.nb_openlaws.proofs.Takings.{AgreesOver, AreOver}
@@ -74,7 +74,7 @@ is_due until now a e = by (nat_le until now) refl e
 -- what the step is
 pub record Steps (es es2 : List Event) (outs : List Out) (s s' : State) (w : Waiting) (r : In) (n : ℕ) (e : Event) (put : List Out) (over : List Over) : Type 0 where
   pub at : es2 ≡ (es ++ e ∷ []) ++ told put
-  pub came : Came es es2 outs s s' w.script true n e put
+  pub came : Came es es2 outs s s' w.script w.outer true n e put
   pub leaves : Leaves s s' put
   pub net : Network s n r put s' over
 
@@ -104,7 +104,7 @@ waits_so es es2 outs s s' w r n e put over k unanswered (awaits_time until at jo
       shown = a.shown;
       is_shown = a.is_shown;
       seconds = a.seconds;
-      sleeps_so = ap (λ z. shown_effect z (so_far es).table a.shown) k.leaves.opens ∙ a.sleeps_so;
+      sleeps_so = ap (λ z. comes_by z (so_far es) a.shown) k.leaves.opens ∙ a.sleeps_so;
       until_is = a.until_is;
       early = not_due until s'.now (sym (ap (answer_in s' r over) at) ∙ unanswered);
     }))
@@ -135,18 +135,19 @@ found_one P p (y ∷ ys) x h e = found_either P (p y) y (find p ys) x h.0 (λ la
 
 -- its time has come, or its open has ended
 pub data Comes (es2 : List Event) (outs : List Out) (s s' : State) (w : Waiting) (n : ℕ) (put : List Out) (a : Answer) : Type 0 where
-  its_time : (until : ℕ) → a ≡ by_time → w.job ≡ sleep → HasSlept es2 (outs ++ step n ∷ put) s' s (anew w.script) until → Comes es2 outs s s' w n put a
-  its_end : (l : Live) (cause : Cause) → a ≡ by_end (record { live = l; cause = cause }) → HasEnded es2 (outs ++ step n ∷ put) s' (anew w.script) l cause → Purpose es2 l w.job → Comes es2 outs s s' w n put a
+  its_time : (until : ℕ) → a ≡ by_time → w.job ≡ sleep → HasSlept es2 (outs ++ step n ∷ put) s' s (anew w.script) w.outer until → Comes es2 outs s s' w n put a
+  its_end : (l : Live) (cause : Cause) → a ≡ by_end (record { live = l; cause = cause }) → HasEnded es2 (outs ++ step n ∷ put) s' (anew w.script) w.outer l cause → Purpose es2 l w.job → Comes es2 outs s s' w n put a
 
 has_ended : (es es2 : List Event) (outs : List Out) (s s' : State) (w : Waiting) (r : In) (n : ℕ) (e : Event) (put : List Out) (over : List Over) → Steps es es2 outs s s' w r n e put over → made es2 ≡ s'.opens → AreOver es2 over →
     AllByRecursion (AnswersSo es2) over → (l : Live) (at : IsAwaited es s w l) (x : Exchange) (cause : Cause) → find (is_number l.number) over ≡ Some (record { live = continued l x; cause = cause }) →
-    fold command_open_by (its l.number None) (told put) ≡ its l.number (Some cause) → ((es : List Event) → last_end (es ++ told put) ≡ Some cause) → HasEnded es2 (outs ++ step n ∷ put) s' (anew w.script) (continued l x) cause
+    fold command_open_by (its l.number None) (told put) ≡ its l.number (Some cause) → ((es : List Event) → last_end (es ++ told put) ≡ Some cause) → HasEnded es2 (outs ++ step n ∷ put) s' (anew w.script) w.outer (continued l x) cause
 has_ended es es2 outs s s' w r n e put over k opens overs answers l at x cause some ends last =
     let o = found_one (AgreesOver es2) (is_number l.number) over (record { live = continued l x; cause = cause }) overs some in
     record {
       script = k.came.script;
       settings = k.came.settings;
       images = k.came.images;
+      none_left = k.came.none_left;
       number = ap (λ z. z - 1) (opens ∙ k.leaves.opens ∙ at.number) ∙ omega arith;
       its_end = k.came.opens ∙ ap (λ z. fold command_open_by z (told put)) at.its ∙ ends;
       last = ap last_end k.at ∙ last (es ++ e ∷ []);
@@ -163,6 +164,7 @@ comes_so es es2 outs s s' w r n e put over a k opens overs answers answered (awa
       script = k.came.script;
       settings = k.came.settings;
       images = k.came.images;
+      none_left = k.came.none_left;
       opens = opens ∙ k.leaves.opens;
       none = still_none es es2 outs s s' w r n e put over k (quiet_none put k.leaves.quiet) none;
       sleeping = subst (λ m. SleepsUntil m s until) (sym k.came.same) (record { shown = t.shown; is_shown = t.is_shown; seconds = t.seconds; sleeps_so = t.sleeps_so; until_is = t.until_is; early = t.early });

@@ -2,6 +2,7 @@
 use Rattle.std.specs.Prelude.{◌≡◌, ℕ, ◌-◌, true, List, [], ◌∷◌, Some, None}
 use Rattle.nb_dns.specs.LookupReplies.{address_found}
 use Rattle.nb_command.specs.SettingAddresses.{host}
+use Rattle.nb_imagecmd.specs.Asking.{target_port, target_path}
 use Rattle.nb_machine.specs.Starting.{own_port}
 use Rattle.nb_machine.specs.Effects.{asks, inquires}
 use Rattle.nb_machine.specs.Errands.{Wanted, Errand, onward}
@@ -22,9 +23,9 @@ pub record FirstForFile (es : List Event) (number kind server port own : ℕ) (t
   pub wanted : Wanted
   pub names : ComesTo es number (asks wanted)
   pub kind_is : kind ≡ 1
-  pub server_is : server ≡ wanted.target.server
-  pub port_is : port ≡ wanted.target.port
-  pub target_is : target ≡ wanted.target.path
+  pub server_is : server ≡ wanted.server
+  pub port_is : port ≡ target_port wanted.asking.target
+  pub target_is : target ≡ target_path wanted.asking.target
 
 -- an open for what the words of the command ask by one exchange; the command has made no open before
 pub record FirstForQuery (es : List Event) (number : ℕ) (fields : OpenFields) : Type 0 where
@@ -64,4 +65,5 @@ pub data OpenIsFor (es : List Event) (number kind server port own : ℕ) (target
 pub record OpenStands (es : List Event) (number kind server port own : ℕ) (target : List ℕ) : Type 0 where
   pub next : number ≡ made es
   pub is_open : (so_far es).is_open ≡ true
+  pub none_left : (so_far es).left ≡ None
   pub is_for : OpenIsFor es number kind server port own target

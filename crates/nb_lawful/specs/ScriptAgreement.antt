@@ -4,6 +4,9 @@ use Rattle.std.specs.Prelude.{◌≡◌, ℕ, ◌+◌, ◌-◌, ◌*◌, ◌<◌
 use Rattle.std.specs.List.{AllByRecursion}
 use Rattle.nb_defs.specs.Parts.{HaveNoParts}
 use Rattle.nb_defs.specs.Records.{Out}
+use Rattle.nb_terms.specs.declared.cause.Cause.{Cause}
+use Rattle.nb_imagecmd.specs.Asking.{target_port, target_path}
+use Rattle.nb_machine.specs.Running.{Running}
 use Rattle.nb_machine.specs.Effects.{ShownWords, sleeps, inquires}
 use Rattle.nb_machine.specs.Errands.{Wanted, Errand, Onward, onward}
 use Rattle.nb_machine.specs.Queries.{Query, for_lease, for_echo, for_host, for_address}
@@ -14,13 +17,14 @@ use Rattle.nb_machine.specs.Scripts.{fetch, sleep, job_for, answer, moment, Wait
 use Rattle.nb_machine.specs.Courses as course
 use Rattle.nb_machine.specs.Courses.{Standing}
 use Rattle.nb_laws.specs.Events.{Event}
-use Rattle.nb_laws.specs.Lists.{Hardware, hardware, made}
+use Rattle.nb_laws.specs.Lists.{Hardware, hardware, made, commands_begun}
 use Rattle.nb_laws.specs.Cores.{asker_by}
-use Rattle.nb_laws.specs.CommandsSoFar.{CommandsSoFar, so_far, shown_effect, ComesTo}
-use Rattle.nb_laws.specs.HandOff.{wanted_by, images_brought, image_list, HandsOff}
+use Rattle.nb_laws.specs.CommandsSoFar.{CommandsSoFar, so_far, comes_by, ComesTo}
+use Rattle.nb_laws.specs.HandOff.{HandsOff}
+use Rattle.nb_laws.specs.Wanting.{wanted_by}
 use Rattle.nb_laws.specs.Progress.{NoneOversleeps}
 use Rattle.nb_laws.specs.Silence.{AreSilent}
-use Rattle.nb_laws.specs.Agreement.{AgreesScript, Asks}
+use Rattle.nb_laws.specs.Agreement.{AreScripts, AgreesScript, Asks}
 use Rattle.nb_openlaws.specs.Standings.{live_opening}
 use Rattle.nb_lawful.specs.CommandOpens.{command_open}
 use Rattle.nb_lawful.specs.OpenPurposes.{HasLookedUp}
@@ -37,7 +41,7 @@ pub record SleepsUntil (m : CommandsSoFar) (s : State) (until : ℕ) : Type 0 wh
   pub shown : ShownWords
   pub is_shown : m.shown ≡ Some shown
   pub seconds : ℕ
-  pub sleeps_so : shown_effect s.opens m.table shown ≡ sleeps seconds
+  pub sleeps_so : comes_by s.opens m shown ≡ sleeps seconds
   pub until_is : until ≡ m.since + 1000 * seconds
   pub early : s.now < until
 
@@ -45,11 +49,11 @@ pub record SleepsUntil (m : CommandsSoFar) (s : State) (until : ℕ) : Type 0 wh
 pub record FetchesWith (m : CommandsSoFar) (l : Live) (wanted : Wanted) : Type 0 where
   pub shown : ShownWords
   pub said : m.shown ≡ Some shown
-  pub asked : wanted_by (shown_effect l.number m.table shown) (live_opening l) ≡ Some wanted
+  pub asked : wanted_by (comes_by l.number m shown) (live_opening l) ≡ Some wanted
   pub kind_is : l.kind ≡ tftp
-  pub server_is : l.server ≡ wanted.target.server
-  pub port_is : l.port ≡ wanted.target.port
-  pub target_is : l.target ≡ wanted.target.path
+  pub server_is : l.server ≡ wanted.server
+  pub port_is : l.port ≡ target_port wanted.asking.target
+  pub target_is : l.target ≡ target_path wanted.asking.target
 
 -- this open is for this query
 abbrev pub IsLiveFor : Hardware → Query → Live → Type 0
@@ -62,7 +66,7 @@ IsLiveFor h (for_address setting name by) l = l.kind ≡ dns (query_id h.identit
 pub record AsksIn (h : Hardware) (m : CommandsSoFar) (l : Live) (query : Query) : Type 0 where
   pub shown : ShownWords
   pub said : m.shown ≡ Some shown
-  pub asked : Asks (shown_effect l.number m.table shown) query
+  pub asked : Asks (comes_by l.number m shown) query
   pub is_for : IsLiveFor h query l
 
 -- the command that began last has looked up its server, and asks this of it
@@ -95,17 +99,31 @@ pub data AwaitsSo (es : List Event) (s : State) (w : Waiting) : Type 0 where
 
 -- the images are those of the history, and nothing was handed off
 pub record HasImages (es : List Event) (outs : List Out) (s : State) : Type 0 where
-  pub list : s.images.images ≡ image_list (images_brought es)
+  pub list : (so_far es).images ≡ s.images
   pub none : HaveNoParts outs
+
+-- a script was left: where there are others outside it, the command of the first of them has its cause next, whatever its words were
+abbrev pub HasLeft : CommandsSoFar → List Running → Cause → Type 0
+HasLeft m [] cause = (m.is_open ≡ false) × (m.left ≡ None)
+HasLeft m (inner ∷ outer) cause = (m.is_open ≡ true) × (m.left ≡ Some cause) × (m.shown ≡ None)
+
+-- no script was left whose command has no result yet
+abbrev pub NoneLeft : List Event → Type 0
+NoneLeft es = (so_far es).left ≡ None
+
+-- the first of these scripts has counted all commands of this step
+abbrev pub AreCounted : List Event → List Running → Type 0
+AreCounted es [] = Unit {0}
+AreCounted es (inner ∷ outer) = commands_begun es ≡ inner.begun
 
 -- what the history says of the scripts, where a course stands
 abbrev pub ScriptsAgree : List Event → List Out → Standing → Type 0
 ScriptsAgree es outs course.ready = (es ≡ []) × HaveNoParts outs
-ScriptsAgree es outs (course.running s inner outer) = AgreesScript es inner × SettingsAre (so_far es) s false × HasImages es outs s
-ScriptsAgree es outs (course.waiting s w) = AgreesScript es w.script × SettingsAre (so_far es) s true × HasImages es outs s × AwaitsSo es s w
-ScriptsAgree es outs (course.reaching s inner outer next) = AgreesScript es inner × SettingsAre (so_far es) s true × HasImages es outs s × IsToReach es next
-ScriptsAgree es outs (course.yielded s inner outer) = AgreesScript es inner × SettingsAre (so_far es) s false × HasImages es outs s × (inner.begun ≡ 4096)
+ScriptsAgree es outs (course.running s inner outer) = AgreesScript es inner outer × SettingsAre (so_far es) s false × HasImages es outs s × NoneLeft es
+ScriptsAgree es outs (course.waiting s w) = AgreesScript es w.script w.outer × SettingsAre (so_far es) s true × HasImages es outs s × NoneLeft es × AwaitsSo es s w
+ScriptsAgree es outs (course.reaching s inner outer next) = AgreesScript es inner outer × SettingsAre (so_far es) s true × HasImages es outs s × NoneLeft es × IsToReach es next
+ScriptsAgree es outs (course.yielded s inner outer) = AgreesScript es inner outer × SettingsAre (so_far es) s false × HasImages es outs s × NoneLeft es × (inner.begun ≡ 4096)
 ScriptsAgree es outs (course.handing s rest) = AreSilent rest × ((so_far es).is_open ≡ false) × HandsOff es outs rest
-ScriptsAgree es outs (course.left s outer cause) = ((so_far es).is_open ≡ false) × HaveNoParts outs
+ScriptsAgree es outs (course.left s outer cause) = AreScripts (so_far es) outer × AreCounted es outer × HasLeft (so_far es) outer cause × SettingsAre (so_far es) s (so_far es).is_open × HasImages es outs s
 ScriptsAgree es outs (course.handed_off s) = ((so_far es).is_open ≡ false) × HandsOff es outs []
 ScriptsAgree es outs (course.stopped s) = NoneOversleeps es × HaveNoParts outs

@@ -1,27 +1,20 @@
--- The first script's lines: what leaves them as they were.
-use Rattle.std.proofs.Common.{◌≡◌, ℕ, Bool, true, false, cond, List, [], ◌∷◌, ◌++◌, Option, Some, None, refl, sym, ◌∙◌, ap, subst, append_assoc, append-nil}
+-- The lines of the script that runs: what leaves them as they were.
+use Rattle.std.proofs.Common.{◌≡◌, ℕ, Bool, true, false, cond, List, [], ◌∷◌, Option, Some, None, refl, subst}
 use Rattle.std.specs.Prelude.{slice_get}
-use Rattle.std.proofs.lemmas.List.Sums.{fold-append}
 use Rattle.nb_defs.specs.Causes.{is_ok_cause}
-use Rattle.nb_defs.specs.Records.{Out}
 use Rattle.nb_defs.specs.ScriptLines.{Line, label, list, empty, Item, items}
 use Rattle.nb_machine.specs.Running.{Running, Coming, passing, leaving, beginning, behind_command, lets_run, words_come, list_comes, line_comes, rest_comes, coming}
-use Rattle.nb_laws.specs.Events.{Event, puts}
-use Rattle.nb_laws.specs.Code.{script_code, code_by}
-use Rattle.nb_laws.proofs.Tellings.{told}
+use Rattle.nb_laws.specs.Agreement.{as_so_far}
 
-pub code_more : (es : List Event) (e : Event) → script_code (es ++ e ∷ []) ≡ code_by (script_code es) e
-unfolding script_code
-code_more es e = fold-append code_by [] es (e ∷ [])
+-- the same script, with as many commands begun
+pub record IsSame (t s : Running) : Type 0 where
+  pub same : as_so_far t ≡ as_so_far s
+  pub depth : t.depth ≡ s.depth
+  pub begun : t.begun ≡ s.begun
 
--- records that are written
-pub told_code : (es : List Event) (outs : List Out) → script_code (es ++ told outs) ≡ script_code es
-told_code es [] = ap script_code (append-nil es)
-told_code es (o ∷ outs) = ap script_code (sym (append_assoc es (puts o ∷ []) (told outs))) ∙ told_code (es ++ puts o ∷ []) outs ∙ code_more es (puts o)
-
--- a script that passes a line or a command keeps its lines, and begins no command
+-- a script that passes a line or a command is the same
 abbrev KeepsCode : Running → Coming → Type 0
-KeepsCode s (passing t) = (t.code ≡ s.code) × (t.begun ≡ s.begun)
+KeepsCode s (passing t) = IsSame t s
 KeepsCode s (leaving cause) = Unit {0}
 KeepsCode s (beginning name args) = Unit {0}
 
@@ -30,26 +23,26 @@ either_keeps s true x y p q = p
 either_keeps s false x y p q = q
 
 words_keep : (s : Running) (ws : List (List ℕ)) → KeepsCode s (words_come s ws)
-words_keep s [] = (refl, refl)
+words_keep s [] = (record { same = refl; depth = refl; begun = refl })
 words_keep s (name ∷ args) = tt
 
 list_keeps : (s : Running) (commands : Option (List Item)) → KeepsCode s (list_comes s commands)
 list_keeps s None = tt
-list_keeps s (Some commands) = (refl, refl)
+list_keeps s (Some commands) = (record { same = refl; depth = refl; begun = refl })
 
 line_keeps : (s : Running) (line : Option Line) → KeepsCode s (line_comes s line)
 line_keeps s None = tt
-line_keeps s (Some (label name)) = (refl, refl)
-line_keeps s (Some empty) = (refl, refl)
+line_keeps s (Some (label name)) = (record { same = refl; depth = refl; begun = refl })
+line_keeps s (Some empty) = (record { same = refl; depth = refl; begun = refl })
 line_keeps s (Some (list text)) = list_keeps s (items text)
 
 rest_keeps : (s : Running) (rest : List Item) → KeepsCode s (rest_comes s rest)
 rest_keeps s [] = either_keeps s (is_ok_cause s.last) (line_comes s (slice_get s.code s.passed)) (leaving s.last) (line_keeps s (slice_get s.code s.passed)) tt
-rest_keeps s (i ∷ behind) = either_keeps s (lets_run i.join s.last) (words_come s i.words) (passing (behind_command s)) (words_keep s i.words) (refl, refl)
+rest_keeps s (i ∷ behind) = either_keeps s (lets_run i.join s.last) (words_come s i.words) (passing (behind_command s)) (words_keep s i.words) (record { same = refl; depth = refl; begun = refl })
 
 all_keep : (s : Running) → KeepsCode s (coming s)
 unfolding coming
 all_keep s = rest_keeps s s.rest
 
-pub coming_code : (s t : Running) → coming s ≡ passing t → (t.code ≡ s.code) × (t.begun ≡ s.begun)
+pub coming_code : (s t : Running) → coming s ≡ passing t → IsSame t s
 coming_code s t e = subst (KeepsCode s) e (all_keep s)

@@ -1,42 +1,39 @@
--- The command that began last and the settings, by the history: one more event, and what a command's records do to them.
-use Rattle.std.proofs.Common.{◌≡◌, ℕ, ◌-◌, cond, append_assoc, Bool, true, false, List, [], ◌∷◌, ◌++◌, Option, Some, None, Result, Ok, Err, refl, sym, ◌∙◌, ap, subst}
+-- The command that began last, the settings, the images and the scripts, by the history: one more event, and what a command's records do to them.
+use Rattle.std.proofs.Common.{◌≡◌, ℕ, ◌-◌, cond, append_assoc, append-nil, add-zero, Bool, true, false, List, [], ◌∷◌, ◌++◌, Option, Some, None, Result, Ok, Err, refl, sym, ◌∙◌, ap, subst}
+use Rattle.std.specs.Option.{option_and_then}
 use Rattle.nb_defs.specs.Commands.{CommandOutcome}
 use Rattle.nb_terms.specs.declared.cause.Cause.{Cause}
-use Rattle.nb_defs.specs.Records.{Out, step, text as prints_text, command, result, Start}
+use Rattle.std.specs.List.{AllByRecursion}
+use Rattle.nb_defs.specs.Records.{Out, step, sent, text as prints_text, command, result, script, opened, tried, advanced, ended, graph, part, done, Start}
 use Rattle.nb_settings.specs.Tables.{TableLists}
 use Rattle.nb_expand.specs.declared.error.ExpandError.{ExpandError}
-use Rattle.nb_command.specs.declared.command_plan.CommandPlan.{CommandPlan}
-use Rattle.nb_command.specs.declared.command_plan.CommandPlan.TheVariants as plan
-use Rattle.nb_command.specs.declared.error.ApplyError.{ApplyError}
-use Rattle.nb_command.specs.declared.error.PlanError.{PlanError}
-use Rattle.nb_command.specs.Locating.{located}
-use Rattle.nb_command.specs.declared.locating.Located.{Located}
-use Rattle.nb_command.specs.Device.{device_change}
-use Rattle.nb_command.specs.Planning.{planned}
-use Rattle.nb_machine.specs.Effects.{Effect, says, asks, goes, sleeps, shuts_device, inquires, unless_full, device_effect, fetch, fetched, ShownWords, shown_as, shown_words, effect, words_effect, table_after, up_after, expansion, expanded_effect, plan_effect, planned_effect}
+use Rattle.nb_machine.specs.Conclusions.{Conclusion}
+use Rattle.nb_machine.specs.Effects.{inquires, ShownWords, shown_words, effect, table_after, up_after, expansion}
+use Rattle.nb_machine.specs.Errands.{Errand}
+use Rattle.nb_machine.specs.FirstText.{first_text}
+use Rattle.nb_machine.specs.Queries.{Query, for_host}
 use Rattle.nb_machine.specs.Running.{Running}
 use Rattle.nb_machine.specs.CommandRecords.{prints, command_record, command_records}
 use Rattle.nb_machine.specs.StartTable.{start_table}
 use Rattle.nb_machine.specs.Starting.{is_up}
-use Rattle.nb_machine.specs.Errands.{Errand, fetches_then, echoes_then, remote_file}
-use Rattle.nb_machine.specs.Queries.{Query, for_lease, for_host}
-use Rattle.nb_machine.proofs.Eithers.{full_either}
 use Rattle.nb_runner.proofs.CommandLaws.{effect_of_words, table_of_words, up_of_words, shown_of_words, shown_of_refused, table_of_refused, up_of_refused}
 use Rattle.nb_laws.specs.Events.{Event, starts, puts, followed}
-use Rattle.nb_laws.specs.Lists.{made, came_ok, last_end}
-use Rattle.nb_laws.specs.CommandsSoFar.{CommandsSoFar, so_far, so_far_by, no_commands, shown_effect, shown_table, shown_up, shown_query, found_table, left_table, ComesTo}
-use Rattle.nb_laws.specs.Progress.{NoneOversleeps}
+use Rattle.nb_laws.specs.Lists.{Opening, openings, opens_file, datagrams_of, made, came_ok, last_end}
+use Rattle.nb_laws.specs.Wanting.{wanted_by}
+use Rattle.std.specs.Prelude.{find}
+use Rattle.nb_laws.specs.CommandsSoFar as commands
+use Rattle.nb_laws.specs.CommandsSoFar.{CommandsSoFar, so_far, so_far_by, no_commands, script_so_far, shown_effect, shown_table, shown_up, shown_query, found_table, left_table, comes_by, concluded_in, arrived_so_far, concluded_by_open, conclusion_so_far, images_after}
 use Rattle.nb_laws.specs.Silence.{IsSilent, AreSilent}
-use Rattle.nb_laws.proofs.Hosts.{host_cases, address_cases}
 use Rattle.nb_laws.proofs.Histories.{followed_one, followed_append}
-use Rattle.nb_laws.proofs.Tellings.{told}
+use Rattle.nb_laws.proofs.Tellings.{told, made_more}
 use Rattle.nb_laws.proofs.HandOffs.{last_end_more}
+use Rattle.nb_laws.proofs.Settling.{WordsAsk, ask_none, ask_host, query_of_host}
 
 pub so_far_more : (es : List Event) (e : Event) → so_far (es ++ e ∷ []) ≡ so_far_by es (so_far es) e
 unfolding so_far
 so_far_more es e = followed_one so_far_by no_commands es e
 
-told_so_far : (es : List Event) (outs : List Out) → so_far (es ++ told outs) ≡ followed so_far_by es (so_far es) (told outs)
+pub told_so_far : (es : List Event) (outs : List Out) → so_far (es ++ told outs) ≡ followed so_far_by es (so_far es) (told outs)
 unfolding so_far
 told_so_far es outs = followed_append so_far_by [] no_commands es (told outs)
 
@@ -44,31 +41,25 @@ told_so_far es outs = followed_append so_far_by [] no_commands es (told outs)
 pub silent_so_far : (before : List Event) (m : CommandsSoFar) (o : Out) → IsSilent o → so_far_by before m (puts o) ≡ m
 silent_so_far before m (command depth line place expanded words) h = absurd h
 silent_so_far before m (result cause) h = absurd h
+silent_so_far before m (script what depth cause) h = absurd h
 silent_so_far before m (step number) h = refl
 silent_so_far before m _ h = refl
-
-silent_all : (before : List Event) (m : CommandsSoFar) (outs : List Out) → AreSilent outs → followed so_far_by before m (told outs) ≡ m
-unfolding followed
-silent_all before m [] h = refl
-silent_all before m (o ∷ outs) h =
-    ap (λ z. followed so_far_by (before ++ puts o ∷ []) z (told outs)) (silent_so_far before m o h.0) ∙ silent_all (before ++ puts o ∷ []) m outs h.1
 
 -- before any event
 pub nothing_so_far : (es : List Event) → es ≡ [] → so_far es ≡ no_commands
 unfolding so_far followed
 nothing_so_far es e = rw e refl
 
--- START, and records that say nothing of a command
-pub first_so_far : (es : List Event) (n : ℕ) (s : Start) (outs : List Out) → es ≡ [] → AreSilent outs → so_far ((es ++ starts n s ∷ []) ++ told outs) ≡ record no_commands { table = start_table s; up = is_up s }
-first_so_far es n s outs e h =
-    told_so_far (es ++ starts n s ∷ []) outs ∙ silent_all (es ++ starts n s ∷ []) (so_far (es ++ starts n s ∷ [])) outs h ∙ so_far_more es (starts n s)
-    ∙ ap (λ (m : CommandsSoFar). record m { table = start_table s; up = is_up s }) (nothing_so_far es e)
+-- START
+pub starts_so_far : (es : List Event) (n : ℕ) (s : Start) → es ≡ [] → so_far (es ++ starts n s ∷ []) ≡ record no_commands { table = start_table s; up = is_up s; scripts = script_so_far (first_text s.script) None ∷ [] }
+starts_so_far es n s e =
+    so_far_more es (starts n s) ∙ ap (λ (m : CommandsSoFar). record m { table = start_table s; up = is_up s; scripts = script_so_far (first_text s.script) None ∷ [] }) (nothing_so_far es e)
 
 -- A COMMAND IS OVER
 
--- it leaves the settings that its words say
-abbrev pub over_so_far : CommandsSoFar → CommandsSoFar
-over_so_far m = record m { table = shown_table m.table m.shown; is_open = false }
+-- it leaves the settings that its words say, and the images and scripts by what it concluded
+abbrev pub over_so_far : Option Conclusion → CommandsSoFar → CommandsSoFar
+over_so_far c m = record m { table = shown_table m.table m.shown; images = images_after c m.images; is_open = false; concluded = c }
 
 -- it has found nothing: none of its opens has ended well
 pub left_quiet : (before : List Event) (table : TableLists) (shown : Option ShownWords) → came_ok (last_end before) ≡ false → left_table before table shown ≡ shown_table table shown
@@ -83,8 +74,65 @@ left_unasked before table shown none = by (came_ok (last_end before))
     by true = ap (found_table before (shown_table table shown)) none
     by false = refl
 
-pub result_so_far : (es : List Event) (cause : Cause) → left_table es (so_far es).table (so_far es).shown ≡ shown_table (so_far es).table (so_far es).shown → so_far (es ++ puts (result cause) ∷ []) ≡ over_so_far (so_far es)
-result_so_far es cause left = so_far_more es (puts (result cause)) ∙ ap (λ t. record (so_far es) { table = t; is_open = false }) left
+-- nor anything for the settings where it has looked up its server
+pub left_by_host : (before : List Event) (m : CommandsSoFar) (shown : ShownWords) (errand : Errand) (name : List ℕ) (by : ℕ) → m.shown ≡ Some shown → comes_by (made before - 1) m shown ≡ inquires (for_host errand name by) →
+    left_table before m.table m.shown ≡ shown_table m.table m.shown
+left_by_host before m shown errand name server said is = asked (query_of_host (made before - 1) m shown errand name server is)
+  where
+    query : (q : Option Query) → commands.query_in (shown_effect (made before - 1) m.table shown) ≡ q → shown_query (made before - 1) m.table m.shown ≡ q
+    query q e = ap (shown_query (made before - 1) m.table) said ∙ e
+
+    host : (other : Errand) (x : List ℕ) (y : ℕ) → shown_query (made before - 1) m.table m.shown ≡ Some (for_host other x y) → (b : Bool) →
+        cond b (found_table before (shown_table m.table m.shown) (shown_query (made before - 1) m.table m.shown)) (shown_table m.table m.shown) ≡ shown_table m.table m.shown
+    host other x y e true = ap (found_table before (shown_table m.table m.shown)) e
+    host other x y e false = refl
+
+    asked : WordsAsk (commands.query_in (shown_effect (made before - 1) m.table shown)) → left_table before m.table m.shown ≡ shown_table m.table m.shown
+    asked (ask_none e) = left_unasked before m.table m.shown (query None e)
+    asked (ask_host other x y e) = host other x y (query (Some (for_host other x y)) e) (came_ok (last_end before))
+
+-- with the settings that it leaves
+pub result_is : (es : List Event) (cause : Cause) (c : Option Conclusion) (table : TableLists) → (so_far es).left ≡ None → conclusion_so_far (last_end es) es (so_far es) ≡ c → left_table es (so_far es).table (so_far es).shown ≡ table →
+    so_far (es ++ puts (result cause) ∷ []) ≡ record (so_far es) { table = table; images = images_after c (so_far es).images; is_open = false; concluded = c }
+result_is es cause c table left is at =
+    so_far_more es (puts (result cause)) ∙ ap (λ l. commands.result_so_far l es (so_far es)) left
+    ∙ ap (λ t. record (so_far es) { table = t; images = images_after (conclusion_so_far (last_end es) es (so_far es)) (so_far es).images; is_open = false; concluded = conclusion_so_far (last_end es) es (so_far es) }) at
+    ∙ ap (λ x. record (so_far es) { table = table; images = images_after x (so_far es).images; is_open = false; concluded = x }) is
+
+pub result_so_far : (es : List Event) (cause : Cause) (c : Option Conclusion) → (so_far es).left ≡ None → conclusion_so_far (last_end es) es (so_far es) ≡ c →
+    left_table es (so_far es).table (so_far es).shown ≡ shown_table (so_far es).table (so_far es).shown → so_far (es ++ puts (result cause) ∷ []) ≡ over_so_far c (so_far es)
+result_so_far es cause c left is table = result_is es cause c (shown_table (so_far es).table (so_far es).shown) left is table
+
+-- the result of a command whose script was left
+pub handed_so_far : (es : List Event) (cause left : Cause) → (so_far es).left ≡ Some left → so_far (es ++ puts (result cause) ∷ []) ≡ record (so_far es) { is_open = false; left = None; concluded = None }
+handed_so_far es cause left is = so_far_more es (puts (result cause)) ∙ ap (λ l. commands.result_so_far l es (so_far es)) is
+
+-- what a command comes to as one on images whose open hasn't ended well
+pub concludes_at_once_so : (es : List Event) (m : CommandsSoFar) (shown : ShownWords) → came_ok (last_end es) ≡ false → m.shown ≡ Some shown → conclusion_so_far (last_end es) es m ≡ concluded_in (comes_by (made es) m shown)
+concludes_at_once_so es m shown failed said =
+    ap (λ b. cond b (concluded_by_open es m) (option_and_then (λ x. concluded_in (comes_by (made es) m x)) m.shown)) failed ∙ ap (option_and_then (λ x. concluded_in (comes_by (made es) m x))) said
+
+-- it has concluded nothing, whatever its opens: it fetches no file
+pub fetches_nothing : (es : List Event) (m : CommandsSoFar) (shown : ShownWords) → m.shown ≡ Some shown → ((o : Opening) → wanted_by (comes_by (made es - 1) m shown) o ≡ None) → concluded_in (comes_by (made es) m shown) ≡ None →
+    conclusion_so_far (last_end es) es m ≡ None
+fetches_nothing es m shown said none concluded = by (came_ok (last_end es))
+  where
+    by_open : (x : Option Opening) → option_and_then (λ o. option_and_then (arrived_so_far (datagrams_of (made es - 1) es) m o) (commands.wanted_so_far (made es - 1) m o)) x ≡ None
+    by_open None = refl
+    by_open (Some o) = ap (option_and_then (arrived_so_far (datagrams_of (made es - 1) es) m o)) (ap (option_and_then (λ x. wanted_by (comes_by (made es - 1) m x) o)) said ∙ none o)
+
+    by : (b : Bool) → cond b (concluded_by_open es m) (option_and_then (λ x. concluded_in (comes_by (made es) m x)) m.shown) ≡ None
+    by true = by_open (find opens_file (openings (made es - 1) es))
+    by false = ap (option_and_then (λ x. concluded_in (comes_by (made es) m x))) said ∙ concluded
+
+-- or its last open is that of no file
+pub opened_no_file : (es : List Event) (m : CommandsSoFar) (shown : ShownWords) → m.shown ≡ Some shown → find opens_file (openings (made es - 1) es) ≡ None → concluded_in (comes_by (made es) m shown) ≡ None →
+    conclusion_so_far (last_end es) es m ≡ None
+opened_no_file es m shown said none concluded = by (came_ok (last_end es))
+  where
+    by : (b : Bool) → cond b (concluded_by_open es m) (option_and_then (λ x. concluded_in (comes_by (made es) m x)) m.shown) ≡ None
+    by true = ap (option_and_then (λ o. option_and_then (arrived_so_far (datagrams_of (made es - 1) es) m o) (commands.wanted_so_far (made es - 1) m o))) none
+    by false = ap (option_and_then (λ x. concluded_in (comes_by (made es) m x))) said ∙ concluded
 
 -- a command begins
 abbrev pub begun_so_far : CommandsSoFar → ShownWords → CommandsSoFar
@@ -93,23 +141,40 @@ begun_so_far m shown = record m { up = shown_up m.up shown; shown = Some shown; 
 pub begins_so_far : (es : List Event) (s : Running) (shown : ShownWords) → so_far (es ++ puts (command_record s shown) ∷ []) ≡ begun_so_far (so_far es) shown
 begins_so_far es s shown = so_far_more es (puts (command_record s shown))
 
-pub command_so_far : (es : List Event) (s : Running) (shown : ShownWords) (o : CommandOutcome) → so_far (es ++ told (command_records s shown o)) ≡ over_so_far (begun_so_far (so_far es) shown)
-command_so_far es s shown o = by o.prints
+-- COMMAND and what it prints
+pub begun_quiet : (es : List Event) (s : Running) (shown : ShownWords) → came_ok (last_end (es ++ puts (command_record s shown) ∷ [])) ≡ false
+begun_quiet es s shown = ap came_ok (last_end_more es (puts (command_record s shown)))
+
+made_begun : (es : List Event) (s : Running) (shown : ShownWords) → made (es ++ puts (command_record s shown) ∷ []) ≡ made es
+made_begun es s shown = made_more es (puts (command_record s shown)) ∙ add-zero (made es)
+
+-- what it comes to then, as one on images
+pub begun_concludes : (es es1 : List Event) (shown : ShownWords) → so_far es1 ≡ begun_so_far (so_far es) shown → made es1 ≡ made es → came_ok (last_end es1) ≡ false →
+    conclusion_so_far (last_end es1) es1 (so_far es1) ≡ concluded_in (comes_by (made es) (so_far es) shown)
+begun_concludes es es1 shown began many failed =
+    concludes_at_once_so es1 (so_far es1) shown failed (ap (λ (m : CommandsSoFar). m.shown) began) ∙ ap (λ k. concluded_in (comes_by k (so_far es1) shown)) many
+    ∙ ap (λ m. concluded_in (comes_by (made es) m shown)) began
+
+pub command_so_far : (es : List Event) (s : Running) (shown : ShownWords) (o : CommandOutcome) → (so_far es).left ≡ None → concluded_in (comes_by (made es) (so_far es) shown) ≡ None →
+    so_far (es ++ told (command_records s shown o)) ≡ over_so_far None (begun_so_far (so_far es) shown)
+command_so_far es s shown o left none = by o.prints
   where
     e : Event
     e = puts (command_record s shown)
 
-    by : (p : Option (List ℕ)) → so_far (es ++ told ((command_record s shown ∷ []) ++ prints p ++ (result o.cause ∷ []))) ≡ over_so_far (begun_so_far (so_far es) shown)
+    over : (es1 : List Event) → so_far es1 ≡ begun_so_far (so_far es) shown → made es1 ≡ made es → came_ok (last_end es1) ≡ false → so_far (es1 ++ puts (result o.cause) ∷ []) ≡ over_so_far None (begun_so_far (so_far es) shown)
+    over es1 began many failed =
+        result_so_far es1 o.cause None (ap (λ (m : CommandsSoFar). m.left) began ∙ left) (begun_concludes es es1 shown began many failed ∙ none) (left_quiet es1 (so_far es1).table (so_far es1).shown failed)
+        ∙ ap (over_so_far None) began
+
+    by : (p : Option (List ℕ)) → so_far (es ++ told ((command_record s shown ∷ []) ++ prints p ++ (result o.cause ∷ []))) ≡ over_so_far None (begun_so_far (so_far es) shown)
     by None =
-        ap so_far (sym (append_assoc es (e ∷ []) (puts (result o.cause) ∷ [])))
-        ∙ result_so_far (es ++ e ∷ []) o.cause (left_quiet (es ++ e ∷ []) (so_far (es ++ e ∷ [])).table (so_far (es ++ e ∷ [])).shown (ap came_ok (last_end_more es e)))
-        ∙ ap over_so_far (begins_so_far es s shown)
+        ap so_far (sym (append_assoc es (e ∷ []) (puts (result o.cause) ∷ []))) ∙ over (es ++ e ∷ []) (begins_so_far es s shown) (made_begun es s shown) (begun_quiet es s shown)
     by (Some bytes) =
         let es1 = es ++ e ∷ [] in
-        let es2 = es1 ++ puts (prints_text bytes) ∷ [] in
-        ap so_far (sym (append_assoc es (e ∷ []) (puts (prints_text bytes) ∷ puts (result o.cause) ∷ [])) ∙ sym (append_assoc es1 (puts (prints_text bytes) ∷ []) (puts (result o.cause) ∷ [])))
-        ∙ result_so_far es2 o.cause (left_quiet es2 (so_far es2).table (so_far es2).shown (ap came_ok (last_end_more es1 (puts (prints_text bytes)) ∙ last_end_more es e)))
-        ∙ ap over_so_far (so_far_more es1 (puts (prints_text bytes)) ∙ begins_so_far es s shown)
+        let t = puts (prints_text bytes) in
+        ap so_far (sym (append_assoc es (e ∷ []) (t ∷ puts (result o.cause) ∷ [])) ∙ sym (append_assoc es1 (t ∷ []) (puts (result o.cause) ∷ [])))
+        ∙ over (es1 ++ t ∷ []) (so_far_more es1 t ∙ begins_so_far es s shown) (made_more es1 t ∙ add-zero (made es1) ∙ made_begun es s shown) (ap came_ok (last_end_more es1 t) ∙ begun_quiet es s shown)
 
 -- THE WORDS THAT A RECORD SHOWS SAY WHAT THE SCRIPT'S WORDS SAY
 
@@ -145,93 +210,41 @@ shown_refused table ws = by (expansion table ws) refl
     by (Ok xs) e = subst (IsRefused table) (sym (shown_of_words table ws xs e)) (λ no. absurd (let impossible : true ≡ false = no in cc))
     by (Err why) e = subst (IsRefused table) (sym (shown_of_refused table ws why e)) (λ off. (why, e))
 
--- A COMMAND THAT SLEEPS DOES SO HOWEVER MANY OPENS WERE MADE
+-- RECORDS THAT CHANGE NOTHING OF SOME OF IT
 
-abbrev IsAwake : Effect → Type 0
-IsAwake (sleeps seconds) = ⊥
-IsAwake (says o) = Unit {0}
-IsAwake (asks wanted) = Unit {0}
-IsAwake (goes name) = Unit {0}
-IsAwake shuts_device = Unit {0}
-IsAwake (inquires q) = Unit {0}
+-- no SCRIPT
+abbrev pub IsNoScript : Out → Type 0
+IsNoScript (script what depth cause) = ⊥
+IsNoScript (step number) = Unit {0}
+IsNoScript (sent bytes) = Unit {0}
+IsNoScript (prints_text bytes) = Unit {0}
+IsNoScript (command depth line place expanded words) = Unit {0}
+IsNoScript (result cause) = Unit {0}
+IsNoScript (opened number kind server port own target) = Unit {0}
+IsNoScript (tried number count) = Unit {0}
+IsNoScript (advanced number place) = Unit {0}
+IsNoScript (ended number cause) = Unit {0}
+IsNoScript (graph happens) = Unit {0}
+IsNoScript (part kind index offset bytes) = Unit {0}
+IsNoScript (done status) = Unit {0}
 
-device_awake : (e : Effect) → IsAwake e → (r : Result Bool ApplyError) → IsAwake (device_effect e r)
-device_awake e is (Ok up) = is
-device_awake e is (Err why) = tt
+abbrev pub HaveNoScripts : List Out → Type 0
+HaveNoScripts outs = AllByRecursion IsNoScript outs
 
-fetch_awake : (opens : ℕ) (booting : Bool) (table : TableLists) (uri : List ℕ) → IsAwake (fetch opens booting table uri)
-fetch_awake opens booting table uri = by (located table uri)
-  where
-    by : (r : Result Located ApplyError) → IsAwake (fetched opens booting table r)
-    by (Ok file) = host_cases IsAwake (λ o. tt) (fetches_then (remote_file booting file)) (λ address. tt) (λ name by. tt) opens table file.host
-    by (Err why) = tt
+result_scripts : (l : Option Cause) (before : List Event) (m : CommandsSoFar) → (commands.result_so_far l before m).scripts ≡ m.scripts
+result_scripts None before m = refl
+result_scripts (Some cause) before m = refl
 
-plan_sleeps : (k j : ℕ) (table : TableLists) (p : CommandPlan) (n : ℕ) → plan_effect k table p ≡ sleeps n → plan_effect j table p ≡ sleeps n
-plan_sleeps k j table (plan.Echo newline text) n e = e
-plan_sleeps k j table (plan.Goto label) n e = e
-plan_sleeps k j table (plan.Exit x) n e = e
-plan_sleeps k j table (plan.Isset word) n e = e
-plan_sleeps k j table (plan.Iseq a b) n e = e
-plan_sleeps k j table (plan.Set name value) n e = e
-plan_sleeps k j table (plan.Clear name) n e = e
-plan_sleeps k j table (plan.Show name) n e = e
-plan_sleeps k j table (plan.Inc name by) n e = e
-plan_sleeps k j table (plan.Fetch uri) n e = absurd (subst IsAwake e (fetch_awake k false table uri))
-plan_sleeps k j table (plan.Exec uri) n e = absurd (subst IsAwake e (fetch_awake k true table uri))
-plan_sleeps k j table (plan.Ifopen device) n e = e
-plan_sleeps k j table (plan.Ifclose device) n e = e
-plan_sleeps k j table (plan.Dhcp device) n e = absurd (subst IsAwake e (device_awake (unless_full k (inquires for_lease)) (full_either IsAwake (λ o. tt) k (inquires for_lease) tt) (device_change device true)))
-plan_sleeps k j table (plan.Ping host) n e = absurd (subst IsAwake e (host_cases IsAwake (λ o. tt) echoes_then (λ address. tt) (λ name by. tt) k table host))
-plan_sleeps k j table (plan.Nslookup name host) n e = absurd (subst IsAwake e (address_cases IsAwake (λ o. tt) name (λ asked by. tt) k table host))
-plan_sleeps k j table (plan.Sleep seconds) n e = e
+scripts_by : (before : List Event) (m : CommandsSoFar) (o : Out) → IsNoScript o → (so_far_by before m (puts o)).scripts ≡ m.scripts
+scripts_by before m (result cause) h = result_scripts m.left before m
+scripts_by before m (script what depth cause) h = absurd h
+scripts_by before m (command depth line place expanded words) h = refl
+scripts_by before m (step number) h = refl
+scripts_by before m _ h = refl
 
-planned_sleeps : (k j : ℕ) (table : TableLists) (q : Result CommandPlan PlanError) (n : ℕ) → planned_effect k table q ≡ sleeps n → planned_effect j table q ≡ sleeps n
-planned_sleeps k j table (Ok p) n e = plan_sleeps k j table p n e
-planned_sleeps k j table (Err why) n e = e
-
-words_sleep : (k j : ℕ) (table : TableLists) (ws : List (List ℕ)) (n : ℕ) → words_effect k table ws ≡ sleeps n → words_effect j table ws ≡ sleeps n
-unfolding words_effect
-words_sleep k j table ws n e = planned_sleeps k j table (planned ws) n e
-
-expanded_sleep : (k j : ℕ) (table : TableLists) (r : Result (List (List ℕ)) ExpandError) (n : ℕ) → expanded_effect k table r ≡ sleeps n → expanded_effect j table r ≡ sleeps n
-expanded_sleep k j table (Ok ws) n e = words_sleep k j table ws n e
-expanded_sleep k j table (Err why) n e = e
-
-written_sleep : (k j : ℕ) (table : TableLists) (ws : List (List ℕ)) (n : ℕ) → effect k table ws ≡ sleeps n → effect j table ws ≡ sleeps n
-unfolding effect
-written_sleep k j table ws n e = expanded_sleep k j table (expansion table ws) n e
-
-pub shown_sleeps : (k j : ℕ) (table : TableLists) (expanded : Bool) (ws : List (List ℕ)) (n : ℕ) → shown_effect k table (shown_as expanded ws) ≡ sleeps n → shown_effect j table (shown_as expanded ws) ≡ sleeps n
-shown_sleeps k j table true ws n e = words_sleep k j table ws n e
-shown_sleeps k j table false ws n e = written_sleep k j table ws n e
-
-pub same_seconds : (n n' : ℕ) → sleeps n ≡ sleeps n' → n ≡ n'
-same_seconds n n' e = cc
-
-pub same_shown : (o : Option ShownWords) (x y : ShownWords) → o ≡ Some x → o ≡ Some y → x ≡ y
-same_shown o x y p q = let both : Some x ≡ Some y = sym p ∙ q in cc
-
--- NO COMMAND OVERSLEEPS
-
--- one that has its result doesn't
-pub over_rests : (es : List Event) → (so_far es).is_open ≡ false → NoneOversleeps es
-over_rests es over = λ seconds still comes. absurd (let impossible : false ≡ true = sym over ∙ still in cc)
-
--- nor one that asks for something by one exchange
-pub inquiry_rests : (es : List Event) (k : ℕ) (q : Query) → ComesTo es k (inquires q) → NoneOversleeps es
-inquiry_rests es k q comes_to = λ seconds still comes.
-    let (shown, is, sleeps_so) = comes in
-    let (said, said_is, asked) = comes_to in
-    let same : shown ≡ said = same_shown (so_far es).shown shown said is said_is in
-    let asleep : shown_effect (made es) (so_far es).table said ≡ sleeps seconds = subst (λ x. shown_effect (made es) (so_far es).table x ≡ sleeps seconds) same sleeps_so in
-    let again : shown_effect k (so_far es).table said ≡ sleeps seconds = shown_sleeps (made es) k (so_far es).table said.expanded said.words seconds asleep in
-    absurd (let impossible : inquires q ≡ sleeps seconds = sym asked ∙ again in cc)
-
--- nor anything for the settings where it has looked up its server
-pub left_by_host : (before : List Event) (table : TableLists) (shown : Option ShownWords) (errand : Errand) (name : List ℕ) (by : ℕ) → shown_query (made before - 1) table shown ≡ Some (for_host errand name by) →
-    left_table before table shown ≡ shown_table table shown
-left_by_host before table shown errand name by is = either (came_ok (last_end before))
-  where
-    either : (b : Bool) → cond b (found_table before (shown_table table shown) (shown_query (made before - 1) table shown)) (shown_table table shown) ≡ shown_table table shown
-    either true = ap (found_table before (shown_table table shown)) is
-    either false = refl
+-- they leave the scripts
+pub told_scripts : (es : List Event) (outs : List Out) → HaveNoScripts outs → (so_far (es ++ told outs)).scripts ≡ (so_far es).scripts
+told_scripts es [] h = ap (λ (z : List Event). (so_far z).scripts) (append-nil es)
+told_scripts es (o ∷ outs) h =
+    ap (λ (z : List Event). (so_far z).scripts) (sym (append_assoc es (puts o ∷ []) (told outs))) ∙ told_scripts (es ++ puts o ∷ []) outs h.1
+    ∙ ap (λ (m : CommandsSoFar). m.scripts) (so_far_more es (puts o)) ∙ scripts_by es (so_far es) o h.0

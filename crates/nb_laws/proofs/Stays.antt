@@ -8,31 +8,31 @@ use Rattle.nb_expand.specs.declared.error.ExpandError.{ExpandError}
 use Rattle.nb_command.specs.declared.command_plan.CommandPlan.{CommandPlan}
 use Rattle.nb_command.specs.declared.command_plan.CommandPlan.TheVariants as plan
 use Rattle.nb_command.specs.declared.error.ApplyError.{ApplyError}
-use Rattle.nb_command.specs.declared.error.PlanError.{PlanError}
-use Rattle.nb_command.specs.declared.locating.Located.{Located}
+use Rattle.nb_imagecmd.specs.declared.error.PlanError.{PlanError}
 use Rattle.nb_command.specs.Addresses.{address_table}
 use Rattle.nb_command.specs.Device.{device_change}
-use Rattle.nb_command.specs.Locating.{located}
 use Rattle.nb_command.specs.Planning.{planned}
 use Rattle.nb_command.specs.Settings.{Change}
 use Rattle.nb_dns.specs.WrittenNames.{is_lookup_name}
 use Rattle.nb_uri.specs.Addresses.{four_decimals}
-use Rattle.nb_machine.specs.Errands.{Errand, fetches_then, echoes_then, remote_file, onward}
+use Rattle.nb_machine.specs.Errands.{Errand, echoes_then, onward}
 use Rattle.nb_machine.specs.Queries.{Query, for_lease, bad_name, dns_in, with_domain}
-use Rattle.nb_machine.specs.Effects.{Effect, says, asks, goes, sleeps, shuts_device, inquires, full_opens, unless_full, device_effect, onward_effect, asked_host, named_host, at_host, fetch, fetched, asked_name_server, name_effect, unless_refused, looked_up_effect, plan_effect, planned_effect, words_effect, expansion, expanded_effect, effect, ShownWords, shown_as}
+use Rattle.nb_machine.specs.Effects.{Effect, says, asks, goes, sleeps, shuts_device, inquires, on_images, concludes_at_once, full_opens, unless_full, device_effect, onward_effect, asked_host, named_host, at_host, asked_name_server, name_effect, unless_refused, looked_up_effect, plan_effect, planned_effect, words_effect, expansion, expanded_effect, effect, ShownWords, shown_as}
 use Rattle.nb_laws.specs.CommandsSoFar.{shown_effect}
 
 -- something is asked for by an open
-abbrev IsAsking : Effect → Type 0
+abbrev pub IsAsking : Effect → Type 0
 IsAsking (asks wanted) = Unit {0}
 IsAsking (inquires q) = Unit {0}
 IsAsking (says o) = ⊥
 IsAsking (goes name) = ⊥
 IsAsking (sleeps seconds) = ⊥
 IsAsking shuts_device = ⊥
+IsAsking (on_images c) = ⊥
+IsAsking (concludes_at_once c) = ⊥
 
 -- the second is the first, if something is asked for
-abbrev Stays : Effect → Effect → Type 0
+abbrev pub Stays : Effect → Effect → Type 0
 Stays e f = IsAsking e → f ≡ e
 
 full_stays : (k j : ℕ) (e : Effect) → j < 16384 → Stays (unless_full k e) (unless_full j e)
@@ -45,7 +45,7 @@ full_stays k j e few = by (k == 16384)
     by true = λ is. absurd is
     by false = λ is. ap (λ b. cond b (says (refused full_opens)) e) not_full
 
-host_stays : (k j : ℕ) (table : TableLists) (text : List ℕ) (errand : Errand) → j < 16384 → Stays (at_host k table text errand) (at_host j table text errand)
+pub host_stays : (k j : ℕ) (table : TableLists) (text : List ℕ) (errand : Errand) → j < 16384 → Stays (at_host k table text errand) (at_host j table text errand)
 host_stays k j table text errand few = by (four_decimals text)
   where
     name : List ℕ
@@ -59,13 +59,6 @@ host_stays k j table text errand few = by (four_decimals text)
         (option_map_or (λ address. unless_full j (onward_effect (onward errand address))) o (named_host j table errand name))
     by None = named (is_lookup_name name)
     by (Some address) = full_stays k j (onward_effect (onward errand address)) few
-
-fetch_stays : (k j : ℕ) (boots : Bool) (table : TableLists) (uri : List ℕ) → j < 16384 → Stays (fetch k boots table uri) (fetch j boots table uri)
-fetch_stays k j boots table uri few = by (located table uri)
-  where
-    by : (r : Result Located ApplyError) → Stays (fetched k boots table r) (fetched j boots table r)
-    by (Ok file) = host_stays k j table file.host (fetches_then (remote_file boots file)) few
-    by (Err why) = λ is. refl
 
 address_stays : (k j : ℕ) (table : TableLists) (setting text : List ℕ) → j < 16384 → Stays (looked_up_effect k table setting text) (looked_up_effect j table setting text)
 address_stays k j table setting text few = by (address_table setting 0 table) (four_decimals text)
@@ -100,8 +93,7 @@ plan_stays k j table (plan.Inc name by) few = λ is. refl
 plan_stays k j table (plan.Ifopen device) few = λ is. refl
 plan_stays k j table (plan.Ifclose device) few = λ is. refl
 plan_stays k j table (plan.Sleep seconds) few = λ is. refl
-plan_stays k j table (plan.Fetch uri) few = fetch_stays k j false table uri few
-plan_stays k j table (plan.Exec uri) few = fetch_stays k j true table uri few
+plan_stays k j table (plan.Images c) few = λ is. refl
 plan_stays k j table (plan.Dhcp device) few = device_stays k j (device_change device true) few
 plan_stays k j table (plan.Ping text) few = host_stays k j table text echoes_then few
 plan_stays k j table (plan.Nslookup setting text) few = address_stays k j table setting text few

@@ -1,11 +1,21 @@
--- What a history says of the command that began last, of the settings, and of the device.
-use Rattle.std.specs.Prelude.{◌≡◌, ℕ, ◌+◌, ◌-◌, Bool, true, false, List, [], ◌∷◌, Option, Some, None, Ok, if◌then◌else◌}
-use Rattle.std.specs.Option.{option_map_or}
-use Rattle.nb_defs.specs.Records.{step, command, result}
+-- What a history says of the command that began last, of the settings, of the device, of the images, and of the scripts within one
+-- another.
+use Rattle.std.specs.Prelude.{◌≡◌, ℕ, ◌+◌, ◌-◌, ◌==◌, ◌&&◌, Bool, true, false, List, [], ◌∷◌, ◌++◌, length, drop, find, Option, Some, None, Ok, if◌then◌else◌}
+use Rattle.std.specs.Option.{option_map_or, option_and_then}
+use Rattle.nb_terms.specs.declared.cause.Cause.{Cause}
+use Rattle.nb_defs.specs.Causes.{ok}
+use Rattle.nb_defs.specs.Records.{step, command, result, script}
+use Rattle.nb_defs.specs.ScriptLines.{Line, script_reading}
+use Rattle.nb_image.specs.Images.{ImageList}
+use Rattle.nb_tftp.specs.Blocks.{file, is_whole}
+use Rattle.nb_machine.specs.Conclusions.{Conclusion, keeps, tells, fails, boots, runs_script, conclusion}
+use Rattle.nb_machine.specs.Errands.{Wanted}
+use Rattle.nb_machine.specs.FirstText.{first_text, lines_of}
+use Rattle.nb_laws.specs.Wanting.{wanted_by, is_open_of}
 use Rattle.nb_settings.specs.Tables.{TableLists, root_alone}
 use Rattle.nb_machine.specs.StartTable.{start_table}
-use Rattle.nb_machine.specs.Starting.{is_up}
-use Rattle.nb_machine.specs.Effects.{Effect, says, asks, goes, sleeps, shuts_device, inquires, ShownWords, shown_as, effect, words_effect, words_table, words_up, changed}
+use Rattle.nb_machine.specs.Starting.{is_up, no_images}
+use Rattle.nb_machine.specs.Effects.{Effect, says, asks, goes, sleeps, shuts_device, inquires, on_images, concludes_at_once, Surroundings, settled_effect, ShownWords, shown_as, effect, words_effect, words_table, words_up, changed}
 use Rattle.nb_machine.specs.Queries.{Query, for_lease, for_echo, for_host, for_address}
 use Rattle.nb_machine.specs.Findings.{lease_change}
 use Rattle.nb_command.specs.Settings.{Change}
@@ -14,7 +24,7 @@ use Rattle.nb_dns.specs.LookupReplies.{address_found}
 use Rattle.nb_dhcp.specs.History.{acknowledgement_in}
 use Rattle.nb_tftp.specs.Received.{Received}
 use Rattle.nb_laws.specs.Events.{Event, starts, hears, waits, stops, puts, followed}
-use Rattle.nb_laws.specs.Lists.{Hardware, hardware, Opening, openings, datagrams_of, made, last_end, came_ok}
+use Rattle.nb_laws.specs.Lists.{Hardware, hardware, Opening, openings, opens_file, datagrams_of, made, last_end, came_ok}
 use Rattle.nb_laws.specs.Cores.{lookup_by, asker_by, looked_at, handed_over}
 
 -- what a command comes to by the words that its record shows: they are expanded, or stand as they are written
@@ -29,6 +39,50 @@ shown_table table (Some shown) = if shown.expanded then words_table table shown.
 -- whether the device is up then
 abbrev pub shown_up : Bool → ShownWords → Bool
 shown_up up shown = if shown.expanded then words_up up shown.words else up
+
+-- A script that runs or waits, by the history: its lines, and the URI that it was fetched from; the first script has none.
+pub record ScriptSoFar : Type 0 where
+  pub code : List Line
+  pub base : Option (List ℕ)
+
+-- that of a text
+abbrev pub script_so_far : List ℕ → Option (List ℕ) → ScriptSoFar
+script_so_far text base = record { code = lines_of (script_reading text); base = base }
+
+-- the one that runs: its lines and its URI; none where none does
+abbrev pub running_code : List ScriptSoFar → List Line
+running_code [] = []
+running_code (s ∷ outer) = s.code
+
+abbrev pub running_base : List ScriptSoFar → Option (List ℕ)
+running_base [] = None
+running_base (s ∷ outer) = s.base
+
+-- the time; the settings; the images; whether the device is up; the scripts, the one that runs first; the words of the command that
+-- began last, and when it began; whether a command has no result yet; the cause with which a script within the one that runs was left,
+-- until its command has it; and what came of the command that has its result, if it was one on images
+pub record CommandsSoFar : Type 0 where
+  pub now : ℕ
+  pub table : TableLists
+  pub images : ImageList
+  pub up : Bool
+  pub scripts : List ScriptSoFar
+  pub shown : Option ShownWords
+  pub since : ℕ
+  pub is_open : Bool
+  pub left : Option Cause
+  pub concluded : Option Conclusion
+
+abbrev pub no_commands : CommandsSoFar
+no_commands = record { now = 0; table = root_alone; images = no_images; up = false; scripts = []; shown = None; since = 0; is_open = false; left = None; concluded = None }
+
+-- what a command on images finds, where so many opens were made
+abbrev pub surroundings_in : ℕ → CommandsSoFar → Surroundings
+surroundings_in opens m = record { opens = opens; table = m.table; images = m.images; base = running_base m.scripts; depth = length m.scripts }
+
+-- what the command of these words comes to
+abbrev pub comes_by : ℕ → CommandsSoFar → ShownWords → Effect
+comes_by opens m shown = settled_effect (surroundings_in opens m) (shown_effect opens m.table shown)
 
 -- WHAT A COMMAND HAS FOUND
 
@@ -62,6 +116,8 @@ query_in (asks wanted) = None
 query_in (goes name) = None
 query_in (sleeps seconds) = None
 query_in shuts_device = None
+query_in (on_images c) = None
+query_in (concludes_at_once c) = None
 
 -- the settings with what a command has found, unless they refuse it
 abbrev pub found_table : List Event → TableLists → Option Query → TableLists
@@ -77,29 +133,108 @@ abbrev pub left_table : List Event → TableLists → Option ShownWords → Tabl
 left_table es table shown =
     if came_ok (last_end es) then found_table es (shown_table table shown) (shown_query (made es - 1) table shown) else shown_table table shown
 
+-- WHAT A COMMAND ON IMAGES HAS COME TO
+
+-- the file that the command fetches by this open
+abbrev pub wanted_so_far : ℕ → CommandsSoFar → Opening → Option Wanted
+wanted_so_far opens m o = option_and_then (λ shown. wanted_by (comes_by opens m shown) o) m.shown
+
+-- what comes of a file whose open has received this
+abbrev pub arrived_so_far : List Received → CommandsSoFar → Opening → Wanted → Option Conclusion
+arrived_so_far received m o wanted =
+    if is_open_of wanted o && is_whole received then Some (conclusion ok wanted.asking (file received) (length m.scripts) m.images) else None
+
+-- and of the last open, if it was made to fetch the command's file
+abbrev pub concluded_by_open : List Event → CommandsSoFar → Option Conclusion
+concluded_by_open es m =
+    option_and_then (λ o. option_and_then (arrived_so_far (datagrams_of (made es - 1) es) m o) (wanted_so_far (made es - 1) m o))
+    (find opens_file (openings (made es - 1) es))
+
+abbrev pub concluded_in : Effect → Option Conclusion
+concluded_in (concludes_at_once c) = Some c
+concluded_in (says o) = None
+concluded_in (asks wanted) = None
+concluded_in (goes name) = None
+concluded_in (sleeps seconds) = None
+concluded_in shuts_device = None
+concluded_in (inquires q) = None
+concluded_in (on_images c) = None
+
+-- what the command that began last comes to as one on images: by its file, where its open has ended so, or else by its words
+abbrev pub conclusion_so_far : Option Cause → List Event → CommandsSoFar → Option Conclusion
+conclusion_so_far over es m =
+    if came_ok over then concluded_by_open es m else option_and_then (λ shown. concluded_in (comes_by (made es) m shown)) m.shown
+
+-- the images that it leaves
+abbrev pub list_after : Conclusion → ImageList → ImageList
+list_after (keeps list) images = list
+list_after (tells list lines) images = list
+list_after (fails cause) images = images
+list_after (boots list kernel) images = list
+list_after (runs_script list image replaces) images = list
+
+abbrev pub images_after : Option Conclusion → ImageList → ImageList
+images_after None images = images
+images_after (Some c) images = list_after c images
+
+-- the script that it runs
+abbrev pub script_in : Conclusion → List ScriptSoFar
+script_in (runs_script list image replaces) = script_so_far image.text (Some image.uri) ∷ []
+script_in (keeps list) = []
+script_in (tells list lines) = []
+script_in (fails cause) = []
+script_in (boots list kernel) = []
+
+abbrev pub script_run : Option Conclusion → List ScriptSoFar
+script_run None = []
+script_run (Some c) = script_in c
+
 -- WHAT THE COMMANDS DID
 
--- the time; the settings; whether the device is up; the words of the command that began last, and when it began; and whether it has no result yet
-pub record CommandsSoFar : Type 0 where
-  pub now : ℕ
-  pub table : TableLists
-  pub up : Bool
-  pub shown : Option ShownWords
-  pub since : ℕ
-  pub is_open : Bool
+-- a result: that of a command whose script was left changes nothing more; any other leaves its command's settings and images
+abbrev pub result_so_far : Option Cause → List Event → CommandsSoFar → CommandsSoFar
+result_so_far (Some cause) before m = record m { is_open = false; left = None; concluded = None }
+result_so_far None before m = record m {
+  table = left_table before m.table m.shown;
+  images = images_after (conclusion_so_far (last_end before) before m) m.images;
+  is_open = false;
+  concluded = conclusion_so_far (last_end before) before m;
+}
 
-abbrev pub no_commands : CommandsSoFar
-no_commands = record { now = 0; table = root_alone; up = false; shown = None; since = 0; is_open = false }
+-- a script is entered within the one that runs, by the command that has no result yet; the first one is there from START on
+abbrev pub entered_so_far : ℕ → List Event → CommandsSoFar → CommandsSoFar
+entered_so_far depth before m =
+    if depth == 1 then m
+    else record m {
+      images = images_after (conclusion_so_far (last_end before) before m) m.images;
+      scripts = script_run (conclusion_so_far (last_end before) before m) ++ m.scripts;
+      is_open = false;
+    }
 
--- START gives the first settings, and says whether the device is up; a command begins, and sets the device up or down; a
--- result leaves its command's settings, by the events before it; time passes
+-- one is left: the command that ran it has no result yet, if one did; its words are those of no command that began last
+abbrev pub left_so_far : ℕ → Cause → CommandsSoFar → CommandsSoFar
+left_so_far depth cause m =
+    if depth == 1 then record m { scripts = drop 1 m.scripts } else record m { scripts = drop 1 m.scripts; shown = None; is_open = true; left = Some cause }
+
+-- one takes the place of the one that runs, by the command that has its result
+abbrev pub replaced_so_far : CommandsSoFar → CommandsSoFar
+replaced_so_far m = record m { scripts = script_run m.concluded ++ drop 1 m.scripts; concluded = None }
+
+-- 0 enters, 1 leaves, and 2 replaces
+abbrev pub script_done : ℕ → ℕ → Cause → List Event → CommandsSoFar → CommandsSoFar
+script_done what depth cause before m =
+    if what == 0 then entered_so_far depth before m else if what == 1 then left_so_far depth cause m else replaced_so_far m
+
+-- START gives the first settings and the first script, and says whether the device is up; a command begins, and sets the device up or
+-- down; a result leaves its command's settings and images, by the events before it; scripts are entered, left and replaced; time passes
 abbrev pub so_far_by : List Event → CommandsSoFar → Event → CommandsSoFar
-so_far_by before m (starts n s) = record m { table = start_table s; up = is_up s }
+so_far_by before m (starts n s) = record m { table = start_table s; up = is_up s; scripts = script_so_far (first_text s.script) None ∷ [] }
 so_far_by before m (hears n bytes b) = m
 so_far_by before m (waits n ms) = record m { now = m.now + ms }
 so_far_by before m (stops n) = m
 so_far_by before m (puts (command depth line place expanded words)) = record m { up = shown_up m.up (shown_as expanded words); shown = Some (shown_as expanded words); since = m.now; is_open = true }
-so_far_by before m (puts (result cause)) = record m { table = left_table before m.table m.shown; is_open = false }
+so_far_by before m (puts (result cause)) = result_so_far m.left before m
+so_far_by before m (puts (script what depth cause)) = script_done what depth cause before m
 so_far_by before m (puts (step number)) = m
 so_far_by before m (puts o) = m
 
@@ -108,4 +243,17 @@ so_far es = followed so_far_by [] no_commands es
 
 -- what the command that began last comes to, where so many opens were made, as it stands after these events
 abbrev pub ComesTo : List Event → ℕ → Effect → Type 0
-ComesTo es opens e = (shown : ShownWords) × ((so_far es).shown ≡ Some shown) × (shown_effect opens (so_far es).table shown ≡ e)
+ComesTo es opens e = (shown : ShownWords) × ((so_far es).shown ≡ Some shown) × (comes_by opens (so_far es) shown ≡ e)
+
+-- the lines of the script that runs
+abbrev pub script_code : List Event → List Line
+script_code es = running_code (so_far es).scripts
+
+-- what comes of a command on images gives it this result
+abbrev pub GivesCause : Conclusion → Cause → Type 0
+GivesCause (keeps list) cause = cause ≡ ok
+GivesCause (tells list lines) cause = cause ≡ ok
+GivesCause (fails why) cause = cause ≡ why
+GivesCause (boots list kernel) cause = cause ≡ ok
+GivesCause (runs_script list image true) cause = cause ≡ ok
+GivesCause (runs_script list image false) cause = ⊥

@@ -34,5 +34,5 @@ pub record IsLawful (es : List Event) : Type 0 where
   pub unfinished : NoneIsAnswered es
   -- nor is a sleep over: its command ended in that step
   pub rested : NoneOversleeps es
-  -- all PARTs are the hand-off's, of the images that the opens whose ENDED is Ok have brought, the last one of each name
+  -- all PARTs are the hand-off's, of the images that the commands have left in the list, the selected one first
   pub parts : HandsAsBrought es (outputs es)

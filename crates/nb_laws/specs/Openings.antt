@@ -1,5 +1,6 @@
 -- What an OPEN is for: its kind, its server and the rest are those that the words of the command say.
 use Rattle.std.specs.Prelude.{◌≡◌, ℕ, ◌-◌, true, List, [], ◌∷◌, Some, None}
+use Rattle.nb_imagecmd.specs.Asking.{target_port, target_path}
 use Rattle.nb_machine.specs.Starting.{own_port}
 use Rattle.nb_machine.specs.Effects.{asks, inquires}
 use Rattle.nb_machine.specs.Errands.{Wanted, Errand, Onward, fetches_now, echoes_now, onward}
@@ -20,9 +21,9 @@ pub record OpensFile (es : List Event) (number kind server port own : ℕ) (targ
   pub wanted : Wanted
   pub names : ComesTo es number (asks wanted)
   pub kind_is : kind ≡ 1
-  pub server_is : server ≡ wanted.target.server
-  pub port_is : port ≡ wanted.target.port
-  pub target_is : target ≡ wanted.target.path
+  pub server_is : server ≡ wanted.server
+  pub port_is : port ≡ target_port wanted.asking.target
+  pub target_is : target ≡ target_path wanted.asking.target
 
 -- What the open of this number says that asks for a lease (5), an echo (6) or the address of a name or a server (4). A lease is asked of all hosts,
 -- from port 68 to port 67; an echo of a host, with the number as identifier; and an address of a name server's port 53, from
@@ -43,7 +44,7 @@ pub record OpensQuery (es : List Event) (number : ℕ) (fields : OpenFields) : T
 -- What the open says that a command makes of a server whose name was looked up: the file (1), or the echo (6).
 abbrev pub onward_fields : (offset number : ℕ) → Onward → OpenFields
 onward_fields offset number (fetches_now wanted) =
-    record { kind = 1; server = wanted.target.server; port = wanted.target.port; own = own_port offset number; target = wanted.target.path }
+    record { kind = 1; server = wanted.server; port = target_port wanted.asking.target; own = own_port offset number; target = target_path wanted.asking.target }
 onward_fields offset number (echoes_now server) = record { kind = 6; server = server; port = 0; own = number; target = [] }
 
 -- The last open has looked up this name at this name server, in this command, and has found this address.

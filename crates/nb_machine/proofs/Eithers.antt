@@ -4,18 +4,29 @@ use Rattle.std.specs.Option.{option_map_or}
 use Rattle.nb_defs.specs.Causes.{ok}
 use Rattle.nb_defs.specs.Commands.{CommandOutcome, refused}
 use Rattle.nb_command.specs.Addresses.{address_table}
-use Rattle.nb_command.specs.declared.error.ApplyError.{ApplyError}
-use Rattle.nb_command.specs.declared.locating.Located.{Located}
 use Rattle.nb_command.specs.Failures.{apply_cause}
-use Rattle.nb_command.specs.Locating.{located}
+use Rattle.nb_command.specs.Bases.{base_by}
 use Rattle.nb_command.specs.Settings.{Change}
 use Rattle.nb_dns.specs.WrittenNames.{is_lookup_name}
 use Rattle.nb_settings.specs.Tables.{TableLists}
 use Rattle.nb_uri.specs.Addresses.{four_decimals}
 use Rattle.nb_wire.specs.declared.address.Ip4.{Ip4}
-use Rattle.nb_machine.specs.declared.remote_file.RemoteFile.{RemoteFile}
-use Rattle.nb_machine.specs.Errands.{Wanted, wanted_at, remote_file, Errand, fetches_then, echoes_then, onward}
-use Rattle.nb_machine.specs.Effects.{Effect, says, asks, inquires, fetch, fetched, full_opens, unless_full, onward_effect, asked_host, named_host, at_host, asked_name_server, name_effect, unless_refused, looked_up_effect}
+use Rattle.nb_image.specs.Images.{ImageList}
+use Rattle.nb_imagecmd.specs.declared.asking.Asking.{Asking}
+use Rattle.nb_imagecmd.specs.declared.commands.ImageCommand.{ImageCommand}
+use Rattle.nb_imagecmd.specs.declared.error.ImageFailure.{ImageFailure}
+use Rattle.nb_imagecmd.specs.declared.error.ImageFailure.TheVariants.{NoScheme}
+use Rattle.nb_imagecmd.specs.declared.outcome.ImageOutcome.{ImageOutcome}
+use Rattle.nb_imagecmd.specs.declared.outcome.ImageOutcome.TheVariants.{Done, Print, Ask, Run, Boot}
+use Rattle.nb_imagecmd.specs.declared.outcome.ScriptImage.{ScriptImage}
+use Rattle.nb_imagecmd.specs.CarryingOut.{image_effect}
+use Rattle.nb_imagecmd.specs.Executing.{ImageAnswer, script_taken}
+use Rattle.nb_imagecmd.specs.Failures.{image_cause}
+use Rattle.nb_uri.specs.declared.target.UriTarget.{UriTarget}
+use Rattle.nb_uri.specs.declared.target.UriTarget.TheVariants.{Tftp, Http, Iscsi}
+use Rattle.nb_machine.specs.Conclusions.{Conclusion, keeps, tells, boots_selected, runs_script}
+use Rattle.nb_machine.specs.Errands.{Wanted, Errand, fetches_then, echoes_then, onward}
+use Rattle.nb_machine.specs.Effects.{Effect, says, asks, inquires, concludes_at_once, Surroundings, asked_effect, taken_effect, image_outcome_effect, image_answer_effect, images_effect, full_opens, unless_full, onward_effect, asked_host, named_host, at_host, asked_name_server, name_effect, unless_refused, looked_up_effect}
 use Rattle.nb_machine.specs.Queries.{Query, for_echo, for_address, for_host, bad_name, no_server, dns_in, with_domain}
 
 pub either_of : (P : Effect → Type 0) (b : Bool) (e f : Effect) → P e → P f → P (cond b e f)
@@ -42,18 +53,36 @@ host_either P said opens table text errand inquired asked = by (four_decimals te
     by None = named (with_domain table text)
     by (Some address) = full_either P said opens (onward_effect (onward errand address)) (asked address)
 
--- a command that fetches is refused, asks for its file, or for its server's address
-pub fetch_case : (P : Effect → Type 0) → ((o : CommandOutcome) → P (says o)) → ((wanted : Wanted) → P (asks wanted)) → ((file : RemoteFile) (name : List ℕ) (by : ℕ) → P (inquires (for_host (fetches_then file) name by))) →
-    (opens : ℕ) (boots : Bool) (table : TableLists) (uri : List ℕ) → P (fetch opens boots table uri)
-fetch_case P said asked inquired opens boots table uri = by (located table uri)
-  where
-    by : (r : Result Located ApplyError) → P (fetched opens boots table r)
-    by (Ok file) = host_either P said opens table file.host (fetches_then (remote_file boots file)) (λ name address. inquired (remote_file boots file) name address) (λ address. asked (wanted_at (remote_file boots file) address))
-    by (Err why) = said (refused (apply_cause why))
+-- a file that is asked for is refused, asked for at once, or its server's address is
+pub asked_case : (P : Effect → Type 0) → ((o : CommandOutcome) → P (says o)) → (target : UriTarget) (x : Surroundings) (asking : Asking) → ((server : ℕ) → P (asks (record { server = server; asking = asking }))) →
+    ((name : List ℕ) (by : ℕ) → P (inquires (for_host (fetches_then asking) name by))) → P (asked_effect target x asking)
+asked_case P said (Tftp host port path whole) x asking asked inquired = host_either P said x.opens x.table host (fetches_then asking) inquired asked
+asked_case P said (Http host port path whole) x asking asked inquired = said (refused (image_cause NoScheme))
+asked_case P said (Iscsi host port lun name whole) x asking asked inquired = said (refused (image_cause NoScheme))
 
-pub fetch_either : (P : Effect → Type 0) → ((o : CommandOutcome) → P (says o)) → ((wanted : Wanted) → P (asks wanted)) → ((q : Query) → P (inquires q)) →
-    (opens : ℕ) (boots : Bool) (table : TableLists) (uri : List ℕ) → P (fetch opens boots table uri)
-fetch_either P said asked inquired opens boots table uri = fetch_case P said asked (λ file name by. inquired (for_host (fetches_then file) name by)) opens boots table uri
+-- a command on images is refused, comes to a conclusion at once, asks for its file, or for its server's address
+pub images_case : (P : Effect → Type 0) → ((o : CommandOutcome) → P (says o)) → ((c : Conclusion) → P (concludes_at_once c)) → ((wanted : Wanted) → P (asks wanted)) →
+    ((asking : Asking) (name : List ℕ) (by : ℕ) → P (inquires (for_host (fetches_then asking) name by))) → (x : Surroundings) (command : ImageCommand) → P (images_effect x command)
+images_case P said concluded asked inquired x command = by (image_effect command (base_by x.base x.table) x.images)
+  where
+    by_taken : (replace : Bool) (r : Result (ScriptImage × ImageList) ImageFailure) → P (taken_effect replace r)
+    by_taken replace (Ok taken) = concluded (runs_script taken.1 taken.0 replace)
+    by_taken replace (Err why) = said (refused (image_cause why))
+
+    by_outcome : (o : ImageOutcome) (list : ImageList) → P (image_outcome_effect x o list)
+    by_outcome Done list = concluded (keeps list)
+    by_outcome (Print lines) list = concluded (tells list lines)
+    by_outcome (Ask asking) list = asked_case P said asking.target x asking (λ server. asked (record { server = server; asking = asking })) (inquired asking)
+    by_outcome (Run image replace) list = by_taken replace (script_taken image replace x.depth list)
+    by_outcome Boot list = concluded (boots_selected list)
+
+    by : (r : ImageAnswer) → P (image_answer_effect x r)
+    by (Ok answer) = by_outcome answer.0 answer.1
+    by (Err why) = said (refused (image_cause why))
+
+pub images_either : (P : Effect → Type 0) → ((o : CommandOutcome) → P (says o)) → ((c : Conclusion) → P (concludes_at_once c)) → ((wanted : Wanted) → P (asks wanted)) → ((q : Query) → P (inquires q)) →
+    (x : Surroundings) (command : ImageCommand) → P (images_effect x command)
+images_either P said concluded asked inquired x command = images_case P said concluded asked (λ asking name by. inquired (for_host (fetches_then asking) name by)) x command
 
 -- `ping` is refused, asks for an echo, or for its host's address
 pub pinged_case : (P : Effect → Type 0) → ((o : CommandOutcome) → P (says o)) → ((server : ℕ) → P (inquires (for_echo server))) → ((name : List ℕ) (by : ℕ) → P (inquires (for_host echoes_then name by))) →

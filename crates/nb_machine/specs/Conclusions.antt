@@ -1,72 +1,59 @@
--- What comes of a command whose open has ended, and the records of a hand-off.
-use Rattle.std.specs.Prelude.{ℕ, Bool, true, false, List, [], ◌∷◌, length, map, Option, Some, None, unwrap_or, if◌then◌else◌}
+-- What comes of a command on images, at once or when its file has come, and the records of a hand-off.
+use Rattle.std.specs.Prelude.{ℕ, Bool, true, false, List, [], ◌∷◌, ◌++◌, map, unwrap_or, Ok, Err, if◌then◌else◌}
 use Rattle.std.specs.List.{flat_map}
 use Rattle.nb_terms.specs.declared.cause.Cause.{Cause}
-use Rattle.nb_defs.specs.Causes.{ok, plain_cause, is_ok_cause}
-use Rattle.nb_defs.specs.Records.{Out, result, part}
+use Rattle.nb_defs.specs.Causes.{ok, is_ok_cause}
+use Rattle.nb_defs.specs.Records.{Out, text, result, part}
 use Rattle.nb_image.specs.declared.image.Image.{Image}
-use Rattle.nb_image.specs.declared.error.ImageError.{ImageError}
-use Rattle.nb_image.specs.declared.error.ImageError.TheVariants as error
-use Rattle.nb_image.specs.declared.kind.ImageKind.{ImageKind}
-use Rattle.nb_image.specs.declared.kind.ImageKind.TheVariants as kind
-use Rattle.nb_image.specs.Images.{ImageList, with_image, image_place, refusal}
-use Rattle.nb_image.specs.Kinds.{kind_of}
+use Rattle.nb_image.specs.Images.{ImageList}
 use Rattle.nb_image.specs.Parts.{PartText, PieceText, part_number, parts, part_pieces}
+use Rattle.nb_imagecmd.specs.declared.arriving.Arrival.{Arrival}
+use Rattle.nb_imagecmd.specs.declared.arriving.Arrival.TheVariants as arrival
+use Rattle.nb_imagecmd.specs.declared.asking.Asking.{Asking}
+use Rattle.nb_imagecmd.specs.declared.outcome.ScriptImage.{ScriptImage}
+use Rattle.nb_imagecmd.specs.Arriving.{ArrivalAnswer, arrived}
+use Rattle.nb_imagecmd.specs.Asking.{target_uri}
+use Rattle.nb_imagecmd.specs.Failures.{image_cause}
 
--- the image can't be booted
-abbrev pub not_bootable : Cause
-not_bootable = plain_cause 27
-
--- why the list doesn't take an image
-abbrev pub cause_of_error : ImageError → Cause
-cause_of_error error.TooMany = record { code = 7; a = 3; b = 0 }
-cause_of_error error.TooLarge = record { code = 6; a = 2; b = 0 }
-cause_of_error error.NoMemory = plain_cause 23
-
--- a kernel or a program is booted; a script isn't run yet
-abbrev pub is_bootable : ImageKind → Bool
-is_bootable kind.Script = false
-is_bootable kind.BzImage = true
-is_bootable kind.Elf = true
-is_bootable kind.Efi = true
-is_bootable kind.Other = false
-
--- a command whose open has ended: it goes on with this list of images, it fails, or this image of the list is handed off
+-- A command on images: it goes on with this list of images, printing these lines or not; it fails; the image at this place of
+-- the list is handed off; or a script that was in the list runs, or takes the place of the one that runs.
 pub data Conclusion : Type 0 where
   keeps : ImageList → Conclusion
+  tells : ImageList → (lines : List (List ℕ)) → Conclusion
   fails : Cause → Conclusion
   boots : ImageList → (kernel : ℕ) → Conclusion
+  runs_script : ImageList → ScriptImage → (replace : Bool) → Conclusion
 
--- the list with the image added
-abbrev pub added : Image → ImageList → ImageList
-added image list = record { images = with_image image list.images; selected = list.selected }
+-- the selected image is booted
+abbrev pub boots_selected : ImageList → Conclusion
+boots_selected list = boots list (unwrap_or list.selected 0)
 
--- the place at which an image is added
-abbrev pub place_for : Image → ImageList → ℕ
-place_for image list = unwrap_or (image_place image.name list.images) (length list.images)
+-- what a file comes to that has come
+abbrev pub arrival_conclusion : Arrival → ImageList → Conclusion
+arrival_conclusion arrival.Kept list = keeps list
+arrival_conclusion (arrival.Run script replace) list = runs_script list script replace
+arrival_conclusion arrival.Boot list = boots_selected list
 
--- the list with the image added and selected
-abbrev pub selected_in : Image → ImageList → ImageList
-selected_in image list = record { images = with_image image list.images; selected = Some (place_for image list) }
+-- and where its command may fail
+abbrev pub file_conclusion : ArrivalAnswer → Conclusion
+file_conclusion (Ok answer) = arrival_conclusion answer.0 answer.1
+file_conclusion (Err why) = fails (image_cause why)
 
--- the image is taken into the list
-abbrev pub taken_in : Bool → Image → ImageList → Conclusion
-taken_in false image list = keeps (added image list)
-taken_in true image list = if is_bootable (kind_of image.body) then boots (selected_in image list) (place_for image list) else fails not_bootable
+-- An open has ended with a cause, which fetched these bytes for a command of a script of this depth: unless it failed, the
+-- file that was asked for has come.
+abbrev pub conclusion : Cause → Asking → List ℕ → ℕ → ImageList → Conclusion
+conclusion cause asking body depth list =
+    if is_ok_cause cause then file_conclusion (arrived asking body (target_uri asking.target) depth list) else fails cause
 
-abbrev pub stored : Option ImageError → Bool → Image → ImageList → Conclusion
-stored (Some e) booting image list = fails (cause_of_error e)
-stored None booting image list = taken_in booting image list
-
--- an open has ended with a cause: the image that it fetched is taken into the list, unless it failed
-abbrev pub conclusion : Cause → Bool → Image → ImageList → Conclusion
-conclusion cause booting image list = if is_ok_cause cause then stored (refusal image list.images) booting image list else fails cause
-
--- the result of the command
+-- the records up to the result of the command; one that runs a script has its result when that is left, but where it takes
+-- the place of the script that runs
 abbrev pub conclusion_records : Conclusion → List Out
 conclusion_records (keeps list) = result ok ∷ []
+conclusion_records (tells list lines) = map text lines ++ (result ok ∷ [])
 conclusion_records (fails cause) = result cause ∷ []
 conclusion_records (boots list kernel) = result ok ∷ []
+conclusion_records (runs_script list script true) = result ok ∷ []
+conclusion_records (runs_script list script false) = []
 
 -- a piece of a part of the hand-off
 abbrev pub piece_record : PartText → PieceText → Out

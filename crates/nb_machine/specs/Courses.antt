@@ -1,24 +1,26 @@
 -- The machine over a whole run: records used and records written, by the network and the scripts. It reads whole
 -- lists, and knows nothing of bytes, buffers or calls.
-use Rattle.std.specs.Prelude.{◌≡◌, ◌<◌, ℕ, ◌+◌, true, false, List, [], ◌∷◌, ◌++◌, Some, None, slice_get}
+use Rattle.std.specs.Prelude.{◌≡◌, ◌<◌, ℕ, ◌+◌, Bool, true, false, List, [], ◌∷◌, ◌++◌, Option, Some, None, slice_get}
 use Rattle.nb_terms.specs.declared.cause.Cause.{Cause}
 use Rattle.nb_defs.specs.Causes.{ok, plain_cause}
 use Rattle.nb_defs.specs.Commands.{CommandOutcome, refused}
 use Rattle.nb_defs.specs.Records.{Start, In, start, off, IsIn, Out, step, enter, leave, result}
-use Rattle.nb_defs.specs.ScriptLines.{Line, script, label_place}
+use Rattle.nb_defs.specs.ScriptLines.{Line, script, script_reading, label_place}
 use Rattle.nb_stack.specs.Client.{Client}
-use Rattle.nb_machine.specs.Conclusions.{Conclusion, keeps, fails, boots, conclusion_records, handoff_records}
+use Rattle.nb_imagecmd.specs.declared.outcome.ScriptImage.{ScriptImage}
+use Rattle.nb_scripts.specs.Records.{replace}
+use Rattle.nb_machine.specs.Conclusions.{Conclusion, keeps, tells, fails, boots, runs_script, conclusion_records, handoff_records}
 use Rattle.nb_machine.specs.Effects.{shown_words, full_opens}
 use Rattle.nb_machine.specs.Errands.{Onward}
-use Rattle.nb_machine.specs.FirstText.{first_reading, text_refusal}
-use Rattle.nb_machine.specs.Running.{Running, first_script, coming, passing, leaving, beginning, entered, further, behind_line, with_result, anew, no_label}
+use Rattle.nb_machine.specs.FirstText.{first_reading, text_refusal, lines_of}
+use Rattle.nb_machine.specs.Running.{Running, first_script, coming, passing, leaving, beginning, entered, further, behind_line, with_result, anew, script_within, script_in_place, counting_on, no_label}
 use Rattle.nb_machine.specs.CommandRecords.{command_record, command_records, no_route, stopped_cause}
 use Rattle.nb_machine.specs.Lives.{close, Live, open_record, end_record}
 use Rattle.nb_machine.specs.Kinds.{first_records}
 use Rattle.nb_machine.specs.States.{State, state_at_start, with_images, with_settings, with_live, with_opened, with_one_made}
 use Rattle.nb_machine.specs.Takings.{Over, AllTake}
 use Rattle.nb_machine.specs.Network.{Network}
-use Rattle.nb_machine.specs.Scripts.{Job, sleep, ends, opens, goes_to, waits_until, shuts, doing, live_onward, job_onward, answer, moment, Answer, answer_in, Waiting, waiting_anew, Upshot, concludes, settles, goes_onward, upshot_records, concluded_by}
+use Rattle.nb_machine.specs.Scripts.{Job, sleep, ends, opens, goes_to, waits_until, shuts, concludes_now, doing, live_onward, job_onward, answer, moment, Answer, answer_in, Waiting, waiting_anew, Upshot, concludes, settles, goes_onward, upshot_records, concluded_by}
 
 -- the device went down
 abbrev pub down_cause : Cause
@@ -38,7 +40,7 @@ pub data Standing : Type 0 where
   yielded : State → Running → (outer : List Running) → Standing
   -- an image is handed off, of which these records are still to come
   handing : State → (rest : List Out) → Standing
-  -- the innermost script was left with this cause, and those outside it stand still
+  -- the innermost script was left with this cause, and those outside it stand still; where there are none, the run is over
   left : State → (outer : List Running) → Cause → Standing
   -- all was handed off
   handed_off : State → Standing
@@ -57,14 +59,35 @@ stands used standing = record { used = used; standing = standing }
 abbrev pub nowhere : Progress
 nowhere = stands 0 ready
 
--- Where a conclusion leads, and the records put there: the script goes on, with the command's result; or an image is handed off,
--- once all that lives is closed.
+-- SCRIPT for a text that is to run, and for its end where it doesn't
+abbrev pub text_records : ℕ → Out → Option Cause → List Out
+text_records depth begins None = begins ∷ []
+text_records depth begins (Some cause) = begins ∷ leave depth cause ∷ []
+
+-- where the scripts stand then: it runs within these, or they have its cause
+abbrev pub text_standing : State → Running → List Running → Option Cause → Standing
+text_standing s new outer None = running s new outer
+text_standing s new outer (Some cause) = left s (counting_on new outer) cause
+
+-- a text runs within the script that runs, or in its place
+abbrev pub ScriptLeads : State → Running → List Running → ScriptImage → Bool → List Out → Standing → Type 0
+ScriptLeads s inner outer image false put p =
+    (put ≡ text_records (inner.depth + 1) (enter (inner.depth + 1)) (text_refusal (script_reading image.text)))
+    × (p ≡ text_standing s (script_within inner image.uri (lines_of (script_reading image.text))) (inner ∷ outer) (text_refusal (script_reading image.text)))
+ScriptLeads s inner outer image true put p =
+    (put ≡ text_records inner.depth (replace inner.depth) (text_refusal (script_reading image.text)))
+    × (p ≡ text_standing s (script_in_place inner image.uri (lines_of (script_reading image.text))) outer (text_refusal (script_reading image.text)))
+
+-- Where a conclusion leads, and the records put there: the script goes on, with the command's result; an image is handed off,
+-- once all that lives is closed; or another script runs.
 abbrev pub ConclusionLeads : State → Running → List Running → Conclusion → List Out → Standing → Type 0
 ConclusionLeads s inner outer (keeps list) put p = (put ≡ []) × (p ≡ running (with_images s list) (with_result inner ok) outer)
+ConclusionLeads s inner outer (tells list lines) put p = (put ≡ []) × (p ≡ running (with_images s list) (with_result inner ok) outer)
 ConclusionLeads s inner outer (fails cause) put p = (put ≡ []) × (p ≡ running s (with_result inner cause) outer)
 ConclusionLeads s inner outer (boots list kernel) put p =
     (over : List Over) × AllTake s.devices (close stopped_cause) s.live put [] over
     × (p ≡ handing (with_live (with_images s list) []) (handoff_records kernel list.images))
+ConclusionLeads s inner outer (runs_script list image replaces) put p = ScriptLeads (with_images s list) inner outer image replaces put p
 
 -- The same of what comes of a command: where that is settings, the device follows them; and where its server was looked up, its own
 -- open is next.
@@ -88,8 +111,8 @@ pub data StepBegins : Progress → In → List Out → Progress → Type 0 where
       StepBegins (stands n (waiting s w)) r (step (n + 1) ∷ put) (stands (n + 1) (waiting s' (waiting_anew w)))
   -- what it waits for has come
   is_answered : (n : ℕ) (s s' : State) (w : Waiting) (r : In) (put more : List Out) (over : List Over) (a : Answer) (p : Standing) → IsIn r →
-      Network s (n + 1) r put s' over → answer_in s' r over w.awaited ≡ Some a → LeadsTo s' (anew w.script) w.outer (concluded_by s' w.job a) more p →
-      StepBegins (stands n (waiting s w)) r (step (n + 1) ∷ put ++ upshot_records (concluded_by s' w.job a) ++ more) (stands (n + 1) p)
+      Network s (n + 1) r put s' over → answer_in s' r over w.awaited ≡ Some a → LeadsTo s' (anew w.script) w.outer (concluded_by s' w.script.depth w.job a) more p →
+      StepBegins (stands n (waiting s w)) r (step (n + 1) ∷ put ++ upshot_records (concluded_by s' w.script.depth w.job a) ++ more) (stands (n + 1) p)
   -- the power is switched off: every open is closed, and the command gives no result
   switches_off : (n : ℕ) (s : State) (w : Waiting) (put : List Out) (over : List Over) →
       AllTake s.devices (close stopped_cause) s.live put [] over →
@@ -110,45 +133,52 @@ pub data Proceeds : Progress → List Out → Progress → Type 0 where
       Proceeds (stands n (running s inner outer)) [] (stands n (running s next outer))
   -- it is left
   is_left : (n : ℕ) (s : State) (inner : Running) (outer : List Running) (cause : Cause) → coming inner ≡ leaving cause →
-      Proceeds (stands n (running s inner outer)) (leave inner.depth cause ∷ []) (stands n (left s outer cause))
+      Proceeds (stands n (running s inner outer)) (leave inner.depth cause ∷ []) (stands n (left s (counting_on inner outer) cause))
+  -- the command that ran it has its cause, and the script outside goes on
+  hands_back : (n : ℕ) (s : State) (inner : Running) (outer : List Running) (cause : Cause) →
+      Proceeds (stands n (left s (inner ∷ outer) cause)) (result cause ∷ []) (stands n (running s (with_result inner cause) outer))
   -- its next command has to wait for the next step
   yields : (n : ℕ) (s : State) (inner : Running) (outer : List Running) (c : List ℕ) (cs : List (List ℕ)) → coming inner ≡ beginning c cs → inner.begun ≡ 4096 →
       Proceeds (stands n (running s inner outer)) [] (stands n (yielded s inner outer))
   -- a command after which the list goes on
   does : (n : ℕ) (s s' : State) (inner : Running) (outer : List Running) (c : List ℕ) (cs : List (List ℕ)) (o : CommandOutcome) →
-      coming inner ≡ beginning c cs → inner.begun < 4096 → doing s (c ∷ cs) ≡ ends o s' → o.leaves ≡ false →
+      coming inner ≡ beginning c cs → inner.begun < 4096 → doing s inner (c ∷ cs) ≡ ends o s' → o.leaves ≡ false →
       Proceeds (stands n (running s inner outer)) (command_records inner (shown_words s.table (c ∷ cs)) o) (stands n (running s' (further inner o.cause) outer))
   -- `ifclose`: the device is down, and then all that lives is closed with Down
   closes_device : (n : ℕ) (s s' : State) (inner : Running) (outer : List Running) (c : List ℕ) (cs : List (List ℕ)) (put : List Out) (over : List Over) →
-      coming inner ≡ beginning c cs → inner.begun < 4096 → doing s (c ∷ cs) ≡ shuts s' → AllTake s'.devices (close down_cause) s'.live put [] over →
+      coming inner ≡ beginning c cs → inner.begun < 4096 → doing s inner (c ∷ cs) ≡ shuts s' → AllTake s'.devices (close down_cause) s'.live put [] over →
       Proceeds (stands n (running s inner outer)) (command_record inner (shown_words s.table (c ∷ cs)) ∷ put ++ (result ok ∷ []))
       (stands n (running (with_live s' []) (further inner ok) outer))
+  -- a command on images that waits for nothing
+  concludes_there : (n : ℕ) (s : State) (inner : Running) (outer : List Running) (c : List ℕ) (cs : List (List ℕ)) (x : Conclusion) (put : List Out) (p : Standing) →
+      coming inner ≡ beginning c cs → inner.begun < 4096 → doing s inner (c ∷ cs) ≡ concludes_now x → ConclusionLeads s (entered inner) outer x put p →
+      Proceeds (stands n (running s inner outer)) (command_record inner (shown_words s.table (c ∷ cs)) ∷ conclusion_records x ++ put) (stands n p)
   -- a command with which the script is left
   leaves : (n : ℕ) (s s' : State) (inner : Running) (outer : List Running) (c : List ℕ) (cs : List (List ℕ)) (o : CommandOutcome) →
-      coming inner ≡ beginning c cs → inner.begun < 4096 → doing s (c ∷ cs) ≡ ends o s' → o.leaves ≡ true →
-      Proceeds (stands n (running s inner outer)) (command_records inner (shown_words s.table (c ∷ cs)) o ++ (leave inner.depth o.cause ∷ [])) (stands n (left s' outer o.cause))
+      coming inner ≡ beginning c cs → inner.begun < 4096 → doing s inner (c ∷ cs) ≡ ends o s' → o.leaves ≡ true →
+      Proceeds (stands n (running s inner outer)) (command_records inner (shown_words s.table (c ∷ cs)) o ++ (leave inner.depth o.cause ∷ [])) (stands n (left s' (counting_on (entered inner) outer) o.cause))
   -- `goto`: the script goes on after the first line that is the label
   jumps : (n : ℕ) (s : State) (inner : Running) (outer : List Running) (c : List ℕ) (cs : List (List ℕ)) (name : List ℕ) (line : ℕ) →
-      coming inner ≡ beginning c cs → inner.begun < 4096 → doing s (c ∷ cs) ≡ goes_to name → label_place name inner.code ≡ Some line →
+      coming inner ≡ beginning c cs → inner.begun < 4096 → doing s inner (c ∷ cs) ≡ goes_to name → label_place name inner.code ≡ Some line →
       Proceeds (stands n (running s inner outer)) (command_records inner (shown_words s.table (c ∷ cs)) (refused ok)) (stands n (running s (behind_line inner line) outer))
   -- there is no such label
   finds_no_label : (n : ℕ) (s : State) (inner : Running) (outer : List Running) (c : List ℕ) (cs : List (List ℕ)) (name : List ℕ) →
-      coming inner ≡ beginning c cs → inner.begun < 4096 → doing s (c ∷ cs) ≡ goes_to name → label_place name inner.code ≡ None →
+      coming inner ≡ beginning c cs → inner.begun < 4096 → doing s inner (c ∷ cs) ≡ goes_to name → label_place name inner.code ≡ None →
       Proceeds (stands n (running s inner outer)) (command_records inner (shown_words s.table (c ∷ cs)) (refused no_label)) (stands n (running s (further inner no_label) outer))
   -- a command that waits for a time
   falls_asleep : (n : ℕ) (s : State) (inner : Running) (outer : List Running) (c : List ℕ) (cs : List (List ℕ)) (time : ℕ) →
-      coming inner ≡ beginning c cs → inner.begun < 4096 → doing s (c ∷ cs) ≡ waits_until time →
+      coming inner ≡ beginning c cs → inner.begun < 4096 → doing s inner (c ∷ cs) ≡ waits_until time →
       Proceeds (stands n (running s inner outer)) (command_record inner (shown_words s.table (c ∷ cs)) ∷ [])
       (stands n (waiting s (record { script = entered inner; outer = outer; awaited = moment time; job = sleep })))
   -- a command that opens something, and waits for it
   opens_one : (n : ℕ) (s s' : State) (inner : Running) (outer : List Running) (c : List ℕ) (cs : List (List ℕ)) (l : Live) (job : Job) (link : Client) (put : List Out) →
-      coming inner ≡ beginning c cs → inner.begun < 4096 → doing s (c ∷ cs) ≡ opens s' l job →
+      coming inner ≡ beginning c cs → inner.begun < 4096 → doing s inner (c ∷ cs) ≡ opens s' l job →
       slice_get s'.devices l.device ≡ Some link → first_records l.kind l link ≡ Some put →
       Proceeds (stands n (running s inner outer)) (command_record inner (shown_words s.table (c ∷ cs)) ∷ open_record l ∷ put)
       (stands n (waiting (with_opened s' l) (record { script = entered inner; outer = outer; awaited = answer l.number; job = job })))
   -- one whose server there is no way to: the open was made, and has ended
   finds_no_route : (n : ℕ) (s s' : State) (inner : Running) (outer : List Running) (c : List ℕ) (cs : List (List ℕ)) (l : Live) (job : Job) (link : Client) →
-      coming inner ≡ beginning c cs → inner.begun < 4096 → doing s (c ∷ cs) ≡ opens s' l job →
+      coming inner ≡ beginning c cs → inner.begun < 4096 → doing s inner (c ∷ cs) ≡ opens s' l job →
       slice_get s'.devices l.device ≡ Some link → first_records l.kind l link ≡ None →
       Proceeds (stands n (running s inner outer))
       (command_record inner (shown_words s.table (c ∷ cs)) ∷ open_record l ∷ end_record l (no_route l.server) ∷ conclusion_records (fails (no_route l.server)))

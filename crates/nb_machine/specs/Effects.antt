@@ -1,5 +1,6 @@
 -- What a command comes to: it is over with an outcome, it asks for a file, or for something by one exchange, it goes to a
--- label, it sleeps, or it shuts the device; and what it does to the settings and the device. Its words are expanded first.
+-- label, it sleeps, it shuts the device, or it is a command on images; and what it does to the settings and the device. Its
+-- words are expanded first. What a command on images comes to, depends on the images and its script besides.
 use Rattle.std.specs.Prelude.{ℕ, ◌==◌, Bool, true, false, List, Option, Some, None, Result, Ok, Err, if◌then◌else◌}
 use Rattle.std.specs.Option.{option_map_or}
 use Rattle.std.specs.Str.{bytes_eq}
@@ -19,11 +20,23 @@ use Rattle.nb_command.specs.declared.command_plan.CommandPlan.{CommandPlan}
 use Rattle.nb_command.specs.declared.command_plan.CommandPlan.TheVariants as plan
 use Rattle.nb_command.specs.declared.error.ApplyError.{ApplyError}
 use Rattle.nb_command.specs.declared.error.ApplyError.TheVariants.{False}
-use Rattle.nb_command.specs.declared.error.PlanError.{PlanError}
-use Rattle.nb_command.specs.declared.error.PlanError.TheVariants as plan_error
+use Rattle.nb_imagecmd.specs.declared.error.PlanError.{PlanError}
+use Rattle.nb_imagecmd.specs.declared.error.PlanError.TheVariants as plan_error
+use Rattle.nb_imagecmd.specs.declared.asking.Asking.{Asking}
+use Rattle.nb_imagecmd.specs.declared.commands.ImageCommand.{ImageCommand}
+use Rattle.nb_imagecmd.specs.declared.error.ImageFailure.{ImageFailure}
+use Rattle.nb_imagecmd.specs.declared.error.ImageFailure.TheVariants.{NoScheme}
+use Rattle.nb_imagecmd.specs.declared.outcome.ImageOutcome.{ImageOutcome}
+use Rattle.nb_imagecmd.specs.declared.outcome.ImageOutcome.TheVariants.{Done, Print, Ask, Run, Boot}
+use Rattle.nb_imagecmd.specs.declared.outcome.ScriptImage.{ScriptImage}
+use Rattle.nb_imagecmd.specs.CarryingOut.{image_effect}
+use Rattle.nb_imagecmd.specs.Executing.{ImageAnswer, script_taken}
+use Rattle.nb_imagecmd.specs.Failures.{image_cause}
+use Rattle.nb_image.specs.Images.{ImageList}
+use Rattle.nb_uri.specs.declared.target.UriTarget.{UriTarget}
+use Rattle.nb_uri.specs.declared.target.UriTarget.TheVariants.{Tftp, Http, Iscsi}
 use Rattle.nb_command.specs.Failures.{apply_cause}
-use Rattle.nb_command.specs.declared.locating.Located.{Located}
-use Rattle.nb_command.specs.Locating.{located}
+use Rattle.nb_command.specs.Bases.{base_by}
 use Rattle.nb_command.specs.Applying.{out_of_memory}
 use Rattle.nb_command.specs.Planning.{planned}
 use Rattle.nb_command.specs.Settings.{Change}
@@ -38,7 +51,8 @@ use Rattle.nb_command.specs.Addresses.{address_table}
 use Rattle.nb_uri.specs.Addresses.{four_decimals}
 use Rattle.nb_dns.specs.WrittenNames.{is_lookup_name}
 use Rattle.nb_wire.specs.declared.address.Ip4.{Ip4}
-use Rattle.nb_machine.specs.Errands.{Wanted, remote_file, Errand, fetches_then, echoes_then, Onward, fetches_now, echoes_now, onward}
+use Rattle.nb_machine.specs.Conclusions.{Conclusion, keeps, tells, boots_selected, runs_script}
+use Rattle.nb_machine.specs.Errands.{Wanted, Errand, fetches_then, echoes_then, Onward, fetches_now, echoes_now, onward}
 use Rattle.nb_machine.specs.Queries.{Query, for_lease, for_echo, for_address, for_host, bad_name, no_server, dns_in, with_domain}
 
 -- 16,384 opens were made
@@ -54,6 +68,10 @@ pub data Effect : Type 0 where
   shuts_device : Effect
   -- something is asked for by one exchange
   inquires : Query → Effect
+  -- it is a command on images: `effect_in` says what that comes to
+  on_images : ImageCommand → Effect
+  -- it is one that waits for nothing
+  concludes_at_once : Conclusion → Effect
 
 -- where one more open may be made
 abbrev pub unless_full : ℕ → Effect → Effect
@@ -79,15 +97,6 @@ abbrev pub at_host : ℕ → TableLists → List ℕ → Errand → Effect
 at_host opens table text errand =
     option_map_or (λ address. unless_full opens (onward_effect (onward errand address))) (four_decimals text)
     (named_host opens table errand (with_domain table text))
-
--- a file that was located is asked for
-abbrev pub fetched : ℕ → Bool → TableLists → Result Located ApplyError → Effect
-fetched opens boots table (Ok file) = at_host opens table file.host (fetches_then (remote_file boots file))
-fetched opens boots table (Err why) = says (refused (apply_cause why))
-
--- the file of a URI, of a run in which so many opens were made, by its settings
-abbrev pub fetch : ℕ → Bool → TableLists → List ℕ → Effect
-fetch opens boots table uri = fetched opens boots table (located table uri)
 
 -- a name server is asked, where one is known
 abbrev pub asked_name_server : List ℕ → List ℕ → Option Ip4 → Effect
@@ -145,8 +154,7 @@ plan_effect opens table (plan.Set name value) = says (change_outcome (set_table 
 plan_effect opens table (plan.Clear name) = says (change_outcome (cleared_table name table))
 plan_effect opens table (plan.Show name) = says (text_told (setting_shown name table))
 plan_effect opens table (plan.Inc name by) = says (change_outcome (increased_table name by table))
-plan_effect opens table (plan.Fetch uri) = fetch opens false table uri
-plan_effect opens table (plan.Exec uri) = fetch opens true table uri
+plan_effect opens table (plan.Images command) = on_images command
 plan_effect opens table (plan.Ifopen device) = device_effect (says (refused ok)) (device_change device true)
 plan_effect opens table (plan.Ifclose device) = device_effect shuts_device (device_change device false)
 plan_effect opens table (plan.Dhcp device) = device_effect (unless_full opens (inquires for_lease)) (device_change device true)
@@ -170,8 +178,7 @@ plan_table (plan.Exit n) table = table
 plan_table (plan.Isset word) table = table
 plan_table (plan.Iseq a b) table = table
 plan_table (plan.Show name) table = table
-plan_table (plan.Fetch uri) table = table
-plan_table (plan.Exec uri) table = table
+plan_table (plan.Images command) table = table
 plan_table (plan.Ifopen device) table = table
 plan_table (plan.Ifclose device) table = table
 plan_table (plan.Dhcp device) table = table
@@ -200,8 +207,7 @@ plan_up (plan.Set name value) up = up
 plan_up (plan.Clear name) up = up
 plan_up (plan.Show name) up = up
 plan_up (plan.Inc name by) up = up
-plan_up (plan.Fetch uri) up = up
-plan_up (plan.Exec uri) up = up
+plan_up (plan.Images command) up = up
 plan_up (plan.Sleep seconds) up = up
 
 -- why words are no command
@@ -257,6 +263,60 @@ expanded_up up (Err why) = up
 -- what a command comes to, by its words as the script has them
 unfoldable pub effect : ℕ → TableLists → List (List ℕ) → Effect
 effect opens table ws = expanded_effect opens table (expansion table ws)
+
+-- what a command on images finds: how many opens were made, the settings, the images, and its script's URI and depth
+pub record Surroundings : Type 0 where
+  pub opens : ℕ
+  pub table : TableLists
+  pub images : ImageList
+  pub base : Option (List ℕ)
+  pub depth : ℕ
+
+-- a command on images fails
+abbrev pub fails_for : ImageFailure → Effect
+fails_for why = says (refused (image_cause why))
+
+-- a file is asked for: of all servers only those of TFTP are asked yet
+abbrev pub asked_effect : UriTarget → Surroundings → Asking → Effect
+asked_effect (Tftp host port path whole) x asking = at_host x.opens x.table host (fetches_then asking)
+asked_effect (Http host port path whole) x asking = fails_for NoScheme
+asked_effect (Iscsi host port lun name whole) x asking = fails_for NoScheme
+
+-- a script leaves the list to run, unless too many are within one another
+abbrev pub taken_effect : Bool → Result (ScriptImage × ImageList) ImageFailure → Effect
+taken_effect replace (Ok taken) = concludes_at_once (runs_script taken.1 taken.0 replace)
+taken_effect replace (Err why) = fails_for why
+
+-- what a command on images comes to that has this outcome and leaves this list
+abbrev pub image_outcome_effect : Surroundings → ImageOutcome → ImageList → Effect
+image_outcome_effect x Done list = concludes_at_once (keeps list)
+image_outcome_effect x (Print lines) list = concludes_at_once (tells list lines)
+image_outcome_effect x (Ask asking) list = asked_effect asking.target x asking
+image_outcome_effect x (Run image replace) list = taken_effect replace (script_taken image replace x.depth list)
+image_outcome_effect x Boot list = concludes_at_once (boots_selected list)
+
+abbrev pub image_answer_effect : Surroundings → ImageAnswer → Effect
+image_answer_effect x (Ok answer) = image_outcome_effect x answer.0 answer.1
+image_answer_effect x (Err why) = fails_for why
+
+-- what a command on images comes to
+abbrev pub images_effect : Surroundings → ImageCommand → Effect
+images_effect x command = image_answer_effect x (image_effect command (base_by x.base x.table) x.images)
+
+-- each command's effect, of those on images by what they find
+abbrev pub settled_effect : Surroundings → Effect → Effect
+settled_effect x (on_images command) = images_effect x command
+settled_effect x (says o) = says o
+settled_effect x (asks wanted) = asks wanted
+settled_effect x (goes name) = goes name
+settled_effect x (sleeps seconds) = sleeps seconds
+settled_effect x shuts_device = shuts_device
+settled_effect x (inquires q) = inquires q
+settled_effect x (concludes_at_once c) = concludes_at_once c
+
+-- what a command comes to by what it finds and its words as the script has them
+unfoldable pub effect_in : Surroundings → List (List ℕ) → Effect
+effect_in x ws = settled_effect x (effect x.opens x.table ws)
 
 -- the settings that it leaves
 unfoldable pub table_after : TableLists → List (List ℕ) → TableLists

@@ -1,11 +1,16 @@
--- A script that runs, by its lines and the commands of their lists: what it comes to next. No word of records used.
-use Rattle.std.specs.Prelude.{◌≡◌, ℕ, ◌+◌, Bool, true, not, List, [], ◌∷◌, Option, Some, None, slice_get, drop, if◌then◌else◌}
+-- A script that runs, by its lines and the commands of their lists: what it comes to next. And scripts within one another:
+-- how one begins within another or in its place, and how one goes on when the one within it is left. No word of records used.
+use Rattle.std.specs.Prelude.{◌≡◌, ◌≤◌, ℕ, ◌+◌, Bool, true, not, List, [], ◌∷◌, Option, Some, None, slice_get, length, drop, if◌then◌else◌}
 use Rattle.nb_terms.specs.declared.cause.Cause.{Cause}
 use Rattle.nb_defs.specs.Causes.{ok, is_ok_cause}
+use Rattle.nb_scripts.specs.Levels.{ScriptLevel, kept_result}
 use Rattle.nb_defs.specs.ScriptLines.{Line, label, list, empty, Join, first_join, and_join, or_join, then_join, Item, items}
 
 pub record Running : Type 0 where
+  -- how many scripts are within one another, with this one
   pub depth : ℕ
+  -- the URI that it was fetched from; the first script has none
+  pub base : Option (List ℕ)
   -- its lines as numbered
   pub code : List Line
   -- how many of them were passed, with the one whose list is under way
@@ -20,7 +25,7 @@ pub record Running : Type 0 where
 
 -- the first script, before its first line, which is a comment
 abbrev pub first_script : List Line → Running
-first_script code = record { depth = 1; code = code; passed = 0; rest = []; place = 0; last = ok; begun = 0 }
+first_script code = record { depth = 1; base = None; code = code; passed = 0; rest = []; place = 0; last = ok; begun = 0 }
 
 -- a line further, with the commands of its list
 abbrev pub onto_line : Running → List Item → Running
@@ -33,10 +38,6 @@ behind_lines s line = record s { passed = line }
 -- a command further
 abbrev pub behind_command : Running → Running
 behind_command s = record s { rest = drop 1 s.rest; place = s.place + 1 }
-
--- a result, as a script keeps it: a success has no numbers
-abbrev pub kept_result : Cause → Cause
-kept_result cause = if is_ok_cause cause then ok else cause
 
 abbrev pub with_result : Running → Cause → Running
 with_result s cause = record s { last = kept_result cause }
@@ -56,6 +57,32 @@ behind_line s line = record s { passed = line + 1; rest = []; place = 0; last = 
 -- a step begins
 abbrev pub anew : Running → Running
 anew s = record s { begun = 0 }
+
+-- a script that was fetched from this URI, before its first line, within another; it counts on
+abbrev pub script_within : Running → List ℕ → List Line → Running
+script_within s uri code = record { depth = s.depth + 1; base = Some uri; code = code; passed = 0; rest = []; place = 0; last = ok; begun = s.begun }
+
+-- and in its place
+abbrev pub script_in_place : Running → List ℕ → List Line → Running
+script_in_place s uri code = record { depth = s.depth; base = Some uri; code = code; passed = 0; rest = []; place = 0; last = ok; begun = s.begun }
+
+-- the scripts outside one that is left: the first of them counts on
+abbrev pub counting_on : Running → List Running → List Running
+counting_on gone [] = []
+counting_on gone (s ∷ outer) = record s { begun = gone.begun } ∷ outer
+
+-- each script's depth is how many there are from it outwards
+abbrev pub HaveDepths : List Running → Type 0
+HaveDepths [] = Unit {0}
+HaveDepths (s ∷ outer) = (s.depth ≡ length outer + 1) × HaveDepths outer
+
+-- and there are at most eight
+abbrev pub AreNested : List Running → Type 0
+AreNested scripts = HaveDepths scripts × (length scripts ≤ 8)
+
+-- a script that runs, as one of scripts within one another
+abbrev pub level_of_running : Running → ScriptLevel
+level_of_running s = record { code = s.code; base = s.base; progress = record { passed = s.passed; rest = s.rest; place = s.place }; last = s.last }
 
 -- a list has more than 64 words or more than 64 joins
 abbrev pub too_many_words : Cause

@@ -7,12 +7,12 @@ use Rattle.nb_defs.specs.Causes.{is_ok_cause}
 use Rattle.nb_defs.specs.Commands.{CommandOutcome}
 use Rattle.nb_defs.specs.Records.{In, Out, result}
 use Rattle.nb_stack.specs.Client.{Client}
-use Rattle.nb_image.specs.Images.{image_of}
+use Rattle.nb_imagecmd.specs.Asking.{target_port, target_path}
 use Rattle.nb_settings.specs.Tables.{TableLists}
 use Rattle.nb_command.specs.Settings.{Change}
 use Rattle.nb_command.specs.Addresses.{address_table}
 use Rattle.nb_machine.specs.Errands.{Wanted, Errand, Onward, fetches_now, echoes_now, onward}
-use Rattle.nb_machine.specs.Effects.{Effect, says, asks, goes, sleeps, shuts_device, inquires, effect, table_after, up_after}
+use Rattle.nb_machine.specs.Effects.{Effect, says, asks, goes, sleeps, shuts_device, inquires, on_images, concludes_at_once, Surroundings, effect_in, table_after, up_after}
 use Rattle.nb_machine.specs.Queries.{Query, for_lease, for_echo, for_host, for_address}
 use Rattle.nb_machine.specs.Findings.{asker_at, query_id, lease_change, Settled, settled_by}
 use Rattle.nb_machine.specs.Conclusions.{Conclusion, keeps, conclusion, conclusion_records}
@@ -25,7 +25,7 @@ use Rattle.nb_machine.specs.Takings.{Over}
 
 -- what a command does once what it waits for has come
 pub data Job : Type 0 where
-  -- the file becomes an image, or is booted
+  -- the file becomes an image, is booted, or runs
   fetch : Wanted → Job
   -- the acknowledgement's settings are put
   takes_lease : Job
@@ -39,13 +39,15 @@ pub data Job : Type 0 where
   sleep : Job
 
 -- what a command comes to: it is over at once and leaves this state, it opens something in this state and waits for it, it goes to a
--- label, it waits for this time, or it sets the device down, closes all that lives and leaves this state
+-- label, it waits for this time, it sets the device down, closes all that lives and leaves this state, or it is one on images,
+-- of which this comes at once
 pub data Doing : Type 0 where
   ends : CommandOutcome → State → Doing
   opens : State → Live → Job → Doing
   goes_to : (name : List ℕ) → Doing
   waits_until : (time : ℕ) → Doing
   shuts : State → Doing
+  concludes_now : Conclusion → Doing
 
 -- the next open, on a device, for a file: from the client's next port to the file's port of the server
 abbrev pub transfer_for : State → Wanted → Live
@@ -53,10 +55,10 @@ transfer_for s wanted = record {
   number = s.opens;
   kind = tftp;
   device = net0;
-  server = wanted.target.server;
-  port = wanted.target.port;
+  server = wanted.server;
+  port = target_port wanted.asking.target;
   own = own_port s.w s.opens;
-  target = wanted.target.path;
+  target = target_path wanted.asking.target;
   since = s.now;
   exchanges = [];
 }
@@ -138,10 +140,17 @@ doing_by s table up (asks wanted) = opens s (transfer_for s wanted) (fetch wante
 doing_by s table up (inquires q) = opens (with_settings s table up) (live_for (with_settings s table up) q) (job_for q)
 doing_by s table up (goes name) = goes_to name
 doing_by s table up (sleeps seconds) = waits_until (s.now + 1000 * seconds)
+doing_by s table up (concludes_at_once c) = concludes_now c
+-- `effect_in` has settled what such a command comes to
+doing_by s table up (on_images command) = concludes_now (keeps s.images)
+
+-- what a command of this script finds
+abbrev pub surroundings : State → Running → Surroundings
+surroundings s inner = record { opens = s.opens; table = s.table; images = s.images; base = inner.base; depth = inner.depth }
 
 -- by its words, as the script has them, and the state
-abbrev pub doing : State → List (List ℕ) → Doing
-doing s words = doing_by s (table_after s.table words) (up_after s.table s.up words) (effect s.opens s.table words)
+abbrev pub doing : State → Running → List (List ℕ) → Doing
+doing s inner words = doing_by s (table_after s.table words) (up_after s.table s.up words) (effect_in (surroundings s inner) words)
 
 -- what a command waits for: the answer of the open of this number, or a time
 pub data Awaited : Type 0 where
@@ -199,14 +208,13 @@ resolved_change setting l table = option_map_or (λ address. address_table setti
 abbrev pub next_of : Errand → Over → Option Onward
 next_of errand o = if is_ok_cause o.cause then option_map (λ address. onward errand address.0) (resolved o.live) else None
 
--- What a job comes to by its answer, in this state. A command that waits for a time goes on with its images; one that
--- waits for an open gets no time for an answer.
-abbrev pub concluded_by : State → Job → Answer → Upshot
-concluded_by s (fetch wanted) (by_end o) =
-    concludes (conclusion o.cause wanted.boots (image_of wanted.target.name (fetched o.live) [] wanted.uri) s.images)
-concluded_by s takes_lease (by_end o) = settles (settled_with o.cause (leased_change o.live s.table) s.table)
-concluded_by s hears_echo (by_end o) = settles (settled_with o.cause (Ok s.table) s.table)
-concluded_by s (keeps_address setting) (by_end o) = settles (settled_with o.cause (resolved_change setting o.live s.table) s.table)
-concluded_by s (asks_on errand) (by_end o) = option_map_or goes_onward (next_of errand o) (settles (settled_with o.cause (Ok s.table) s.table))
-concluded_by s sleep (by_end o) = concludes (keeps s.images)
-concluded_by s job by_time = concludes (keeps s.images)
+-- What a job comes to by its answer, in this state and within so many scripts. A command that waits for a time goes on with
+-- its images; one that waits for an open gets no time for an answer.
+abbrev pub concluded_by : State → ℕ → Job → Answer → Upshot
+concluded_by s depth (fetch wanted) (by_end o) = concludes (conclusion o.cause wanted.asking (fetched o.live) depth s.images)
+concluded_by s depth takes_lease (by_end o) = settles (settled_with o.cause (leased_change o.live s.table) s.table)
+concluded_by s depth hears_echo (by_end o) = settles (settled_with o.cause (Ok s.table) s.table)
+concluded_by s depth (keeps_address setting) (by_end o) = settles (settled_with o.cause (resolved_change setting o.live s.table) s.table)
+concluded_by s depth (asks_on errand) (by_end o) = option_map_or goes_onward (next_of errand o) (settles (settled_with o.cause (Ok s.table) s.table))
+concluded_by s depth sleep (by_end o) = concludes (keeps s.images)
+concluded_by s depth job by_time = concludes (keeps s.images)

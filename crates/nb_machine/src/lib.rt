@@ -1,10 +1,8 @@
-// The machine that a run of netboot is: a state, the opens that live, a network that acts on them, and scripts whose
-// commands wait for what they bring; definitions, and the two structs that they and the engine share. Begin with
-// specs/Courses.antt, then specs/Kinds.antt for what a kind of open is.
+// The machine that a run of netboot is: a state, the opens that live, a network that acts on them, and scripts within
+// one another whose commands wait for what they bring; definitions, and the struct that they and the engine share. Begin
+// with specs/Courses.antt, then specs/Kinds.antt for what a kind of open is.
 #![tactic(auto)]
 
 mod identity;
-mod remote_file;
 
 pub use identity::Identity;
-pub use remote_file::RemoteFile;

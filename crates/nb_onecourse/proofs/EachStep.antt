@@ -1,18 +1,19 @@
 -- A record begins one step.
-use Rattle.std.proofs.Common.{◌≡◌, ℕ, ◌+◌, List, [], ◌∷◌, ◌++◌, Option, Some, None, refl, sym, ◌∙◌, ap, subst}
+use Rattle.std.proofs.Common.{◌≡◌, ℕ, ◌+◌, Bool, true, false, List, [], ◌∷◌, ◌++◌, Option, Some, None, refl, sym, ◌∙◌, ap, subst}
 use Rattle.nb_terms.specs.declared.cause.Cause.{Cause}
 use Rattle.nb_defs.specs.Records.{Start, In, start, off, Out, step, enter, leave}
 use Rattle.nb_defs.specs.ScriptLines.{Line, Reading, script}
-use Rattle.nb_machine.specs.Conclusions.{Conclusion, keeps, fails, boots}
+use Rattle.nb_machine.specs.Conclusions.{Conclusion, keeps, tells, fails, boots, runs_script}
+use Rattle.nb_imagecmd.specs.declared.outcome.ScriptImage.{ScriptImage}
 use Rattle.nb_machine.specs.FirstText.{first_reading, text_refusal}
 use Rattle.nb_machine.specs.Running.{Running, first_script, anew}
 use Rattle.nb_machine.specs.CommandRecords.{stopped_cause}
 use Rattle.nb_machine.specs.Lives.{close}
-use Rattle.nb_machine.specs.States.{State, state_at_start, with_live}
+use Rattle.nb_machine.specs.States.{State, state_at_start, with_images, with_live}
 use Rattle.nb_machine.specs.Takings.{Over, AllTake}
 use Rattle.nb_machine.specs.Network.{Network}
 use Rattle.nb_machine.specs.Scripts.{Waiting, waiting_anew, Answer, answer_in, Upshot, concludes, settles, goes_onward, upshot_records, concluded_by}
-use Rattle.nb_machine.specs.Courses.{Standing, ready, running, waiting, reaching, yielded, handing, left, handed_off, stopped, Progress, stands, ConclusionLeads, LeadsTo, StepBegins, runs, refuses, waits_on, is_answered, switches_off, resumes, goes_off}
+use Rattle.nb_machine.specs.Courses.{Standing, ready, running, waiting, reaching, yielded, handing, left, handed_off, stopped, Progress, stands, ScriptLeads, ConclusionLeads, LeadsTo, StepBegins, runs, refuses, waits_on, is_answered, switches_off, resumes, goes_off}
 use Rattle.nb_onecourse.specs.Answers.{AreUnended, StandsUnended}
 use Rattle.nb_onecourse.proofs.EachTakes.{all_take_one}
 use Rattle.nb_onecourse.proofs.EachRecord.{network_one, network_not_off, network_unended}
@@ -27,8 +28,8 @@ data AtFirst (n : ℕ) (r : In) (a : List Out) (m : Progress) : Type 0 where
 -- what comes of an answer, or of none
 data Answered (n : ℕ) (s : State) (w : Waiting) (put : List Out) (a : List Out) (m : Progress) : Option Answer → Type 0 where
   with_none : a ≡ step (n + 1) ∷ put → m ≡ stands (n + 1) (waiting s (waiting_anew w)) → Answered n s w put a m None
-  with_it : (x : Answer) (more : List Out) (p : Standing) → LeadsTo s (anew w.script) w.outer (concluded_by s w.job x) more p →
-      a ≡ step (n + 1) ∷ put ++ upshot_records (concluded_by s w.job x) ++ more → m ≡ stands (n + 1) p → Answered n s w put a m (Some x)
+  with_it : (x : Answer) (more : List Out) (p : Standing) → LeadsTo s (anew w.script) w.outer (concluded_by s w.script.depth w.job x) more p →
+      a ≡ step (n + 1) ∷ put ++ upshot_records (concluded_by s w.script.depth w.job x) ++ more → m ≡ stands (n + 1) p → Answered n s w put a m (Some x)
 
 -- one where a command waits
 data AtWaiting (n : ℕ) (s : State) (w : Waiting) (r : In) (a : List Out) (m : Progress) : Type 0 where
@@ -107,8 +108,14 @@ record SameLead (put put' : List Out) (p p' : Standing) : Type 0 where
   records : put ≡ put'
   standing : p ≡ p'
 
+script_one : (s : State) (inner : Running) (outer : List Running) (image : ScriptImage) (replaces : Bool) (put put' : List Out) (p p' : Standing) → ScriptLeads s inner outer image replaces put p → ScriptLeads s inner outer image replaces put' p' → SameLead put put' p p'
+script_one s inner outer image false put put' p p' h g = record { records = h.0 ∙ sym g.0; standing = h.1 ∙ sym g.1 }
+script_one s inner outer image true put put' p p' h g = record { records = h.0 ∙ sym g.0; standing = h.1 ∙ sym g.1 }
+
 conclusion_one : (s : State) (inner : Running) (outer : List Running) (c : Conclusion) (put put' : List Out) (p p' : Standing) → AreUnended s.live → ConclusionLeads s inner outer c put p → ConclusionLeads s inner outer c put' p' → SameLead put put' p p'
 conclusion_one s inner outer (keeps list) put put' p p' u h g = record { records = h.0 ∙ sym g.0; standing = h.1 ∙ sym g.1 }
+conclusion_one s inner outer (tells list lines) put put' p p' u h g = record { records = h.0 ∙ sym g.0; standing = h.1 ∙ sym g.1 }
+conclusion_one s inner outer (runs_script list image replaces) put put' p p' u h g = script_one (with_images s list) inner outer image replaces put put' p p' h g
 conclusion_one s inner outer (fails cause) put put' p p' u h g = record { records = h.0 ∙ sym g.0; standing = h.1 ∙ sym g.1 }
 conclusion_one s inner outer (boots list kernel) put put' p p' u (over, all, h) (over', all', g) =
     record { records = (all_take_one s.devices (close stopped_cause) s.live put put' [] [] over over' u all all').records; standing = h ∙ sym g }
@@ -121,8 +128,8 @@ lead_one s inner outer (goes_onward next) put put' p p' u h g = record { records
 answered_one : (n : ℕ) (s : State) (w : Waiting) (put a b : List Out) (m m' : Progress) (x : Option Answer) → AreUnended s.live → Answered n s w put a m x → Answered n s w put b m' x → SameMove a b m m'
 answered_one n s w put a b m m' x u (with_none ea em) (with_none eb en) = record { records = ea ∙ sym eb; places = em ∙ sym en }
 answered_one n s w put a b m m' x u (with_it y more p leads ea em) (with_it y' more' p' leads' eb en) =
-    let k = lead_one s (anew w.script) w.outer (concluded_by s w.job y) more more' p p' u leads leads' in
-    record { records = ea ∙ ap (λ z. step (n + 1) ∷ put ++ upshot_records (concluded_by s w.job y) ++ z) k.records ∙ sym eb; places = em ∙ ap (stands (n + 1)) k.standing ∙ sym en }
+    let k = lead_one s (anew w.script) w.outer (concluded_by s w.script.depth w.job y) more more' p p' u leads leads' in
+    record { records = ea ∙ ap (λ z. step (n + 1) ∷ put ++ upshot_records (concluded_by s w.script.depth w.job y) ++ z) k.records ∙ sym eb; places = em ∙ ap (stands (n + 1)) k.standing ∙ sym en }
 
 waiting_one : (n : ℕ) (s : State) (w : Waiting) (r : In) (a b : List Out) (m m' : Progress) → AreUnended s.live → AtWaiting n s w r a m → AtWaiting n s w r b m' → SameMove a b m m'
 waiting_one n s w r a b m m' u (by_network s1 put over acts x) (by_off put' over' is all eb en) = absurd (network_not_off s (n + 1) r put s1 over acts is)

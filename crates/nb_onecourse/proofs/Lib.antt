@@ -12,3 +12,5 @@ pub mod OneNext
 pub mod EachStep
 pub mod OneCourse
 pub mod EachClosing
+pub mod EntryDepths
+pub mod Nesting

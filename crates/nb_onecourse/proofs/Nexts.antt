@@ -1,31 +1,36 @@
 -- What a run does next, as a function; where it has come to rest, nothing.
-use Rattle.std.proofs.Common.{◌≡◌, ℕ, ◌==◌, Bool, true, false, List, [], ◌∷◌, ◌++◌, Option, Some, None, refl}
+use Rattle.std.proofs.Common.{◌≡◌, ℕ, ◌+◌, ◌==◌, Bool, true, false, List, [], ◌∷◌, ◌++◌, Option, Some, None, refl}
 use Rattle.std.specs.Prelude.{slice_get}
 use Rattle.nb_defs.specs.Causes.{ok}
 use Rattle.nb_defs.specs.Commands.{CommandOutcome, refused}
-use Rattle.nb_defs.specs.Records.{Out, leave, result}
-use Rattle.nb_defs.specs.ScriptLines.{label_place}
+use Rattle.nb_defs.specs.Records.{Out, enter, leave, result}
+use Rattle.nb_defs.specs.ScriptLines.{script_reading, label_place}
+use Rattle.nb_imagecmd.specs.declared.outcome.ScriptImage.{ScriptImage}
+use Rattle.nb_scripts.specs.Records.{replace}
+use Rattle.nb_machine.specs.FirstText.{text_refusal, lines_of}
 use Rattle.nb_stack.specs.Client.{Client}
-use Rattle.nb_machine.specs.Conclusions.{fails, conclusion_records}
+use Rattle.nb_machine.specs.Conclusions.{Conclusion, keeps, tells, fails, boots, runs_script, conclusion_records, handoff_records}
 use Rattle.nb_machine.specs.Effects.{shown_words, full_opens}
 use Rattle.nb_machine.specs.Errands.{Onward}
-use Rattle.nb_machine.specs.Running.{Running, Coming, coming, passing, leaving, beginning, entered, further, behind_line, with_result, no_label}
+use Rattle.nb_machine.specs.Running.{Running, Coming, coming, passing, leaving, beginning, entered, further, behind_line, with_result, script_within, script_in_place, counting_on, no_label}
 use Rattle.nb_machine.specs.CommandRecords.{command_record, command_records, no_route}
 use Rattle.nb_machine.specs.Lives.{Live, open_record, end_record}
 use Rattle.nb_machine.specs.Kinds.{first_records}
-use Rattle.nb_machine.specs.States.{State, with_live, with_opened, with_one_made}
-use Rattle.nb_machine.specs.Scripts.{Job, sleep, Doing, ends, opens, goes_to, waits_until, shuts, doing, live_onward, job_onward, answer, moment}
-use Rattle.nb_machine.specs.Courses.{Standing, ready, running, waiting, reaching, yielded, handing, left, handed_off, stopped}
+use Rattle.nb_machine.specs.States.{State, with_images, with_live, with_opened, with_one_made}
+use Rattle.nb_machine.specs.Scripts.{Job, sleep, Doing, ends, opens, goes_to, waits_until, shuts, concludes_now, doing, live_onward, job_onward, answer, moment}
+use Rattle.nb_machine.specs.Courses.{text_records, text_standing, Standing, ready, running, waiting, reaching, yielded, handing, left, handed_off, stopped}
 use Rattle.nb_onecourse.specs.Rests.{HasComeToRest}
 
--- what is next: nothing; these records, and then this standing; or, after this record, all that lives in this state is closed
+-- what is next: nothing; these records, and then this standing; or all that lives in this state is closed, after this record,
+-- or after these ones before a hand-off
 pub data Next : Type 0 where
   still : Next
   puts : List Out → Standing → Next
   shuts_all : Out → State → Standing → Next
+  closes_all : List Out → State → Standing → Next
 
 abbrev pub next_ended : State → Running → List Running → List (List ℕ) → CommandOutcome → State → Bool → Next
-next_ended s inner outer ws o s' true = puts (command_records inner (shown_words s.table ws) o ++ (leave inner.depth o.cause ∷ [])) (left s' outer o.cause)
+next_ended s inner outer ws o s' true = puts (command_records inner (shown_words s.table ws) o ++ (leave inner.depth o.cause ∷ [])) (left s' (counting_on (entered inner) outer) o.cause)
 next_ended s inner outer ws o s' false = puts (command_records inner (shown_words s.table ws) o) (running s' (further inner o.cause) outer)
 
 abbrev pub next_route : State → Running → List Running → List (List ℕ) → State → Live → Job → Option (List Out) → Next
@@ -42,21 +47,40 @@ abbrev pub next_label : State → Running → List Running → List (List ℕ) �
 next_label s inner outer ws (Some line) = puts (command_records inner (shown_words s.table ws) (refused ok)) (running s (behind_line inner line) outer)
 next_label s inner outer ws None = puts (command_records inner (shown_words s.table ws) (refused no_label)) (running s (further inner no_label) outer)
 
+-- a script runs within the one that runs, or in its place
+abbrev pub next_script : State → Running → List Running → List Out → ScriptImage → Bool → Next
+next_script s inner outer before image false =
+    puts (before ++ text_records (inner.depth + 1) (enter (inner.depth + 1)) (text_refusal (script_reading image.text)))
+    (text_standing s (script_within inner image.uri (lines_of (script_reading image.text))) (inner ∷ outer) (text_refusal (script_reading image.text)))
+next_script s inner outer before image true =
+    puts (before ++ text_records inner.depth (replace inner.depth) (text_refusal (script_reading image.text)))
+    (text_standing s (script_in_place inner image.uri (lines_of (script_reading image.text))) outer (text_refusal (script_reading image.text)))
+
+-- what a command comes to that waits for nothing
+abbrev pub next_concluded : State → Running → List Running → Out → Conclusion → Next
+next_concluded s inner outer first (keeps list) = puts (first ∷ conclusion_records (keeps list) ++ []) (running (with_images s list) (with_result inner ok) outer)
+next_concluded s inner outer first (tells list lines) = puts (first ∷ conclusion_records (tells list lines) ++ []) (running (with_images s list) (with_result inner ok) outer)
+next_concluded s inner outer first (fails cause) = puts (first ∷ conclusion_records (fails cause) ++ []) (running s (with_result inner cause) outer)
+next_concluded s inner outer first (boots list kernel) = closes_all (first ∷ conclusion_records (boots list kernel)) s (handing (with_live (with_images s list) []) (handoff_records kernel list.images))
+next_concluded s inner outer first (runs_script list image replaces) =
+    next_script (with_images s list) inner outer (first ∷ conclusion_records (runs_script list image replaces)) image replaces
+
 abbrev pub next_doing : State → Running → List Running → List (List ℕ) → Doing → Next
 next_doing s inner outer ws (ends o s') = next_ended s inner outer ws o s' o.leaves
 next_doing s inner outer ws (opens s' l job) = next_opened s inner outer ws s' l job (slice_get s'.devices l.device)
 next_doing s inner outer ws (goes_to name) = next_label s inner outer ws (label_place name inner.code)
 next_doing s inner outer ws (waits_until time) =
     puts (command_record inner (shown_words s.table ws) ∷ []) (waiting s (record { script = entered inner; outer = outer; awaited = moment time; job = sleep }))
+next_doing s inner outer ws (concludes_now x) = next_concluded s (entered inner) outer (command_record inner (shown_words s.table ws)) x
 next_doing s inner outer ws (shuts s') = shuts_all (command_record inner (shown_words s.table ws)) s' (running (with_live s' []) (further inner ok) outer)
 
 abbrev pub next_begun : State → Running → List Running → List (List ℕ) → Bool → Next
 next_begun s inner outer ws true = puts [] (yielded s inner outer)
-next_begun s inner outer ws false = next_doing s inner outer ws (doing s ws)
+next_begun s inner outer ws false = next_doing s inner outer ws (doing s inner ws)
 
 abbrev pub next_coming : State → Running → List Running → Coming → Next
 next_coming s inner outer (passing next) = puts [] (running s next outer)
-next_coming s inner outer (leaving cause) = puts (leave inner.depth cause ∷ []) (left s outer cause)
+next_coming s inner outer (leaving cause) = puts (leave inner.depth cause ∷ []) (left s (counting_on inner outer) cause)
 next_coming s inner outer (beginning c cs) = next_begun s inner outer (c ∷ cs) (inner.begun == 4096)
 
 abbrev pub next_way : State → Running → List Running → Onward → Option (List Out) → Next
@@ -85,7 +109,8 @@ what_next (waiting s w) = still
 what_next (reaching s inner outer next) = next_onward s inner outer next (s.opens == 16384)
 what_next (yielded s inner outer) = still
 what_next (handing s rest) = next_handed s rest
-what_next (left s outer cause) = still
+what_next (left s [] cause) = still
+what_next (left s (inner ∷ outer) cause) = puts (result cause ∷ []) (running s (with_result inner cause) outer)
 what_next (handed_off s) = still
 what_next (stopped s) = still
 
@@ -97,6 +122,7 @@ rest_still (waiting s w) h = refl
 rest_still (reaching s inner outer next) h = absurd h
 rest_still (yielded s inner outer) h = refl
 rest_still (handing s rest) h = absurd h
-rest_still (left s outer cause) h = refl
+rest_still (left s [] cause) h = refl
+rest_still (left s (inner ∷ outer) cause) h = absurd h
 rest_still (handed_off s) h = refl
 rest_still (stopped s) h = refl

@@ -6,22 +6,27 @@ use Rattle.nb_defs.specs.Records.{Out, result}
 use Rattle.nb_defs.specs.ScriptLines.{label_place}
 use Rattle.nb_stack.specs.Client.{Client}
 use Rattle.nb_machine.specs.Errands.{Onward}
-use Rattle.nb_machine.specs.Running.{Running, Coming, coming, passing, leaving, beginning}
+use Rattle.nb_machine.specs.Running.{Running, Coming, coming, passing, leaving, beginning, entered}
+use Rattle.nb_machine.specs.Conclusions.{Conclusion, keeps, tells, fails, boots, runs_script, conclusion_records}
+use Rattle.nb_machine.specs.CommandRecords.{command_record, stopped_cause}
+use Rattle.nb_machine.specs.Effects.{shown_words}
+use Rattle.nb_imagecmd.specs.declared.outcome.ScriptImage.{ScriptImage}
 use Rattle.nb_machine.specs.Lives.{close}
 use Rattle.nb_machine.specs.Kinds.{first_records}
-use Rattle.nb_machine.specs.States.{State}
+use Rattle.nb_machine.specs.States.{State, with_images}
 use Rattle.nb_machine.specs.Takings.{Over, AllTake}
-use Rattle.nb_machine.specs.Scripts.{Doing, ends, opens, goes_to, waits_until, shuts, doing, live_onward}
-use Rattle.nb_machine.specs.Courses.{down_cause, Standing, ready, running, waiting, reaching, yielded, handing, left, handed_off, stopped, Progress, stands, Proceeds, passes, is_left, yields, does, closes_device, leaves, jumps, finds_no_label, falls_asleep, opens_one, finds_no_route, opens_onward, finds_no_way, opens_no_more, hands, has_handed}
+use Rattle.nb_machine.specs.Scripts.{Doing, ends, opens, goes_to, waits_until, shuts, concludes_now, doing, live_onward}
+use Rattle.nb_machine.specs.Courses.{down_cause, ScriptLeads, ConclusionLeads, Standing, ready, running, waiting, reaching, yielded, handing, left, handed_off, stopped, Progress, stands, Proceeds, passes, is_left, hands_back, yields, does, closes_device, concludes_there, leaves, jumps, finds_no_label, falls_asleep, opens_one, finds_no_route, opens_onward, finds_no_way, opens_no_more, hands, has_handed}
 use Rattle.nb_onecourse.specs.Answers.{AreUnended, StandsUnended}
 use Rattle.nb_onecourse.proofs.EachTakes.{all_take_one}
 use Rattle.nb_onecourse.proofs.Unended.{doing_leaves}
-use Rattle.nb_onecourse.proofs.Nexts.{Next, still, puts, shuts_all, next_ended, next_route, next_opened, next_label, next_doing, next_begun, next_coming, next_way, next_link, next_onward, next_handed, what_next}
+use Rattle.nb_onecourse.proofs.Nexts.{Next, still, puts, shuts_all, closes_all, next_script, next_concluded, next_ended, next_route, next_opened, next_label, next_doing, next_begun, next_coming, next_way, next_link, next_onward, next_handed, what_next}
 
 -- these records and this place are what is next
 abbrev Is : Next → ℕ → List Out → Progress → Type 0
 Is still n a m = ⊥
 Is (puts put p) n a m = (a ≡ put) × (m ≡ stands n p)
+Is (closes_all before s p) n a m = (put : List Out) × (over : List Over) × AllTake s.devices (close stopped_cause) s.live put [] over × (a ≡ before ++ put) × (m ≡ stands n p)
 Is (shuts_all first s p) n a m = (put : List Out) × (over : List Over) × AllTake s.devices (close down_cause) s.live put [] over × (a ≡ first ∷ put ++ (result ok ∷ [])) × (m ≡ stands n p)
 
 is_full : (n : ℕ) → n ≡ 4096 → (n == 4096) ≡ true
@@ -34,7 +39,7 @@ not_all : (n : ℕ) → n < 16384 → (n == 16384) ≡ false
 not_all n h = ne_eqb n 16384 (λ e. omega (arith, h, e))
 
 -- a command that begins
-begun : (s : State) (inner : Running) (outer : List Running) (c : List ℕ) (cs : List (List ℕ)) (d : Doing) → coming inner ≡ beginning c cs → inner.begun < 4096 → doing s (c ∷ cs) ≡ d →
+begun : (s : State) (inner : Running) (outer : List Running) (c : List ℕ) (cs : List (List ℕ)) (d : Doing) → coming inner ≡ beginning c cs → inner.begun < 4096 → doing s inner (c ∷ cs) ≡ d →
     next_coming s inner outer (coming inner) ≡ next_doing s inner outer (c ∷ cs) d
 begun s inner outer c cs d h early e =
     ap (next_coming s inner outer) h ∙ ap (next_begun s inner outer (c ∷ cs)) (not_full inner.begun early) ∙ ap (next_doing s inner outer (c ∷ cs)) e
@@ -42,6 +47,21 @@ begun s inner outer c cs d h early e =
 -- what is next by another name
 named : (x y : Next) (n : ℕ) (a : List Out) (m : Progress) → x ≡ y → Is y n a m → Is x n a m
 named x y n a m e h = subst (λ z. Is z n a m) (sym e) h
+
+-- where a script runs, and where a command leads that waits for nothing
+script_leads_next : (s : State) (inner : Running) (outer : List Running) (before : List Out) (image : ScriptImage) (replaces : Bool) (put : List Out) (p : Standing) (n : ℕ) →
+    ScriptLeads s inner outer image replaces put p → Is (next_script s inner outer before image replaces) n (before ++ put) (stands n p)
+script_leads_next s inner outer before image false put p n h = (ap (λ z. before ++ z) h.0, ap (stands n) h.1)
+script_leads_next s inner outer before image true put p n h = (ap (λ z. before ++ z) h.0, ap (stands n) h.1)
+
+leads_next : (s : State) (inner : Running) (outer : List Running) (first : Out) (x : Conclusion) (put : List Out) (p : Standing) (n : ℕ) →
+    ConclusionLeads s inner outer x put p → Is (next_concluded s inner outer first x) n (first ∷ conclusion_records x ++ put) (stands n p)
+leads_next s inner outer first (keeps list) put p n h = (ap (λ z. first ∷ conclusion_records (keeps list) ++ z) h.0, ap (stands n) h.1)
+leads_next s inner outer first (tells list lines) put p n h = (ap (λ z. first ∷ conclusion_records (tells list lines) ++ z) h.0, ap (stands n) h.1)
+leads_next s inner outer first (fails cause) put p n h = (ap (λ z. first ∷ conclusion_records (fails cause) ++ z) h.0, ap (stands n) h.1)
+leads_next s inner outer first (boots list kernel) put p n (over, all, h) = (put, over, all, refl, ap (stands n) h)
+leads_next s inner outer first (runs_script list image replaces) put p n h =
+    script_leads_next (with_images s list) inner outer (first ∷ conclusion_records (runs_script list image replaces)) image replaces put p n h
 
 pub is_next : (m : Progress) (a : List Out) (m' : Progress) → Proceeds m a m' → Is (what_next m.standing) m.used a m'
 is_next m a m' (passes n s inner next outer h) = named _ _ n a m' (ap (next_coming s inner outer) h) (refl, refl)
@@ -62,6 +82,9 @@ is_next m a m' (opens_onward n s inner outer next link put few got way) =
 is_next m a m' (finds_no_way n s inner outer next link few got way) =
     named _ _ n a m' (ap (next_onward s inner outer next) (not_all s.opens few) ∙ ap (next_link s inner outer next) got ∙ ap (next_way s inner outer next) way) (refl, refl)
 is_next m a m' (opens_no_more n s inner outer next full) = named _ _ n a m' (ap (next_onward s inner outer next) (eq-eqb s.opens 16384 full)) (refl, refl)
+is_next m a m' (hands_back n s inner outer cause) = (refl, refl)
+is_next m a m' (concludes_there n s inner outer c cs x put p h early e leads) =
+    named _ _ n a m' (begun s inner outer c cs (concludes_now x) h early e) (leads_next s (entered inner) outer (command_record inner (shown_words s.table (c ∷ cs))) x put p n leads)
 is_next m a m' (hands n s r rest) = (refl, refl)
 is_next m a m' (has_handed n s) = (refl, refl)
 
@@ -70,6 +93,7 @@ abbrev NextUnended : Next → Type 0
 NextUnended still = Unit {0}
 NextUnended (puts put p) = Unit {0}
 NextUnended (shuts_all first s p) = AreUnended s.live
+NextUnended (closes_all before s p) = AreUnended s.live
 
 -- two moves of one place are one
 pub record SameMove (a b : List Out) (m m' : Progress) : Type 0 where
@@ -82,8 +106,22 @@ is_one (puts put p) n a b m m' u h g = record { records = h.0 ∙ sym g.0; place
 is_one (shuts_all first s p) n a b m m' u (put, over, all, ea, em) (put', over', all', eb, en) =
     let t = all_take_one s.devices (close down_cause) s.live put put' [] [] over over' u all all' in
     record { records = ea ∙ ap (λ z. first ∷ z ++ (result ok ∷ [])) t.records ∙ sym eb; places = em ∙ sym en }
+is_one (closes_all before s p) n a b m m' u (put, over, all, ea, em) (put', over', all', eb, en) =
+    let t = all_take_one s.devices (close stopped_cause) s.live put put' [] [] over over' u all all' in
+    record { records = ea ∙ ap (λ z. before ++ z) t.records ∙ sym eb; places = em ∙ sym en }
 
-doing_next : (s : State) (inner : Running) (outer : List Running) (ws : List (List ℕ)) (d : Doing) → doing s ws ≡ d → AreUnended s.live → NextUnended (next_doing s inner outer ws d)
+script_next : (s : State) (inner : Running) (outer : List Running) (before : List Out) (image : ScriptImage) (replaces : Bool) → NextUnended (next_script s inner outer before image replaces)
+script_next s inner outer before image false = tt
+script_next s inner outer before image true = tt
+
+concluded_next : (s : State) (inner : Running) (outer : List Running) (first : Out) (x : Conclusion) → AreUnended s.live → NextUnended (next_concluded s inner outer first x)
+concluded_next s inner outer first (keeps list) u = tt
+concluded_next s inner outer first (tells list lines) u = tt
+concluded_next s inner outer first (fails cause) u = tt
+concluded_next s inner outer first (boots list kernel) u = u
+concluded_next s inner outer first (runs_script list image replaces) u = script_next (with_images s list) inner outer (first ∷ conclusion_records (runs_script list image replaces)) image replaces
+
+doing_next : (s : State) (inner : Running) (outer : List Running) (ws : List (List ℕ)) (d : Doing) → doing s inner ws ≡ d → AreUnended s.live → NextUnended (next_doing s inner outer ws d)
 doing_next s inner outer ws (ends o s') e u = by_leaving o.leaves
   where
     by_leaving : (b : Bool) → NextUnended (next_ended s inner outer ws o s' b)
@@ -104,7 +142,8 @@ doing_next s inner outer ws (goes_to name) e u = by_line (label_place name inner
     by_line None = tt
     by_line (Some line) = tt
 doing_next s inner outer ws (waits_until time) e u = tt
-doing_next s inner outer ws (shuts s') e u = subst AreUnended (sym (doing_leaves s ws (shuts s') e)) u
+doing_next s inner outer ws (concludes_now x) e u = concluded_next s (entered inner) outer (command_record inner (shown_words s.table ws)) x u
+doing_next s inner outer ws (shuts s') e u = subst AreUnended (sym (doing_leaves s inner ws (shuts s') e)) u
 
 coming_next : (s : State) (inner : Running) (outer : List Running) (x : Coming) → AreUnended s.live → NextUnended (next_coming s inner outer x)
 coming_next s inner outer (passing next) u = tt
@@ -113,7 +152,7 @@ coming_next s inner outer (beginning c cs) u = by_count (inner.begun == 4096)
   where
     by_count : (b : Bool) → NextUnended (next_begun s inner outer (c ∷ cs) b)
     by_count true = tt
-    by_count false = doing_next s inner outer (c ∷ cs) (doing s (c ∷ cs)) refl u
+    by_count false = doing_next s inner outer (c ∷ cs) (doing s inner (c ∷ cs)) refl u
 
 onward_next : (s : State) (inner : Running) (outer : List Running) (next : Onward) (full : Bool) → NextUnended (next_onward s inner outer next full)
 onward_next s inner outer next true = tt
@@ -138,7 +177,8 @@ next_unended (waiting s w) u = tt
 next_unended (reaching s inner outer next) u = onward_next s inner outer next (s.opens == 16384)
 next_unended (yielded s inner outer) u = tt
 next_unended (handing s rest) u = handed_next s rest
-next_unended (left s outer cause) u = tt
+next_unended (left s [] cause) u = tt
+next_unended (left s (inner ∷ outer) cause) u = tt
 next_unended (handed_off s) u = tt
 next_unended (stopped s) u = tt
 

@@ -1,9 +1,9 @@
 -- Where a course has come to rest.
-use Rattle.std.specs.Prelude.{◌≡◌, List}
+use Rattle.std.specs.Prelude.{◌≡◌, List, [], ◌∷◌}
 use Rattle.nb_defs.specs.Records.{Out}
 use Rattle.nb_machine.specs.Courses.{Standing, ready, running, waiting, reaching, yielded, handing, left, handed_off, stopped, Progress}
 
--- a step is over: nothing moves until another record comes, if one may
+-- a step is over: nothing moves until another record comes, if one may; a script that was left within another moves that
 abbrev pub HasComeToRest : Standing → Type 0
 HasComeToRest ready = ⊥
 HasComeToRest (running s inner outer) = ⊥
@@ -11,7 +11,8 @@ HasComeToRest (waiting s w) = Unit {0}
 HasComeToRest (reaching s inner outer next) = ⊥
 HasComeToRest (yielded s inner outer) = Unit {0}
 HasComeToRest (handing s rest) = ⊥
-HasComeToRest (left s outer cause) = Unit {0}
+HasComeToRest (left s [] cause) = Unit {0}
+HasComeToRest (left s (inner ∷ outer) cause) = ⊥
 HasComeToRest (handed_off s) = Unit {0}
 HasComeToRest (stopped s) = Unit {0}
 

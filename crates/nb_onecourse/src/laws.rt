@@ -7,6 +7,7 @@ ghost use Rattle.nb_machine.specs.Lives.{Live, OpenInput};
 ghost use Rattle.nb_machine.specs.Closings.{Shuts};
 ghost use Rattle.nb_machine.specs.Courses.{Course, Progress};
 ghost use Rattle.nb_onecourse.specs.Answers.{IsUnended, StandsUnended, HasOneAnswer};
+ghost use Rattle.nb_onecourse.specs.Depths.{StandsNested};
 ghost use Rattle.nb_onecourse.specs.Rests.{HasComeToRest, SameCourse};
 
 /// No open that lives where a course stands has put its end.
@@ -29,4 +30,9 @@ pub fn records_have_one_course()
 pub fn courses_have_one_closing()
     ensures { (ins : List In) (outs : List Out) (p : Progress) (put put' : List Out) → Course ins outs p
         → Shuts p.standing put → Shuts p.standing put' → put ≡ put' }
+{}
+
+/// Each script's depth is how many there are from it outwards, and at most eight are within one another.
+pub fn scripts_have_their_depths()
+    ensures { (ins : List In) (outs : List Out) (p : Progress) → Course ins outs p → StandsNested p.standing }
 {}

@@ -6,5 +6,5 @@ mod laws;
 
 pub use laws::{
     courses_have_one_closing, opens_have_one_answer, opens_that_live_have_not_ended,
-    records_have_one_course,
+    records_have_one_course, scripts_have_their_depths,
 };

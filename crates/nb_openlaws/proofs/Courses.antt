@@ -1,24 +1,31 @@
 -- A course has a history that says its time, its opens, and what each open that lives has received and tried.
-use Rattle.std.proofs.Common.{◌≡◌, ℕ, ◌+◌, Bool, List, [], ◌∷◌, ◌++◌, refl, sym, ◌∙◌, ap, subst, append_assoc, append-nil}
+use Rattle.std.proofs.Common.{◌≡◌, ℕ, ◌+◌, Bool, true, false, List, [], ◌∷◌, ◌++◌, Option, Some, None, refl, sym, ◌∙◌, ap, subst, append_assoc, append-nil}
 use Rattle.std.proofs.lemmas.List.{map-append}
 use Rattle.std.proofs.lemmas.List.Concat.{flat_map-append}
+use Rattle.nb_terms.specs.declared.cause.Cause.{Cause}
 use Rattle.nb_defs.specs.Commands.{CommandOutcome, refused}
+use Rattle.nb_defs.specs.ScriptLines.{script_reading}
+use Rattle.nb_imagecmd.specs.declared.outcome.ScriptImage.{ScriptImage}
+use Rattle.nb_scripts.specs.Records.{replace}
+use Rattle.nb_machine.specs.FirstText.{text_refusal}
+use Rattle.nb_laws.specs.Agreement.{AreStill}
 use Rattle.nb_defs.specs.Records.{Start, In, Out, result, enter, leave}
 use Rattle.nb_settings.specs.Tables.{TableLists}
 use Rattle.nb_stack.specs.Client.{Client}
-use Rattle.nb_machine.specs.Effects.{Effect, says, asks, goes, sleeps, shuts_device, inquires, full_opens, shown_words}
+use Rattle.nb_machine.specs.Effects.{Effect, says, asks, goes, sleeps, shuts_device, inquires, on_images, concludes_at_once, full_opens, shown_words}
 use Rattle.nb_machine.specs.Queries.{Query, for_lease, for_echo, for_host, for_address}
 use Rattle.nb_machine.specs.Errands.{Onward, fetches_now, echoes_now}
 use Rattle.nb_defs.specs.Causes.{ok}
-use Rattle.nb_machine.specs.Running.{Running, no_label, anew}
+use Rattle.nb_machine.specs.Running.{Running, no_label, entered, anew}
 use Rattle.nb_machine.specs.CommandRecords.{command_record, command_records, no_route, stopped_cause}
-use Rattle.nb_machine.specs.Conclusions.{Conclusion, keeps, fails, boots, conclusion_records}
+use Rattle.nb_machine.specs.Conclusions.{Conclusion, keeps, tells, fails, boots, runs_script, conclusion_records}
+use Rattle.nb_image.specs.Images.{ImageList}
 use Rattle.nb_machine.specs.Lives.{close, Live, open_record, end_record}
 use Rattle.nb_machine.specs.States.{State, following, state_at_start, with_images, with_settings, with_live, with_opened, with_one_made}
 use Rattle.nb_machine.specs.Takings.{Over, AllTake}
 use Rattle.nb_machine.specs.Scripts.{Job, ends, opens, shuts, doing_by, transfer_for, live_for, live_onward, net0_mac, Upshot, concludes, settles, goes_onward, upshot_records, concluded_by}
 use Rattle.nb_machine.specs.Courses as course
-use Rattle.nb_machine.specs.Courses.{Standing, Progress, stands, nowhere, ConclusionLeads, LeadsTo, StepBegins, Proceeds, Course}
+use Rattle.nb_machine.specs.Courses.{Standing, Progress, stands, nowhere, text_records, text_standing, ScriptLeads, ConclusionLeads, LeadsTo, StepBegins, Proceeds, Course}
 use Rattle.nb_laws.specs.Events.{Event, starts, stops, puts, inputs, outputs, used_by, written_by, put_one}
 use Rattle.nb_laws.specs.Lists.{time, made, port_offset, hardware, gathered, openings, open_has_ended, live, calls, marks}
 use Rattle.nb_openlaws.specs.Standings.{AgreesState, AgreesStanding}
@@ -52,6 +59,8 @@ ends_keep s t table up (asks wanted) o e = absurd (cc)
 ends_keep s t table up (goes name) o e = absurd (cc)
 ends_keep s t table up (sleeps seconds) o e = absurd (cc)
 ends_keep s t table up (inquires q) o e = absurd (cc)
+ends_keep s t table up (on_images c) o e = absurd (cc)
+ends_keep s t table up (concludes_at_once c) o e = absurd (cc)
 ends_keep s t table up shuts_device o e = absurd (cc)
 
 pub shuts_keep : (s t : State) (table : TableLists) (up : Bool) (e : Effect) → doing_by s table up e ≡ shuts t → KeepsOpens s t
@@ -61,6 +70,8 @@ shuts_keep s t table up (asks wanted) e = absurd (cc)
 shuts_keep s t table up (goes name) e = absurd (cc)
 shuts_keep s t table up (sleeps seconds) e = absurd (cc)
 shuts_keep s t table up (inquires q) e = absurd (cc)
+shuts_keep s t table up (on_images c) e = absurd (cc)
+shuts_keep s t table up (concludes_at_once c) e = absurd (cc)
 
 query_next : (s : State) (q : Query) → IsNext s (live_for s q)
 query_next s for_lease = record { number_is = refl; device_is = refl; since_is = refl; bare = refl; kind_is = (refl, refl, refl, refl, refl) }
@@ -85,6 +96,8 @@ opens_next s t table up (says c) l job e = absurd (cc)
 opens_next s t table up (goes name) l job e = absurd (cc)
 opens_next s t table up (sleeps seconds) l job e = absurd (cc)
 opens_next s t table up shuts_device l job e = absurd (cc)
+opens_next s t table up (on_images c) l job e = absurd (cc)
+opens_next s t table up (concludes_at_once c) l job e = absurd (cc)
 
 pub kept_state : (es : List Event) (s t : State) → KeepsOpens s t → AgreesState es s → AgreesState es t
 kept_state es s t k a = as_state es s t k.same k.lives a
@@ -124,8 +137,32 @@ started s n = record {
   untold = λ j more. (refl, refl);
 }
 
-conclusion_agrees : (es : List Event) (s : State) (inner : Running) (outer : List Running) (c : Conclusion) (put : List Out) (p : Standing) → ConclusionLeads s inner outer c put p → AgreesState es s → AgreesStanding (es ++ told put) p
+-- a text that is to run
+text_still : (depth : ℕ) (begins : Out) (refused : Option Cause) → AreStill (begins ∷ []) → AreStill (text_records depth begins refused)
+text_still depth begins None still = still
+text_still depth begins (Some cause) still = (still.0, (tt, tt))
+
+text_agrees : (es : List Event) (s : State) (new : Running) (outer : List Running) (refused : Option Cause) → AgreesState es s → AgreesStanding es (text_standing s new outer refused)
+text_agrees es s new outer None a = a
+text_agrees es s new outer (Some cause) a = a
+
+script_agrees : (es : List Event) (s : State) (inner : Running) (outer : List Running) (image : ScriptImage) (replaces : Bool) (put : List Out) (p : Standing) → ScriptLeads s inner outer image replaces put p → AgreesState es s → AgreesStanding (es ++ told put) p
+script_agrees es s inner outer image false put p (puts_so, is) a =
+    let refused = text_refusal (script_reading image.text) in
+    subst (AgreesStanding (es ++ told put)) (sym is) (text_agrees (es ++ told put) s _ (inner ∷ outer) refused
+    (subst (λ z. AgreesState (es ++ told z) s) (sym puts_so) (still_state es (text_records (inner.depth + 1) (enter (inner.depth + 1)) refused) s (text_still (inner.depth + 1) (enter (inner.depth + 1)) refused (tt, tt)) a)))
+script_agrees es s inner outer image true put p (puts_so, is) a =
+    let refused = text_refusal (script_reading image.text) in
+    subst (AgreesStanding (es ++ told put)) (sym is) (text_agrees (es ++ told put) s _ outer refused
+    (subst (λ z. AgreesState (es ++ told z) s) (sym puts_so) (still_state es (text_records inner.depth (replace inner.depth) refused) s (text_still inner.depth (replace inner.depth) refused (tt, tt)) a)))
+
+with_list : (es : List Event) (s : State) (list : ImageList) → AgreesState es s → AgreesState es (with_images s list)
+with_list es s list a = as_state es s (with_images s list) (record { now = refl; opens = refl; offset = refl; mac = refl; identity = refl }) refl a
+
+pub conclusion_agrees : (es : List Event) (s : State) (inner : Running) (outer : List Running) (c : Conclusion) (put : List Out) (p : Standing) → ConclusionLeads s inner outer c put p → AgreesState es s → AgreesStanding (es ++ told put) p
 conclusion_agrees es s inner outer (keeps list) put p (none, is) a = subst (AgreesStanding (es ++ told put)) (sym is) (as_state (es ++ told put) s (with_images s list) (record { now = refl; opens = refl; offset = refl; mac = refl; identity = refl }) refl (subst (λ z. AgreesState (es ++ told z) s) (sym none) (subst (λ z. AgreesState z s) (sym (append-nil es)) a)))
+conclusion_agrees es s inner outer (tells list lines) put p (none, is) a = subst (AgreesStanding (es ++ told put)) (sym is) (with_list (es ++ told put) s list (subst (λ z. AgreesState (es ++ told z) s) (sym none) (subst (λ z. AgreesState z s) (sym (append-nil es)) a)))
+conclusion_agrees es s inner outer (runs_script list image replaces) put p leads a = script_agrees es (with_images s list) inner outer image replaces put p leads (with_list es s list a)
 conclusion_agrees es s inner outer (fails cause) put p (none, is) a = subst (AgreesStanding (es ++ told put)) (sym is) (subst (λ z. AgreesState (es ++ told z) s) (sym none) (subst (λ z. AgreesState z s) (sym (append-nil es)) a))
 conclusion_agrees es s inner outer (boots list kernel) put p (over, all, is) a =
     subst (AgreesStanding (es ++ told put)) (sym is)
@@ -172,14 +209,14 @@ step_told es m r added m2 (course.waits_on n s s2 w r0 put over valid net none) 
 step_told es m r added m2 (course.is_answered n s s2 w r0 put more over x p valid net some leads) a =
     let u = network_agrees es s (n + 1) r put s2 over net a in
     let es1 = es ++ u.event ∷ [] in
-    let c = upshot_records (concluded_by s2 w.job x) in
+    let c = upshot_records (concluded_by s2 w.script.depth w.job x) in
     record {
       event = u.event;
       more = put ++ c ++ more;
       used = u.used;
       is_record = u.is_record;
       puts_so = ap (λ z. z ∷ (put ++ c ++ more)) (sym u.is_step);
-      agrees = subst (λ z. AgreesStanding z p) (ap (λ z. z ++ told more) (told_two es1 put c) ∙ told_two es1 (put ++ c) more) (upshot_agrees (es1 ++ told put) s2 (anew w.script) w.outer (concluded_by s2 w.job x) more p leads u.agrees);
+      agrees = subst (λ z. AgreesStanding z p) (ap (λ z. z ++ told more) (told_two es1 put c) ∙ told_two es1 (put ++ c) more) (upshot_agrees (es1 ++ told put) s2 (anew w.script) w.outer (concluded_by s2 w.script.depth w.job x) more p leads u.agrees);
     }
 step_told es m r added m2 (course.switches_off n s w put over all) a =
     record { event = stops (n + 1); more = put; used = tt; is_record = refl; puts_so = refl; agrees = off_state es (n + 1) s put over a all }
@@ -203,7 +240,7 @@ abbrev pub step_more : (m : Progress) (r : In) (added : List Out) (m2 : Progress
 step_more m r added m2 (course.runs n s code valid reads) = enter 1 ∷ []
 step_more m r added m2 (course.refuses n s cause valid refuses) = enter 1 ∷ leave 1 cause ∷ []
 step_more m r added m2 (course.waits_on n s s2 w r0 put over valid net none) = put
-step_more m r added m2 (course.is_answered n s s2 w r0 put more over x p valid net some leads) = put ++ upshot_records (concluded_by s2 w.job x) ++ more
+step_more m r added m2 (course.is_answered n s s2 w r0 put more over x p valid net some leads) = put ++ upshot_records (concluded_by s2 w.script.depth w.job x) ++ more
 step_more m r added m2 (course.switches_off n s w put over all) = put
 step_more m r added m2 (course.resumes n s s2 inner outer r0 put over valid net) = put
 step_more m r added m2 (course.goes_off n s inner outer put over all) = put
@@ -232,6 +269,10 @@ step_more_is es m r added m2 (course.goes_off n s inner outer put over all) a = 
 pub move_told : (es : List Event) (m : Progress) (added : List Out) (m2 : Progress) → Proceeds m added m2 → AgreesStanding es m.standing → AgreesStanding (es ++ told added) m2.standing
 move_told es m added m2 (course.passes n s inner next outer comes) a = still_state es [] s tt a
 move_told es m added m2 (course.is_left n s inner outer cause comes) a = still_state es (leave inner.depth cause ∷ []) s (tt, tt) a
+move_told es m added m2 (course.hands_back n s inner outer cause) a = still_state es (result cause ∷ []) s (tt, tt) a
+move_told es m added m2 (course.concludes_there n s inner outer c cs x put p comes few is leads) a =
+    let b = command_record inner (shown_words s.table (c ∷ cs)) ∷ conclusion_records x in
+    subst (λ z. AgreesStanding z p) (told_two es b put) (conclusion_agrees (es ++ told b) s (entered inner) outer x put p leads (still_state es b s (tt, still_conclusion x) a))
 move_told es m added m2 (course.yields n s inner outer c cs comes full) a = still_state es [] s tt a
 move_told es m added m2 (course.does n s s2 inner outer c cs x comes few is stays) a =
     let b = command_records inner (shown_words s.table (c ∷ cs)) x in

@@ -2,22 +2,28 @@
 use Rattle.std.proofs.Common.{◌≡◌, ℕ, ◌+◌, ◌*◌, Bool, List, refl, sym, ap, subst}
 use Rattle.nb_defs.specs.Commands.{CommandOutcome}
 use Rattle.nb_settings.specs.Tables.{TableLists}
-use Rattle.nb_machine.specs.Effects.{Effect, says, asks, goes, sleeps, shuts_device, inquires, effect, table_after, up_after}
+use Rattle.nb_machine.specs.Effects.{Effect, says, asks, goes, sleeps, shuts_device, inquires, on_images, concludes_at_once, Surroundings, settled_effect, effect, effect_in, table_after, up_after}
 use Rattle.nb_machine.specs.Errands.{Wanted}
 use Rattle.nb_machine.specs.Queries.{Query}
+use Rattle.nb_machine.specs.Conclusions.{Conclusion}
+use Rattle.nb_machine.specs.Running.{Running}
+use Rattle.nb_machine.proofs.Eithers.{images_either}
 use Rattle.nb_runner.proofs.CommandLaws.{KeepsTable, keeps_table, KeepsUp, keeps_up}
 use Rattle.nb_machine.specs.Lives.{Live}
 use Rattle.nb_machine.specs.States.{State, with_settings}
-use Rattle.nb_machine.specs.Scripts.{Job, fetch, job_for, live_for, transfer_for, ends, opens, goes_to, waits_until, shuts, doing_by, doing}
+use Rattle.nb_machine.specs.Scripts.{Job, fetch, job_for, live_for, transfer_for, ends, opens, goes_to, waits_until, shuts, concludes_now, surroundings, doing_by, doing}
 
 -- the settings and the device's state that words leave
 abbrev pub left_by : State → List (List ℕ) → State
 left_by s ws = with_settings s (table_after s.table ws) (up_after s.table s.up ws)
 
-abbrev effect_in : State → List (List ℕ) → Effect
-effect_in s ws = effect s.opens s.table ws
+-- what they come to
+abbrev pub comes_to : State → Running → List (List ℕ) → Effect
+comes_to s inner ws = effect_in (surroundings s inner) ws
 
 ends_so : (s : State) (table : TableLists) (up : Bool) (e : Effect) (o : CommandOutcome) (s' : State) → doing_by s table up e ≡ ends o s' → (e ≡ says o) × (s' ≡ with_settings s table up)
+ends_so s table up (on_images c) o s' is = absurd (cc)
+ends_so s table up (concludes_at_once c) o s' is = absurd (cc)
 ends_so s table up (says x) o s' is = let same : x ≡ o = cc is in let state : with_settings s table up ≡ s' = cc is in (ap says same, sym state)
 ends_so s table up (asks wanted) o s' is = absurd (cc)
 ends_so s table up (goes name) o s' is = absurd (cc)
@@ -25,10 +31,12 @@ ends_so s table up (sleeps seconds) o s' is = absurd (cc)
 ends_so s table up shuts_device o s' is = absurd (cc)
 ends_so s table up (inquires q) o s' is = absurd (cc)
 
-pub ends_by : (s : State) (ws : List (List ℕ)) (o : CommandOutcome) (s' : State) → doing s ws ≡ ends o s' → (effect_in s ws ≡ says o) × (s' ≡ left_by s ws)
-ends_by s ws o s' is = ends_so s (table_after s.table ws) (up_after s.table s.up ws) (effect_in s ws) o s' is
+pub ends_by : (s : State) (inner : Running) (ws : List (List ℕ)) (o : CommandOutcome) (s' : State) → doing s inner ws ≡ ends o s' → (comes_to s inner ws ≡ says o) × (s' ≡ left_by s ws)
+ends_by s inner ws o s' is = ends_so s (table_after s.table ws) (up_after s.table s.up ws) (comes_to s inner ws) o s' is
 
 shuts_so : (s : State) (table : TableLists) (up : Bool) (e : Effect) (s' : State) → doing_by s table up e ≡ shuts s' → (e ≡ shuts_device) × (s' ≡ with_settings s table up)
+shuts_so s table up (on_images c) s' is = absurd (cc)
+shuts_so s table up (concludes_at_once c) s' is = absurd (cc)
 shuts_so s table up (says x) s' is = absurd (cc)
 shuts_so s table up (asks wanted) s' is = absurd (cc)
 shuts_so s table up (goes name) s' is = absurd (cc)
@@ -36,10 +44,12 @@ shuts_so s table up (sleeps seconds) s' is = absurd (cc)
 shuts_so s table up shuts_device s' is = let state : with_settings s table up ≡ s' = cc is in (refl, sym state)
 shuts_so s table up (inquires q) s' is = absurd (cc)
 
-pub shuts_by : (s : State) (ws : List (List ℕ)) (s' : State) → doing s ws ≡ shuts s' → (effect_in s ws ≡ shuts_device) × (s' ≡ left_by s ws)
-shuts_by s ws s' is = shuts_so s (table_after s.table ws) (up_after s.table s.up ws) (effect_in s ws) s' is
+pub shuts_by : (s : State) (inner : Running) (ws : List (List ℕ)) (s' : State) → doing s inner ws ≡ shuts s' → (comes_to s inner ws ≡ shuts_device) × (s' ≡ left_by s ws)
+shuts_by s inner ws s' is = shuts_so s (table_after s.table ws) (up_after s.table s.up ws) (comes_to s inner ws) s' is
 
 goes_so : (s : State) (table : TableLists) (up : Bool) (e : Effect) (name : List ℕ) → doing_by s table up e ≡ goes_to name → e ≡ goes name
+goes_so s table up (on_images c) name is = absurd (cc)
+goes_so s table up (concludes_at_once c) name is = absurd (cc)
 goes_so s table up (says x) name is = absurd (cc)
 goes_so s table up (asks wanted) name is = absurd (cc)
 goes_so s table up (goes other) name is = let same : other ≡ name = cc is in ap goes same
@@ -47,10 +57,12 @@ goes_so s table up (sleeps seconds) name is = absurd (cc)
 goes_so s table up shuts_device name is = absurd (cc)
 goes_so s table up (inquires q) name is = absurd (cc)
 
-pub goes_by : (s : State) (ws : List (List ℕ)) (name : List ℕ) → doing s ws ≡ goes_to name → effect_in s ws ≡ goes name
-goes_by s ws name is = goes_so s (table_after s.table ws) (up_after s.table s.up ws) (effect_in s ws) name is
+pub goes_by : (s : State) (inner : Running) (ws : List (List ℕ)) (name : List ℕ) → doing s inner ws ≡ goes_to name → comes_to s inner ws ≡ goes name
+goes_by s inner ws name is = goes_so s (table_after s.table ws) (up_after s.table s.up ws) (comes_to s inner ws) name is
 
 waits_so : (s : State) (table : TableLists) (up : Bool) (e : Effect) (time : ℕ) → doing_by s table up e ≡ waits_until time → (seconds : ℕ) × (e ≡ sleeps seconds) × (time ≡ s.now + 1000 * seconds)
+waits_so s table up (on_images c) time is = absurd (cc)
+waits_so s table up (concludes_at_once c) time is = absurd (cc)
 waits_so s table up (says x) time is = absurd (cc)
 waits_so s table up (asks wanted) time is = absurd (cc)
 waits_so s table up (goes name) time is = absurd (cc)
@@ -58,8 +70,8 @@ waits_so s table up (sleeps seconds) time is = let same : s.now + 1000 * seconds
 waits_so s table up shuts_device time is = absurd (cc)
 waits_so s table up (inquires q) time is = absurd (cc)
 
-pub waits_by : (s : State) (ws : List (List ℕ)) (time : ℕ) → doing s ws ≡ waits_until time → (seconds : ℕ) × (effect_in s ws ≡ sleeps seconds) × (time ≡ s.now + 1000 * seconds)
-waits_by s ws time is = waits_so s (table_after s.table ws) (up_after s.table s.up ws) (effect_in s ws) time is
+pub waits_by : (s : State) (inner : Running) (ws : List (List ℕ)) (time : ℕ) → doing s inner ws ≡ waits_until time → (seconds : ℕ) × (comes_to s inner ws ≡ sleeps seconds) × (time ≡ s.now + 1000 * seconds)
+waits_by s inner ws time is = waits_so s (table_after s.table ws) (up_after s.table s.up ws) (comes_to s inner ws) time is
 
 -- it opens something: for a file, or for what is asked by one exchange
 pub data OpensBy (s s' : State) (table : TableLists) (up : Bool) (e : Effect) (l : Live) (job : Job) : Type 0 where
@@ -67,6 +79,8 @@ pub data OpensBy (s s' : State) (table : TableLists) (up : Bool) (e : Effect) (l
   opens_query : (query : Query) → e ≡ inquires query → s' ≡ with_settings s table up → l ≡ live_for (with_settings s table up) query → job ≡ job_for query → OpensBy s s' table up e l job
 
 opens_so : (s : State) (table : TableLists) (up : Bool) (e : Effect) (s' : State) (l : Live) (job : Job) → doing_by s table up e ≡ opens s' l job → OpensBy s s' table up e l job
+opens_so s table up (on_images c) s' l job is = absurd (cc)
+opens_so s table up (concludes_at_once c) s' l job is = absurd (cc)
 opens_so s table up (says x) s' l job is = absurd (cc)
 opens_so s table up (asks wanted) s' l job is =
     let state : s ≡ s' = cc is in
@@ -82,14 +96,74 @@ opens_so s table up (inquires q) s' l job is =
     let work : job_for q ≡ job = cc is in
     opens_query q refl (sym state) (sym live) (sym work)
 
-pub opens_by : (s : State) (ws : List (List ℕ)) (s' : State) (l : Live) (job : Job) → doing s ws ≡ opens s' l job → OpensBy s s' (table_after s.table ws) (up_after s.table s.up ws) (effect_in s ws) l job
-opens_by s ws s' l job is = opens_so s (table_after s.table ws) (up_after s.table s.up ws) (effect_in s ws) s' l job is
+pub opens_by : (s : State) (inner : Running) (ws : List (List ℕ)) (s' : State) (l : Live) (job : Job) → doing s inner ws ≡ opens s' l job → OpensBy s s' (table_after s.table ws) (up_after s.table s.up ws) (comes_to s inner ws) l job
+opens_by s inner ws s' l job is = opens_so s (table_after s.table ws) (up_after s.table s.up ws) (comes_to s inner ws) s' l job is
+
+-- a command on images is settled
+abbrev IsSettled : Effect → Type 0
+IsSettled (on_images c) = ⊥
+IsSettled (says o) = Unit {0}
+IsSettled (asks wanted) = Unit {0}
+IsSettled (goes name) = Unit {0}
+IsSettled (sleeps seconds) = Unit {0}
+IsSettled shuts_device = Unit {0}
+IsSettled (inquires q) = Unit {0}
+IsSettled (concludes_at_once c) = Unit {0}
+
+settles : (x : Surroundings) (e : Effect) → IsSettled (settled_effect x e)
+settles x (on_images c) = images_either IsSettled (λ o. tt) (λ y. tt) (λ wanted. tt) (λ q. tt) x c
+settles x (says o) = tt
+settles x (asks wanted) = tt
+settles x (goes name) = tt
+settles x (sleeps seconds) = tt
+settles x shuts_device = tt
+settles x (inquires q) = tt
+settles x (concludes_at_once c) = tt
+
+words_settle : (s : State) (inner : Running) (ws : List (List ℕ)) → IsSettled (comes_to s inner ws)
+unfolding effect_in
+words_settle s inner ws = settles (surroundings s inner) (effect s.opens s.table ws)
+
+concludes_so : (s : State) (table : TableLists) (up : Bool) (e : Effect) (c : Conclusion) → IsSettled e → doing_by s table up e ≡ concludes_now c → e ≡ concludes_at_once c
+concludes_so s table up (concludes_at_once x) c settled is = let same : x ≡ c = cc is in ap concludes_at_once same
+concludes_so s table up (on_images x) c settled is = absurd settled
+concludes_so s table up (says x) c settled is = absurd (cc)
+concludes_so s table up (asks wanted) c settled is = absurd (cc)
+concludes_so s table up (goes name) c settled is = absurd (cc)
+concludes_so s table up (sleeps seconds) c settled is = absurd (cc)
+concludes_so s table up shuts_device c settled is = absurd (cc)
+concludes_so s table up (inquires q) c settled is = absurd (cc)
+
+pub concludes_by : (s : State) (inner : Running) (ws : List (List ℕ)) (c : Conclusion) → doing s inner ws ≡ concludes_now c → comes_to s inner ws ≡ concludes_at_once c
+concludes_by s inner ws c is = concludes_so s (table_after s.table ws) (up_after s.table s.up ws) (comes_to s inner ws) c (words_settle s inner ws) is
 
 -- WHAT STAYS
 
--- the settings stay where its effect says so, and so does the device's state
-pub table_stays : (s : State) (e : Effect) (ws : List (List ℕ)) → effect_in s ws ≡ e → KeepsTable e s.table (table_after s.table ws)
-table_stays s e ws is = subst (λ x. KeepsTable x s.table (table_after s.table ws)) is (keeps_table s.opens s.table ws)
+settled_keeps : (x : Surroundings) (e : Effect) (table other : TableLists) → KeepsTable e table other → KeepsTable (settled_effect x e) table other
+settled_keeps x (on_images c) table other h = images_either (λ e. KeepsTable e table other) (λ o. tt) (λ y. h) (λ wanted. h) (λ q. tt) x c
+settled_keeps x (says o) table other h = h
+settled_keeps x (asks wanted) table other h = h
+settled_keeps x (goes name) table other h = h
+settled_keeps x (sleeps seconds) table other h = h
+settled_keeps x shuts_device table other h = h
+settled_keeps x (inquires q) table other h = h
+settled_keeps x (concludes_at_once c) table other h = h
 
-pub up_stays : (s : State) (e : Effect) (ws : List (List ℕ)) → effect_in s ws ≡ e → KeepsUp e s.up (up_after s.table s.up ws)
-up_stays s e ws is = subst (λ x. KeepsUp x s.up (up_after s.table s.up ws)) is (keeps_up s.opens s.table s.up ws)
+settled_keeps_up : (x : Surroundings) (e : Effect) (up other : Bool) → KeepsUp e up other → KeepsUp (settled_effect x e) up other
+settled_keeps_up x (on_images c) up other h = images_either (λ e. KeepsUp e up other) (λ o. tt) (λ y. h) (λ wanted. h) (λ q. tt) x c
+settled_keeps_up x (says o) up other h = h
+settled_keeps_up x (asks wanted) up other h = h
+settled_keeps_up x (goes name) up other h = h
+settled_keeps_up x (sleeps seconds) up other h = h
+settled_keeps_up x shuts_device up other h = h
+settled_keeps_up x (inquires q) up other h = h
+settled_keeps_up x (concludes_at_once c) up other h = h
+
+-- the settings stay where its effect says so, and so does the device's state
+pub table_stays : (s : State) (inner : Running) (e : Effect) (ws : List (List ℕ)) → comes_to s inner ws ≡ e → KeepsTable e s.table (table_after s.table ws)
+unfolding effect_in
+table_stays s inner e ws is = subst (λ x. KeepsTable x s.table (table_after s.table ws)) is (settled_keeps (surroundings s inner) (effect s.opens s.table ws) s.table (table_after s.table ws) (keeps_table s.opens s.table ws))
+
+pub up_stays : (s : State) (inner : Running) (e : Effect) (ws : List (List ℕ)) → comes_to s inner ws ≡ e → KeepsUp e s.up (up_after s.table s.up ws)
+unfolding effect_in
+up_stays s inner e ws is = subst (λ x. KeepsUp x s.up (up_after s.table s.up ws)) is (settled_keeps_up (surroundings s inner) (effect s.opens s.table ws) s.up (up_after s.table s.up ws) (keeps_up s.opens s.table s.up ws))

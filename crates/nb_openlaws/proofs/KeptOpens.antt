@@ -1,5 +1,5 @@
 -- Each open that lives keeps its promises, wherever a course stands; and so what it asks for hasn't come.
-use Rattle.std.proofs.Common.{◌≡◌, ℕ, ◌+◌, ◌==◌, Bool, true, false, ◌||◌, List, [], ◌∷◌, ◌++◌, refl, sym, ◌∙◌, ap, subst}
+use Rattle.std.proofs.Common.{◌≡◌, ℕ, ◌+◌, ◌==◌, Bool, true, false, ◌||◌, List, [], ◌∷◌, ◌++◌, Option, Some, None, refl, sym, ◌∙◌, ap, subst}
 use Rattle.std.specs.List.{AllByRecursion}
 use Rattle.std.proofs.lemmas.Bool.{eqb-true}
 use Rattle.nb_tftp.proofs.BlockLemmas.{either_way}
@@ -7,23 +7,27 @@ use Rattle.nb_defs.specs.Records.{In, Out}
 use Rattle.nb_tftp.specs.Asks.{Begun}
 use Rattle.nb_tftp.specs.Sentences.{Meets}
 use Rattle.nb_stack.specs.Client.{Client}
-use Rattle.nb_machine.specs.Conclusions.{Conclusion, keeps, fails, boots}
+use Rattle.nb_machine.specs.Conclusions.{Conclusion, keeps, tells, fails, boots, runs_script}
 use Rattle.nb_settings.specs.Tables.{TableLists}
 use Rattle.nb_machine.specs.Effects.{Effect}
 use Rattle.nb_machine.specs.Errands.{Wanted, Onward, fetches_now, echoes_now}
 use Rattle.nb_machine.specs.Queries.{Query, for_lease, for_echo, for_host, for_address}
-use Rattle.nb_machine.specs.Running.{Running, anew}
+use Rattle.nb_machine.specs.Running.{Running, entered, anew}
 use Rattle.nb_runner.proofs.HandingLemmas.{all_append}
 use Rattle.nb_machine.specs.Lives.{OpenInput, Live}
 use Rattle.nb_machine.specs.Transfers as transfers
 use Rattle.nb_machine.specs.Cores as cores
 use Rattle.nb_machine.specs.Kinds.{Keeps}
-use Rattle.nb_machine.specs.States.{State, with_settings}
+use Rattle.nb_machine.specs.States.{State, with_images, with_settings}
+use Rattle.nb_terms.specs.declared.cause.Cause.{Cause}
+use Rattle.nb_defs.specs.ScriptLines.{script_reading}
+use Rattle.nb_imagecmd.specs.declared.outcome.ScriptImage.{ScriptImage}
+use Rattle.nb_machine.specs.FirstText.{text_refusal}
 use Rattle.nb_machine.specs.Takings.{Over, AllTake, all_have, lives_on, is_over}
 use Rattle.nb_machine.specs.Network.{Network, passes_by, brings, brings_reply, passes_time}
 use Rattle.nb_machine.specs.Scripts.{Job, transfer_for, live_for, live_onward, Upshot, concludes, settles, goes_onward, concluded_by}
 use Rattle.nb_machine.specs.Courses as course
-use Rattle.nb_machine.specs.Courses.{Standing, Progress, ConclusionLeads, LeadsTo, StepBegins, Proceeds, Course}
+use Rattle.nb_machine.specs.Courses.{Standing, Progress, text_standing, ScriptLeads, ConclusionLeads, LeadsTo, StepBegins, Proceeds, Course}
 use Rattle.nb_laws.specs.Events.{Event}
 use Rattle.nb_laws.specs.Lists.{hardware, Opening, live}
 use Rattle.nb_laws.specs.Cores.{answers_open, has_its_answer}
@@ -102,8 +106,18 @@ opened_kept s s' ws table up e l job (opens_query query is state live work) h = 
 
 -- THE COURSE
 
+text_kept : (s : State) (new : Running) (outer : List Running) (refused : Option Cause) → AreKept s.live → KeptAt (text_standing s new outer refused)
+text_kept s new outer None h = h
+text_kept s new outer (Some cause) h = h
+
+script_kept : (s : State) (inner : Running) (outer : List Running) (image : ScriptImage) (replaces : Bool) (put : List Out) (p : Standing) → ScriptLeads s inner outer image replaces put p → AreKept s.live → KeptAt p
+script_kept s inner outer image false put p (puts_so, is) h = subst KeptAt (sym is) (text_kept s _ (inner ∷ outer) (text_refusal (script_reading image.text)) h)
+script_kept s inner outer image true put p (puts_so, is) h = subst KeptAt (sym is) (text_kept s _ outer (text_refusal (script_reading image.text)) h)
+
 conclusion_kept : (s : State) (inner : Running) (outer : List Running) (c : Conclusion) (put : List Out) (p : Standing) → ConclusionLeads s inner outer c put p → AreKept s.live → KeptAt p
 conclusion_kept s inner outer (keeps list) put p (none, is) h = subst KeptAt (sym is) h
+conclusion_kept s inner outer (tells list lines) put p (none, is) h = subst KeptAt (sym is) h
+conclusion_kept s inner outer (runs_script list image replaces) put p leads h = script_kept (with_images s list) inner outer image replaces put p leads h
 conclusion_kept s inner outer (fails cause) put p (none, is) h = subst KeptAt (sym is) h
 conclusion_kept s inner outer (boots list kernel) put p (over, all, is) h = subst KeptAt (sym is) tt
 
@@ -116,7 +130,7 @@ pub step_kept : (m : Progress) (r : In) (added : List Out) (m2 : Progress) → S
 step_kept m r added m2 (course.runs n s code valid reads) h = tt
 step_kept m r added m2 (course.refuses n s cause valid refuses) h = tt
 step_kept m r added m2 (course.waits_on n s s2 w r0 put over valid net none) h = network_kept s s2 (n + 1) r put over net h
-step_kept m r added m2 (course.is_answered n s s2 w r0 put more over x p valid net some leads) h = upshot_kept s2 (anew w.script) w.outer (concluded_by s2 w.job x) more p leads (network_kept s s2 (n + 1) r put over net h)
+step_kept m r added m2 (course.is_answered n s s2 w r0 put more over x p valid net some leads) h = upshot_kept s2 (anew w.script) w.outer (concluded_by s2 w.script.depth w.job x) more p leads (network_kept s s2 (n + 1) r put over net h)
 step_kept m r added m2 (course.switches_off n s w put over all) h = tt
 step_kept m r added m2 (course.resumes n s s2 inner outer r0 put over valid net) h = network_kept s s2 (n + 1) r put over net h
 step_kept m r added m2 (course.goes_off n s inner outer put over all) h = tt
@@ -124,16 +138,18 @@ step_kept m r added m2 (course.goes_off n s inner outer put over all) h = tt
 pub move_kept : (m : Progress) (added : List Out) (m2 : Progress) → Proceeds m added m2 → KeptAt m.standing → KeptAt m2.standing
 move_kept m added m2 (course.passes n s inner next outer comes) h = h
 move_kept m added m2 (course.is_left n s inner outer cause comes) h = h
+move_kept m added m2 (course.hands_back n s inner outer cause) h = h
+move_kept m added m2 (course.concludes_there n s inner outer c cs x put p comes few is leads) h = conclusion_kept s (entered inner) outer x put p leads h
 move_kept m added m2 (course.yields n s inner outer c cs comes full) h = h
-move_kept m added m2 (course.does n s s2 inner outer c cs x comes few is stays) h = subst (λ (z : State). AreKept z.live) (sym (ends_by s (c ∷ cs) x s2 is).1) h
+move_kept m added m2 (course.does n s s2 inner outer c cs x comes few is stays) h = subst (λ (z : State). AreKept z.live) (sym (ends_by s inner (c ∷ cs) x s2 is).1) h
 move_kept m added m2 (course.closes_device n s s2 inner outer c cs put over comes few is all) h = tt
-move_kept m added m2 (course.leaves n s s2 inner outer c cs x comes few is away) h = subst (λ (z : State). AreKept z.live) (sym (ends_by s (c ∷ cs) x s2 is).1) h
+move_kept m added m2 (course.leaves n s s2 inner outer c cs x comes few is away) h = subst (λ (z : State). AreKept z.live) (sym (ends_by s inner (c ∷ cs) x s2 is).1) h
 move_kept m added m2 (course.jumps n s inner outer c cs name line comes few is there) h = h
 move_kept m added m2 (course.finds_no_label n s inner outer c cs name comes few is none) h = h
 move_kept m added m2 (course.falls_asleep n s inner outer c cs t comes few is) h = h
 move_kept m added m2 (course.opens_one n s s2 inner outer c cs l job link put comes few is got first) h =
-    let k = opened_kept s s2 (c ∷ cs) _ _ _ l job (opens_by s (c ∷ cs) s2 l job is) h in all_append Keeps s2.live (l ∷ []) k.0 (k.1, tt)
-move_kept m added m2 (course.finds_no_route n s s2 inner outer c cs l job link comes few is got none) h = (opened_kept s s2 (c ∷ cs) _ _ _ l job (opens_by s (c ∷ cs) s2 l job is) h).0
+    let k = opened_kept s s2 (c ∷ cs) _ _ _ l job (opens_by s inner (c ∷ cs) s2 l job is) h in all_append Keeps s2.live (l ∷ []) k.0 (k.1, tt)
+move_kept m added m2 (course.finds_no_route n s s2 inner outer c cs l job link comes few is got none) h = (opened_kept s s2 (c ∷ cs) _ _ _ l job (opens_by s inner (c ∷ cs) s2 l job is) h).0
 move_kept m added m2 (course.opens_onward n s inner outer next link put few got first) h = all_append Keeps s.live (live_onward s next ∷ []) h (onward_kept s next, tt)
 move_kept m added m2 (course.finds_no_way n s inner outer next link few got none) h = h
 move_kept m added m2 (course.opens_no_more n s inner outer next full) h = h

@@ -16,7 +16,7 @@ use Rattle.nb_openlaws.specs.Standings.{AgreesState, AgreesDevice}
 use Rattle.nb_laws.proofs.Tellings.{told}
 use Rattle.nb_openlaws.proofs.OpenRecords.{IsOf, AreOf, all_append}
 use Rattle.std.proofs.Common.{take, drop}
-use Rattle.nb_defs.specs.Records.{command, result}
+use Rattle.nb_defs.specs.Records.{command, result, script}
 use Rattle.nb_stack.specs.Brings.{Brings}
 use Rattle.nb_laws.specs.CommandsSoFar.{so_far, so_far_by, CommandsSoFar}
 use Rattle.nb_laws.specs.Histories.{IsRead, client}
@@ -30,6 +30,7 @@ use Rattle.nb_openlaws.proofs.Networks.{network_event, event_is, network_agrees}
 of_so_far : (k : ℕ) (es : List Event) (m : CommandsSoFar) (o : Out) → IsOf k o → so_far_by es m (puts o) ≡ m
 of_so_far k es m (command depth line place expanded words) h = absurd h
 of_so_far k es m (result cause) h = absurd h
+of_so_far k es m (script what depth cause) h = absurd h
 of_so_far k es m (step number) h = absurd h
 of_so_far k es m _ h = refl
 

@@ -88,7 +88,7 @@ expansion_next (next.Begins ws) s table name args written comes are r e = (
     args = args;
     comes = comes;
     expands = subst (λ x. expansion table x ≡ Ok ws) are e.0;
-    is_ready = record { early = r.early; there = r.there; few = e.1; total = e.2 };
+    is_ready = record { early = r.early; short = r.short; there = r.there; few = e.1; total = e.2 };
   },
 )
 expansion_next (next.Refused ws cause) s table name args written comes are r e = (

@@ -1,5 +1,5 @@
 -- What commands come to, by their words before and after expansion, and what carrying them out does.
-use Rattle.std.proofs.Common.{◌≡◌, ℕ, ◌<◌, ◌==◌, ◌&&◌, Bool, true, false, cond, List, Option, Result, Ok, Err, arith, refl, sym, ◌∙◌, ap, subst, eq-eqb}
+use Rattle.std.proofs.Common.{◌≡◌, ℕ, ◌<◌, ◌==◌, ◌&&◌, Bool, true, false, cond, List, Option, None, Result, Ok, Err, arith, refl, sym, ◌∙◌, ap, subst, eq-eqb}
 use Rattle.std.specs.Result.{result_map_both}
 use Rattle.std.proofs.lemmas.Bool.{eqb-false}
 use Rattle.std.specs.Str.{bytes_eq}
@@ -12,7 +12,8 @@ use Rattle.nb_command.specs.declared.command_plan.CommandPlan.{CommandPlan}
 use Rattle.nb_command.specs.declared.command_plan.CommandPlan.TheVariants as plan
 use Rattle.nb_command.specs.declared.error.ApplyError.{ApplyError}
 use Rattle.nb_command.specs.declared.error.ApplyError.TheVariants.{False}
-use Rattle.nb_command.specs.declared.error.PlanError.{PlanError}
+use Rattle.nb_imagecmd.specs.declared.error.PlanError.{PlanError}
+use Rattle.nb_imagecmd.specs.declared.commands.ImageCommand.{ImageCommand}
 use Rattle.nb_command.specs.declared.outcome.Outcome.{Outcome}
 use Rattle.nb_command.specs.declared.outcome.Outcome.TheVariants as outcome
 use Rattle.nb_command.specs.declared.state.State.{State}
@@ -31,9 +32,8 @@ use Rattle.nb_stack.specs.Client.{Client}
 use Rattle.nb_runner.specs.declared.world.World.{World}
 use Rattle.nb_runner.specs.World.{IsLinked, state_of, world_with}
 use Rattle.nb_machine.specs.Queries.{Query, for_lease}
-pub use Rattle.nb_machine.proofs.Eithers.{fetch_either}
-use Rattle.nb_machine.proofs.Eithers.{full_either, pinged_either, looked_up_either}
-use Rattle.nb_machine.specs.Effects.{fetch, Effect, says, asks, goes, sleeps, shuts_device, inquires, unless_full, sleeping_for, device_effect, plan_effect, plan_table, plan_up, set_up, planned_effect, planned_table, planned_up, words_effect, words_table, words_up, expansion, expanded_effect, expanded_table, expanded_up, expand_cause, effect, table_after, up_after, shown_words, shown_by, shown_as, truth_outcome, text_told, change_outcome, changed}
+use Rattle.nb_machine.proofs.Eithers.{full_either, images_either, pinged_either, looked_up_either}
+use Rattle.nb_machine.specs.Effects.{Effect, says, asks, goes, sleeps, shuts_device, inquires, on_images, concludes_at_once, Surroundings, settled_effect, effect_in, unless_full, sleeping_for, device_effect, plan_effect, plan_table, plan_up, set_up, planned_effect, planned_table, planned_up, words_effect, words_table, words_up, expansion, expanded_effect, expanded_table, expanded_up, expand_cause, effect, table_after, up_after, shown_words, shown_by, shown_as, truth_outcome, text_told, change_outcome, changed}
 use Rattle.nb_runner.specs.CommandWords.{IsLocal, IsLocalOutcome, outcome_effect}
 
 -- expanded words say the effect
@@ -92,6 +92,8 @@ KeepsTable (goes name) table other = other ≡ table
 KeepsTable (sleeps seconds) table other = other ≡ table
 KeepsTable shuts_device table other = Unit {0}
 KeepsTable (inquires q) table other = Unit {0}
+KeepsTable (on_images command) table other = other ≡ table
+KeepsTable (concludes_at_once c) table other = other ≡ table
 
 keeps_same : (e : Effect) (table : TableLists) → KeepsTable e table table
 keeps_same (says o) table = tt
@@ -100,6 +102,8 @@ keeps_same (goes name) table = refl
 keeps_same (sleeps seconds) table = refl
 keeps_same shuts_device table = tt
 keeps_same (inquires q) table = tt
+keeps_same (on_images command) table = refl
+keeps_same (concludes_at_once c) table = refl
 
 keeps_plan : (opens : ℕ) (table : TableLists) (p : CommandPlan) → KeepsTable (plan_effect opens table p) table (plan_table p table)
 keeps_plan opens table (plan.Echo newline text) = tt
@@ -111,8 +115,7 @@ keeps_plan opens table (plan.Set name value) = tt
 keeps_plan opens table (plan.Clear name) = tt
 keeps_plan opens table (plan.Show name) = tt
 keeps_plan opens table (plan.Inc name by) = tt
-keeps_plan opens table (plan.Fetch uri) = keeps_same (plan_effect opens table (plan.Fetch uri)) table
-keeps_plan opens table (plan.Exec uri) = keeps_same (plan_effect opens table (plan.Exec uri)) table
+keeps_plan opens table (plan.Images command) = refl
 keeps_plan opens table (plan.Ifopen device) = keeps_same (plan_effect opens table (plan.Ifopen device)) table
 keeps_plan opens table (plan.Ifclose device) = keeps_same (plan_effect opens table (plan.Ifclose device)) table
 keeps_plan opens table (plan.Dhcp device) = keeps_same (plan_effect opens table (plan.Dhcp device)) table
@@ -146,6 +149,8 @@ KeepsUp (goes name) up other = other ≡ up
 KeepsUp (sleeps seconds) up other = other ≡ up
 KeepsUp shuts_device up other = Unit {0}
 KeepsUp (inquires q) up other = Unit {0}
+KeepsUp (on_images command) up other = other ≡ up
+KeepsUp (concludes_at_once c) up other = other ≡ up
 
 keeps_same_up : (e : Effect) (up : Bool) → KeepsUp e up up
 keeps_same_up (says o) up = tt
@@ -154,6 +159,8 @@ keeps_same_up (goes name) up = refl
 keeps_same_up (sleeps seconds) up = refl
 keeps_same_up shuts_device up = tt
 keeps_same_up (inquires q) up = tt
+keeps_same_up (on_images command) up = refl
+keeps_same_up (concludes_at_once c) up = refl
 
 device_keeps : (e : Effect) (r : Result Bool ApplyError) (up : Bool) → ((other : Bool) → KeepsUp e up other) → KeepsUp (device_effect e r) up (set_up up r)
 device_keeps e (Ok other) up k = k other
@@ -169,8 +176,7 @@ keeps_plan_up opens table up (plan.Set name value) = keeps_same_up (plan_effect 
 keeps_plan_up opens table up (plan.Clear name) = keeps_same_up (plan_effect opens table (plan.Clear name)) up
 keeps_plan_up opens table up (plan.Show name) = keeps_same_up (plan_effect opens table (plan.Show name)) up
 keeps_plan_up opens table up (plan.Inc name by) = keeps_same_up (plan_effect opens table (plan.Inc name by)) up
-keeps_plan_up opens table up (plan.Fetch uri) = keeps_same_up (plan_effect opens table (plan.Fetch uri)) up
-keeps_plan_up opens table up (plan.Exec uri) = keeps_same_up (plan_effect opens table (plan.Exec uri)) up
+keeps_plan_up opens table up (plan.Images command) = refl
 keeps_plan_up opens table up (plan.Sleep seconds) = keeps_same_up (plan_effect opens table (plan.Sleep seconds)) up
 keeps_plan_up opens table up (plan.Dhcp device) =
     device_keeps (unless_full opens (inquires for_lease)) (device_change device true) up (λ other. full_either (λ e. KeepsUp e up other) (λ o. tt) opens (inquires for_lease) tt)
@@ -195,13 +201,6 @@ pub keeps_up : (opens : ℕ) (table : TableLists) (up : Bool) (ws : List (List �
 unfolding effect up_after
 keeps_up opens table up ws = keeps_expanded_up opens table up (expansion table ws)
 
--- so does the world
-pub same_world : (w : World) (e : Effect) (ws : List (List ℕ)) → effect w.opens w.state.table ws ≡ e → KeepsTable e w.state.table (table_after w.state.table ws)
-same_world w e ws is = subst (λ x. KeepsTable x w.state.table (table_after w.state.table ws)) is (keeps_table w.opens w.state.table ws)
-
-pub same_up : (w : World) (e : Effect) (ws : List (List ℕ)) → effect w.opens w.state.table ws ≡ e → KeepsUp e w.state.up (up_after w.state.table w.state.up ws)
-same_up w e ws is = subst (λ x. KeepsUp x w.state.up (up_after w.state.table w.state.up ws)) is (keeps_up w.opens w.state.table w.state.up ws)
-
 -- a link that has its address and its state already
 link_stays : (net : Client) (address : Option Addr) (up : Bool) → net.address ≡ address → net.up ≡ up → ◌≡◌ {A = Client} (record net { address = address; up = up }) net
 link_stays net address up a u =
@@ -209,7 +208,7 @@ link_stays net address up a u =
 
 pub world_stays : (w : World) (table : TableLists) (up : Bool) → IsLinked w → table ≡ w.state.table → up ≡ w.state.up → world_with w table up ≡ w
 world_stays w table up linked e u =
-    rw (e, u) (ap (λ (net : Client). record { w = w.w; machine = w.machine; time = w.time; net = net; opens = w.opens; state = w.state }) (link_stays w.net _ w.state.up linked.address linked.up))
+    rw (e, u) (ap (λ (net : Client). record { w = w.w; machine = w.machine; time = w.time; net = net; opens = w.opens; state = w.state; outer = w.outer }) (link_stays w.net _ w.state.up linked.address linked.up))
 
 -- WHAT A FILE'S COMMAND AND A SLEEP COME TO
 
@@ -220,7 +219,7 @@ pub record Covers (P : Effect → Type 0) : Type 0 where
   pub of_sleep : (seconds : ℕ) → P (sleeping_for seconds)
   pub of_shut : P shuts_device
   pub of_inquiry : (q : Query) → P (inquires q)
-  pub of_fetch : (opens : ℕ) (boots : Bool) (table : TableLists) (uri : List ℕ) → P (fetch opens boots table uri)
+  pub of_images : (command : ImageCommand) → P (on_images command)
 
 device_covered : (P : Effect → Type 0) → Covers P → (e : Effect) → P e → (r : Result Bool ApplyError) → P (device_effect e r)
 device_covered P c e is (Ok up) = is
@@ -236,8 +235,7 @@ plan_covered P c opens table (plan.Set name value) = c.of_says _
 plan_covered P c opens table (plan.Clear name) = c.of_says _
 plan_covered P c opens table (plan.Show name) = c.of_says _
 plan_covered P c opens table (plan.Inc name by) = c.of_says _
-plan_covered P c opens table (plan.Fetch uri) = c.of_fetch opens false table uri
-plan_covered P c opens table (plan.Exec uri) = c.of_fetch opens true table uri
+plan_covered P c opens table (plan.Images command) = c.of_images command
 plan_covered P c opens table (plan.Ifopen device) = device_covered P c (says (refused ok)) (c.of_says _) (device_change device true)
 plan_covered P c opens table (plan.Ifclose device) = device_covered P c shuts_device c.of_shut (device_change device false)
 plan_covered P c opens table (plan.Dhcp device) =
@@ -269,6 +267,8 @@ IsRested (asks wanted) = Unit {0}
 IsRested (goes name) = Unit {0}
 IsRested shuts_device = Unit {0}
 IsRested (inquires q) = Unit {0}
+IsRested (on_images command) = Unit {0}
+IsRested (concludes_at_once c) = Unit {0}
 
 rested_for : (seconds : ℕ) (b : Bool) → (seconds == 0) ≡ b → IsRested (cond b (says (refused ok)) (sleeps seconds))
 rested_for seconds true is = tt
@@ -281,12 +281,68 @@ all_rested = record {
   of_shut = tt;
   of_inquiry = λ q. tt;
   of_sleep = λ seconds. rested_for seconds (seconds == 0) refl;
-  of_fetch = λ opens boots table uri. fetch_either IsRested (λ o. tt) (λ wanted. tt) (λ q. tt) opens boots table uri;
+  of_images = λ command. tt;
 }
 
 -- a command that sleeps does so for some time
 pub sleeps_some : (opens : ℕ) (table : TableLists) (ws : List (List ℕ)) (seconds : ℕ) → effect opens table ws ≡ sleeps seconds → 0 < seconds
 sleeps_some opens table ws seconds is = subst IsRested is (effect_covered IsRested all_rested opens table ws)
+
+-- WITHIN A SCRIPT
+
+rested_in : (x : Surroundings) (e : Effect) → IsRested e → IsRested (settled_effect x e)
+rested_in x (on_images command) h = images_either IsRested (λ o. tt) (λ c. tt) (λ wanted. tt) (λ q. tt) x command
+rested_in x (says o) h = tt
+rested_in x (asks wanted) h = tt
+rested_in x (goes name) h = tt
+rested_in x (sleeps seconds) h = h
+rested_in x shuts_device h = tt
+rested_in x (inquires q) h = tt
+rested_in x (concludes_at_once c) h = tt
+
+-- a command of a script that sleeps does so for some time
+pub sleeps_some_in : (x : Surroundings) (ws : List (List ℕ)) (seconds : ℕ) → effect_in x ws ≡ sleeps seconds → 0 < seconds
+unfolding effect_in
+sleeps_some_in x ws seconds is = subst IsRested is (rested_in x (effect x.opens x.table ws) (effect_covered IsRested all_rested x.opens x.table ws))
+
+settled_keeps : (x : Surroundings) (e : Effect) (table other : TableLists) → KeepsTable e table other → KeepsTable (settled_effect x e) table other
+settled_keeps x (on_images command) table other h = images_either (λ e. KeepsTable e table other) (λ o. tt) (λ c. h) (λ wanted. h) (λ q. tt) x command
+settled_keeps x (says o) table other h = h
+settled_keeps x (asks wanted) table other h = h
+settled_keeps x (goes name) table other h = h
+settled_keeps x (sleeps seconds) table other h = h
+settled_keeps x shuts_device table other h = h
+settled_keeps x (inquires q) table other h = h
+settled_keeps x (concludes_at_once c) table other h = h
+
+settled_keeps_up : (x : Surroundings) (e : Effect) (up other : Bool) → KeepsUp e up other → KeepsUp (settled_effect x e) up other
+settled_keeps_up x (on_images command) up other h = images_either (λ e. KeepsUp e up other) (λ o. tt) (λ c. h) (λ wanted. h) (λ q. tt) x command
+settled_keeps_up x (says o) up other h = h
+settled_keeps_up x (asks wanted) up other h = h
+settled_keeps_up x (goes name) up other h = h
+settled_keeps_up x (sleeps seconds) up other h = h
+settled_keeps_up x shuts_device up other h = h
+settled_keeps_up x (inquires q) up other h = h
+settled_keeps_up x (concludes_at_once c) up other h = h
+
+-- the settings and the device stay, but for such commands, also where images count
+pub keeps_table_in : (x : Surroundings) (e : Effect) (ws : List (List ℕ)) → effect_in x ws ≡ e → KeepsTable e x.table (table_after x.table ws)
+unfolding effect_in
+keeps_table_in x e ws is = subst (λ y. KeepsTable y x.table (table_after x.table ws)) is (settled_keeps x _ x.table _ (keeps_table x.opens x.table ws))
+
+pub keeps_up_in : (x : Surroundings) (e : Effect) (up : Bool) (ws : List (List ℕ)) → effect_in x ws ≡ e → KeepsUp e up (up_after x.table up ws)
+unfolding effect_in
+keeps_up_in x e up ws is = subst (λ y. KeepsUp y up (up_after x.table up ws)) is (settled_keeps_up x _ up _ (keeps_up x.opens x.table up ws))
+
+-- what a planned command comes to within its script
+pub effect_in_of_plan : (x : Surroundings) (written ws : List (List ℕ)) (p : CommandPlan) → expansion x.table written ≡ Ok ws → planned ws ≡ Ok p → effect_in x written ≡ settled_effect x (plan_effect x.opens x.table p)
+unfolding effect_in
+effect_in_of_plan x written ws p e is = ap (settled_effect x) (effect_of_words x.opens x.table written ws e ∙ effect_of_plan x.opens x.table ws (Ok p) is)
+
+-- or any other
+pub effect_in_of : (x : Surroundings) (written : List (List ℕ)) (e : Effect) → effect x.opens x.table written ≡ e → effect_in x written ≡ settled_effect x e
+unfolding effect_in
+effect_in_of x written e is = ap (settled_effect x) is
 
 -- two causes that are the same are found so
 pub found_same : (x y : Cause) → x ≡ y → ((x.code == y.code) && ((x.a == y.a) && (x.b == y.b))) ≡ true
@@ -355,7 +411,7 @@ device_ok p wanted (Ok up) o s s' same still comes here e =
     }
 device_ok p wanted (Err why) o s s' same still comes here e = absurd (cc)
 
-pub carried_ok : (p : CommandPlan) (o : Outcome) (s s' : State) → IsLocal p → applied p s ≡ Ok (o, s') → IsCarriedOut p o s s'
+pub carried_ok : (p : CommandPlan) (o : Outcome) (s s' : State) → IsLocal p → applied p None s ≡ Ok (o, s') → IsCarriedOut p o s s'
 unfolding applied
 carried_ok (plan.Echo newline text) o s s' here e = keeps_state (plan.Echo newline text) _ o s s' refl refl (λ opens. refl) tt e
 carried_ok (plan.Goto label) o s s' here e = keeps_state (plan.Goto label) _ o s s' refl refl (λ opens. refl) tt e
@@ -369,8 +425,7 @@ carried_ok (plan.Inc name by) o s s' here e = change_ok (plan.Inc name by) (incr
 carried_ok (plan.Ifopen device) o s s' here e = device_ok (plan.Ifopen device) outcome.Done (device_change device true) o s s' refl refl (λ opens. refl) tt e
 carried_ok (plan.Ifclose device) o s s' here e = device_ok (plan.Ifclose device) outcome.Down (device_change device false) o s s' refl refl (λ opens. refl) tt e
 carried_ok (plan.Sleep seconds) o s s' here e = keeps_state (plan.Sleep seconds) _ o s s' refl refl (λ opens. refl) tt e
-carried_ok (plan.Fetch uri) o s s' here e = absurd here
-carried_ok (plan.Exec uri) o s s' here e = absurd here
+carried_ok (plan.Images command) o s s' here e = absurd here
 carried_ok (plan.Dhcp device) o s s' here e = absurd here
 carried_ok (plan.Ping text) o s s' here e = absurd here
 carried_ok (plan.Nslookup setting text) o s s' here e = absurd here
@@ -411,7 +466,7 @@ device_err p wanted (Err why) e s cause same still comes is = fails_so p s why c
 never_fails : (p : CommandPlan) (o : Outcome) (s s' : State) (cause : Cause) → ◌≡◌ {A = Result (Outcome × State) Cause} (Ok (o, s')) (Err cause) → IsRefusedSo p s cause
 never_fails p o s s' cause e = absurd (cc)
 
-pub carried_err : (p : CommandPlan) (s : State) (cause : Cause) → IsLocal p → applied p s ≡ Err cause → IsRefusedSo p s cause
+pub carried_err : (p : CommandPlan) (s : State) (cause : Cause) → IsLocal p → applied p None s ≡ Err cause → IsRefusedSo p s cause
 unfolding applied
 carried_err (plan.Echo newline text) s cause here e = never_fails (plan.Echo newline text) _ s s cause e
 carried_err (plan.Goto label) s cause here e = never_fails (plan.Goto label) _ s s cause e
@@ -425,8 +480,7 @@ carried_err (plan.Inc name by) s cause here e = change_err (plan.Inc name by) (i
 carried_err (plan.Ifopen device) s cause here e = device_err (plan.Ifopen device) outcome.Done (device_change device true) (says (refused ok)) s cause refl refl (λ opens. refl) e
 carried_err (plan.Ifclose device) s cause here e = device_err (plan.Ifclose device) outcome.Down (device_change device false) shuts_device s cause refl refl (λ opens. refl) e
 carried_err (plan.Sleep seconds) s cause here e = never_fails (plan.Sleep seconds) _ s s cause e
-carried_err (plan.Fetch uri) s cause here e = absurd here
-carried_err (plan.Exec uri) s cause here e = absurd here
+carried_err (plan.Images command) s cause here e = absurd here
 carried_err (plan.Dhcp device) s cause here e = absurd here
 carried_err (plan.Ping text) s cause here e = absurd here
 carried_err (plan.Nslookup setting text) s cause here e = absurd here

@@ -1,5 +1,5 @@
 -- The parts of a hand-off are short, and its records come one after another.
-use Rattle.std.proofs.Common.{◌≡◌, ℕ, zero, suc, ◌+◌, ◌*◌, ◌/◌, ◌<◌, ◌≤◌, ◌^◌, ◌==◌, true, false, cond, List, [], ◌∷◌, ◌++◌, length, take, drop, map, Option, Some, None, refl, sym, ◌∙◌, ap, subst, arith, add-one}
+use Rattle.std.proofs.Common.{◌≡◌, ℕ, zero, suc, ◌+◌, ◌*◌, ◌/◌, ◌<◌, ◌≤◌, ◌^◌, ◌==◌, Bool, true, false, cond, List, [], ◌∷◌, ◌++◌, length, take, drop, map, Option, Some, None, refl, sym, ◌∙◌, ap, subst, arith, add-one, length-append}
 use Rattle.std.specs.Prelude.{slice_get, slice_set, IfSome}
 use Rattle.std.specs.List.{AllByRecursion, flat_map, remove, enumerate_from}
 use Rattle.std.specs.Option.{option_to_list}
@@ -9,7 +9,7 @@ use Rattle.nb_defs.specs.Records.{Out}
 use Rattle.nb_image.specs.declared.image.Image.{Image}
 use Rattle.nb_image.specs.Images.{ImageList, put_image, image_place, with_image}
 use Rattle.nb_image.specs.Parts.{PartText, PieceText, parts, kernel_parts, initrd_parts, others_parts, part_pieces, piece_count}
-use Rattle.nb_image.proofs.PartsLemmas.{piece_is, pieces_length}
+use Rattle.nb_image.proofs.PartsLemmas.{parts_length, piece_is, pieces_length}
 use Rattle.nb_runner.specs.declared.handing.Handing.{Handing}
 use Rattle.nb_machine.specs.Conclusions.{part_records, piece_record}
 use Rattle.nb_runner.specs.Handings.{IsShort, AreShort, IsAt}
@@ -29,7 +29,7 @@ all_set P [] k x p q = tt
 all_set P (y ∷ ys) zero x p q = (q, p.1)
 all_set P (y ∷ ys) (suc k) x p q = (p.0, all_set P ys k x p.1 q)
 
-all_remove : {A : Type 0} (P : A → Type 0) (xs : List A) (k : ℕ) → AllByRecursion P xs → AllByRecursion P (remove xs k)
+pub all_remove : {A : Type 0} (P : A → Type 0) (xs : List A) (k : ℕ) → AllByRecursion P xs → AllByRecursion P (remove xs k)
 all_remove P [] zero p = tt
 all_remove P [] (suc k) p = tt
 all_remove P (y ∷ ys) zero p = p.1
@@ -201,3 +201,23 @@ part_within ps k p h = slice_get_within ps k p h
 
 pub drop_past : (k : ℕ) (xs : List Out) → k ≡ length xs → drop k xs ≡ []
 drop_past k xs e = drop_all k xs (omega (arith, e))
+
+-- HOW MANY RECORDS A HAND-OFF HAS
+
+count_some : (len : ℕ) → len ≤ 268435456 → piece_count len ≤ 4097
+count_some len small = by (len == 0)
+  where
+    by : (b : Bool) → cond b 1 ((len + 65535) / 65536) ≤ 4097
+    by true = omega arith
+    by false = omega (arith, small)
+
+flat_few : (ps : List PartText) → AllByRecursion IsSmall ps → length (flat_map part_records ps) ≤ 4097 * length ps
+flat_few [] small = omega arith
+flat_few (p ∷ ps) small =
+    let one : length (part_records p) ≤ 4097 = rw (records_of_part p, pieces_length p.bytes) (count_some (length p.bytes) small.0) in
+    omega (arith, one, flat_few ps small.1, length-append (part_records p) (flat_map part_records ps))
+
+-- a hand-off of few images has few records
+pub handoff_few : (kernel : ℕ) (images : List Image) → kernel < length images → AreShort images → length images ≤ 32 → length (flat_map part_records (parts kernel images)) ≤ 266305
+handoff_few kernel images within short few =
+    omega (arith, flat_few (parts kernel images) (parts_small kernel images short), parts_length images kernel within, few)

@@ -18,10 +18,11 @@ pub record Reaches (s : Running) (line : ℕ) : Type 0 where
   pub well : there.last ≡ ok
   pub same_code : there.code ≡ s.code
   pub same_depth : there.depth ≡ s.depth
+  pub same_base : there.base ≡ s.base
   pub same_begun : there.begun ≡ s.begun
 
-reaches_by : (s t : Running) (line : ℕ) → coming s ≡ passing t → t.code ≡ s.code → t.depth ≡ s.depth → t.begun ≡ s.begun → Reaches t line → Reaches s line
-reaches_by s t line comes code depth begun r = record {
+reaches_by : (s t : Running) (line : ℕ) → coming s ≡ passing t → t.code ≡ s.code → t.depth ≡ s.depth → t.base ≡ s.base → t.begun ≡ s.begun → Reaches t line → Reaches s line
+reaches_by s t line comes code depth base begun r = record {
   there = r.there;
   passes = further_on s t r.there comes r.passes;
   passed = r.passed;
@@ -29,6 +30,7 @@ reaches_by s t line comes code depth begun r = record {
   well = r.well;
   same_code = r.same_code ∙ code;
   same_depth = r.same_depth ∙ depth;
+  same_base = r.same_base ∙ base;
   same_begun = r.same_begun ∙ begun;
 }
 
@@ -49,7 +51,7 @@ and_both false b e = absurd (cc)
 
 -- commands that come to nothing after a success
 pub idle_items : (is : List Item) (s : Running) → s.rest ≡ is → s.last ≡ ok → list_all is_idle_item is ≡ true → Reaches s s.passed
-idle_items [] s rest well idle = record { there = s; passes = here s; passed = refl; none = rest; well = well; same_code = refl; same_depth = refl; same_begun = refl }
+idle_items [] s rest well idle = record { there = s; passes = here s; passed = refl; none = rest; well = well; same_code = refl; same_depth = refl; same_base = refl; same_begun = refl }
 idle_items (i ∷ behind) s rest well idle =
     let both = and_both (is_idle_item i) (list_all is_idle_item behind) idle in
     let rest1 : drop 1 s.rest ≡ behind = ap (drop 1) rest in
@@ -57,11 +59,11 @@ idle_items (i ∷ behind) s rest well idle =
       | inl e ↦
           let words : i.words ≡ [] = no_word i.words (subst (λ b. (b || has_no_words i) ≡ true) e.1 both.0) in
           let runs : lets_run i.join s.last ≡ true = ap (lets_run i.join) well ∙ e.0 in
-          reaches_by s (with_result (behind_command s) ok) s.passed (runs_command s i behind [] rest runs words) refl refl refl
+          reaches_by s (with_result (behind_command s) ok) s.passed (runs_command s i behind [] rest runs words) refl refl refl refl
           (idle_items behind (with_result (behind_command s) ok) rest1 refl both.1)
       | inr e ↦
           let stops : lets_run i.join s.last ≡ false = ap (lets_run i.join) well ∙ e.0 in
-          reaches_by s (behind_command s) s.passed (passes_command s i behind rest stops) refl refl refl
+          reaches_by s (behind_command s) s.passed (passes_command s i behind rest stops) refl refl refl refl
           (idle_items behind (behind_command s) rest1 well both.1)
     ]
 
@@ -79,15 +81,15 @@ idle_all (i ∷ others) e =
 -- one line
 idle_line : (line : Line) (s : Running) → is_idle_line line ≡ true → s.rest ≡ [] → s.last ≡ ok → coming s ≡ line_comes s (Some line) → Reaches s (s.passed + 1)
 idle_line (label name) s idle rest well comes =
-    reaches_by s (onto_line s []) (s.passed + 1) comes refl refl refl (idle_items [] (onto_line s []) refl well refl)
+    reaches_by s (onto_line s []) (s.passed + 1) comes refl refl refl refl (idle_items [] (onto_line s []) refl well refl)
 idle_line empty s idle rest well comes =
-    reaches_by s (onto_line s []) (s.passed + 1) comes refl refl refl (idle_items [] (onto_line s []) refl well refl)
+    reaches_by s (onto_line s []) (s.passed + 1) comes refl refl refl refl (idle_items [] (onto_line s []) refl well refl)
 idle_line (list text) s idle rest well comes = by (items text) refl idle
   where
     by : (cut : Option (List Item)) → items text ≡ cut → is_idle_cut cut ≡ true → Reaches s (s.passed + 1)
     by None e idle = absurd (cc)
     by (Some is) e idle =
-        reaches_by s (onto_line s is) (s.passed + 1) (comes ∙ ap (list_comes s) e) refl refl refl (idle_items is (onto_line s is) refl well (idle_all is idle))
+        reaches_by s (onto_line s is) (s.passed + 1) (comes ∙ ap (list_comes s) e) refl refl refl refl (idle_items is (onto_line s is) refl well (idle_all is idle))
 
 within_some : (code : List Line) (i : ℕ) → i < length code → (line : Line) × (slice_get code i ≡ Some line)
 within_some code i h = (get_or code i empty, slice_get-get_or code i empty h)
@@ -111,6 +113,7 @@ idle_lines (suc n) s rest well few idle =
       well = next.well;
       same_code = next.same_code ∙ first.same_code;
       same_depth = next.same_depth ∙ first.same_depth;
+      same_base = next.same_base ∙ first.same_base;
       same_begun = next.same_begun ∙ first.same_begun;
     }
   where
@@ -130,7 +133,7 @@ pub passes_to : (s : Running) (line : ℕ) (is : List Item) (r : Reaches s line)
     PassesOn s (with_result (onto_line (behind_lines s line) is) ok)
 passes_to s line is r comes =
     let t = with_result (onto_line (behind_lines s line) is) ok in
-    let same : onto_line r.there is ≡ t = rw (r.passed, r.well, r.same_code, r.same_depth, r.same_begun) refl in
+    let same : onto_line r.there is ≡ t = rw (r.passed, r.well, r.same_code, r.same_depth, r.same_base, r.same_begun) refl in
     ends_with s r.there t r.passes (comes ∙ ap passing same)
   where
     ends_with : (a b c : Running) → PassesOn a b → coming b ≡ passing c → PassesOn a c

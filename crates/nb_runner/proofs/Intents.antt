@@ -1,5 +1,5 @@
 -- What a command that asks for something does at once: for a lease the device is set up, or it is refused.
-use Rattle.std.proofs.Common.{◌≡◌, ℕ, Bool, true, List, Option, Result, Ok, Err, refl, sym, ◌∙◌, ap, subst}
+use Rattle.std.proofs.Common.{◌≡◌, ℕ, Bool, true, List, Option, None, Result, Ok, Err, refl, sym, ◌∙◌, ap}
 use Rattle.nb_terms.specs.declared.cause.Cause.{Cause}
 use Rattle.nb_defs.specs.Commands.{refused}
 use Rattle.nb_command.specs.declared.command_plan.CommandPlan.{CommandPlan}
@@ -12,13 +12,10 @@ use Rattle.nb_command.specs.declared.state.State.{State}
 use Rattle.nb_command.specs.Applying.{applied, with_up}
 use Rattle.nb_command.specs.Device.{device_change}
 use Rattle.nb_command.specs.Failures.{apply_cause}
-use Rattle.nb_runner.specs.CommandWords.{IsForLease, IsForInquiry}
-use Rattle.nb_settings.specs.Tables.{TableLists}
-use Rattle.nb_machine.specs.Errands.{Wanted}
-use Rattle.nb_machine.specs.Effects.{Effect, says, asks, goes, sleeps, shuts_device, inquires, device_effect, plan_effect, plan_table, plan_up, set_up, unless_full}
+use Rattle.nb_runner.specs.CommandWords.{IsForLease}
+use Rattle.nb_machine.specs.Effects.{says, inquires, device_effect, plan_effect, plan_table, plan_up, set_up, unless_full}
 use Rattle.nb_machine.specs.Queries.{for_lease}
 use Rattle.nb_runner.specs.World.{state_of}
-use Rattle.nb_machine.proofs.Eithers.{full_either, pinged_either, looked_up_either}
 use Rattle.nb_runner.proofs.CommandLaws.{IsRefusedSo, Answered, same_outcome, same_cause}
 
 -- a command that asks for a lease has set the device up
@@ -35,7 +32,7 @@ set_up_so device o s s' (Ok up) is e =
     }
 set_up_so device o s s' (Err why) is e = absurd (cc)
 
-pub sets_up : (p : CommandPlan) (o : Outcome) (s s' : State) → IsForLease p → applied p s ≡ Ok (o, s') → HasSetUp p s s'
+pub sets_up : (p : CommandPlan) (o : Outcome) (s s' : State) → IsForLease p → applied p None s ≡ Ok (o, s') → HasSetUp p s s'
 unfolding applied
 sets_up (plan.Dhcp device) o s s' here e = set_up_so device o s s' (device_change device true) refl e
 sets_up (plan.Echo newline text) o s s' here e = absurd here
@@ -47,8 +44,7 @@ sets_up (plan.Set name value) o s s' here e = absurd here
 sets_up (plan.Clear name) o s s' here e = absurd here
 sets_up (plan.Show name) o s s' here e = absurd here
 sets_up (plan.Inc name by) o s s' here e = absurd here
-sets_up (plan.Fetch uri) o s s' here e = absurd here
-sets_up (plan.Exec uri) o s s' here e = absurd here
+sets_up (plan.Images command) o s s' here e = absurd here
 sets_up (plan.Ifopen device) o s s' here e = absurd here
 sets_up (plan.Ifclose device) o s s' here e = absurd here
 sets_up (plan.Sleep seconds) o s s' here e = absurd here
@@ -66,7 +62,7 @@ refused_so device s cause (Err why) is e =
       up_stays = ap (set_up s.up) is;
     }
 
-pub refuses_lease : (p : CommandPlan) (s : State) (cause : Cause) → IsForLease p → applied p s ≡ Err cause → IsRefusedSo p s cause
+pub refuses_lease : (p : CommandPlan) (s : State) (cause : Cause) → IsForLease p → applied p None s ≡ Err cause → IsRefusedSo p s cause
 unfolding applied
 refuses_lease (plan.Dhcp device) s cause here e = refused_so device s cause (device_change device true) refl e
 refuses_lease (plan.Echo newline text) s cause here e = absurd here
@@ -78,46 +74,9 @@ refuses_lease (plan.Set name value) s cause here e = absurd here
 refuses_lease (plan.Clear name) s cause here e = absurd here
 refuses_lease (plan.Show name) s cause here e = absurd here
 refuses_lease (plan.Inc name by) s cause here e = absurd here
-refuses_lease (plan.Fetch uri) s cause here e = absurd here
-refuses_lease (plan.Exec uri) s cause here e = absurd here
+refuses_lease (plan.Images command) s cause here e = absurd here
 refuses_lease (plan.Ifopen device) s cause here e = absurd here
 refuses_lease (plan.Ifclose device) s cause here e = absurd here
 refuses_lease (plan.Sleep seconds) s cause here e = absurd here
 refuses_lease (plan.Ping text) s cause here e = absurd here
 refuses_lease (plan.Nslookup setting text) s cause here e = absurd here
-
--- what asks for no file
-abbrev IsNoFetch : Effect → Type 0
-IsNoFetch (asks wanted) = ⊥
-IsNoFetch (says o) = Unit {0}
-IsNoFetch (goes name) = Unit {0}
-IsNoFetch (sleeps seconds) = Unit {0}
-IsNoFetch shuts_device = Unit {0}
-IsNoFetch (inquires q) = Unit {0}
-
-lease_fetches_not : (opens : ℕ) (r : Result Bool ApplyError) → IsNoFetch (device_effect (unless_full opens (inquires for_lease)) r)
-lease_fetches_not opens (Ok up) = full_either IsNoFetch (λ o. tt) opens (inquires for_lease) tt
-lease_fetches_not opens (Err why) = tt
-
-plan_fetches_not : (opens : ℕ) (table : TableLists) (p : CommandPlan) → IsForInquiry p → IsNoFetch (plan_effect opens table p)
-plan_fetches_not opens table (plan.Dhcp device) here = lease_fetches_not opens (device_change device true)
-plan_fetches_not opens table (plan.Ping text) here = pinged_either IsNoFetch (λ o. tt) (λ q. tt) opens table text
-plan_fetches_not opens table (plan.Nslookup setting text) here = looked_up_either IsNoFetch (λ o. tt) (λ q. tt) opens table setting text
-plan_fetches_not opens table (plan.Echo newline text) here = absurd here
-plan_fetches_not opens table (plan.Goto label) here = absurd here
-plan_fetches_not opens table (plan.Exit n) here = absurd here
-plan_fetches_not opens table (plan.Isset word) here = absurd here
-plan_fetches_not opens table (plan.Iseq a b) here = absurd here
-plan_fetches_not opens table (plan.Set name value) here = absurd here
-plan_fetches_not opens table (plan.Clear name) here = absurd here
-plan_fetches_not opens table (plan.Show name) here = absurd here
-plan_fetches_not opens table (plan.Inc name by) here = absurd here
-plan_fetches_not opens table (plan.Fetch uri) here = absurd here
-plan_fetches_not opens table (plan.Exec uri) here = absurd here
-plan_fetches_not opens table (plan.Ifopen device) here = absurd here
-plan_fetches_not opens table (plan.Ifclose device) here = absurd here
-plan_fetches_not opens table (plan.Sleep seconds) here = absurd here
-
--- a command that asks for an exchange fetches nothing
-pub inquiry_fetches_not : (opens : ℕ) (table : TableLists) (p : CommandPlan) (wanted : Wanted) → IsForInquiry p → plan_effect opens table p ≡ asks wanted → ⊥
-inquiry_fetches_not opens table p wanted here e = subst IsNoFetch e (plan_fetches_not opens table p here)

@@ -2,6 +2,7 @@ pub mod Comings
 pub mod CommandLaws
 pub mod HandingLemmas
 pub mod Idles
+pub mod ImageLaws
 pub mod Intents
 pub mod Joins
 pub mod Measures

@@ -3,6 +3,8 @@ use Rattle.std.specs.Prelude.{ℕ, ◌<◌, ◌≤◌, length, IfSome}
 use Rattle.nb_defs.specs.Causes.{ok}
 use Rattle.nb_defs.specs.Commands.{CommandOutcome, refused, prints_text}
 use Rattle.nb_tftpmsg.specs.Texts.{HasNoZero}
+use Rattle.nb_imagecmd.specs.declared.asking.Asking.{Asking}
+use Rattle.nb_imagecmd.specs.Asking.{MayBeFetched, target_path}
 use Rattle.nb_command.specs.declared.command_plan.CommandPlan.{CommandPlan}
 use Rattle.nb_command.specs.declared.command_plan.CommandPlan.TheVariants as plan
 use Rattle.nb_command.specs.declared.outcome.Outcome.{Outcome}
@@ -13,7 +15,6 @@ use Rattle.nb_machine.specs.Errands as defs
 use Rattle.nb_runner.specs.declared.command.Deed.{Deed}
 use Rattle.nb_runner.specs.declared.command.Deed.TheVariants as deed
 use Rattle.nb_runner.specs.declared.errand.Wanted.{Wanted}
-use Rattle.nb_machine.specs.declared.remote_file.RemoteFile.{RemoteFile}
 use Rattle.nb_runner.specs.declared.errand.Errand.{Errand}
 use Rattle.nb_runner.specs.declared.errand.Errand.TheVariants as errand
 use Rattle.nb_runner.specs.declared.errand.Onward.{Onward}
@@ -22,11 +23,11 @@ use Rattle.nb_runner.specs.declared.command.Done.{Done}
 
 -- a file that is asked for
 abbrev pub wanted_of : Wanted → defs.Wanted
-wanted_of w = defs.wanted_at w.file w.server.0
+wanted_of w = record { server = w.server.0; asking = w.asking }
 
 -- what is asked of a server, before its address is known and after that
 abbrev pub errand_of : Errand → defs.Errand
-errand_of (errand.File file) = defs.fetches_then file
+errand_of (errand.File asking) = defs.fetches_then asking
 errand_of errand.Echo = defs.echoes_then
 
 abbrev pub onward_of : Onward → defs.Onward
@@ -49,11 +50,11 @@ outcome_effect (outcome.Text text) = says (prints_text text)
 outcome_effect (outcome.Goto label) = goes label
 outcome_effect (outcome.Leave n) = says (leaves_with n)
 outcome_effect (outcome.Wait (job.Sleep seconds)) = sleeping_for seconds
-outcome_effect (outcome.Wait (job.Fetch target name after)) = says (refused ok)
 outcome_effect (outcome.Wait job.Lease) = says (refused ok)
 outcome_effect (outcome.Wait (job.Ping text)) = says (refused ok)
 outcome_effect (outcome.Wait (job.Lookup setting text)) = says (refused ok)
 outcome_effect outcome.Down = shuts_device
+outcome_effect (outcome.Images o) = says (refused ok)
 
 -- what it prints has at most so many bytes
 abbrev pub PrintsAtMost : Deed → ℕ → Type 0
@@ -79,8 +80,7 @@ IsLocal (plan.Sleep seconds) = Unit {0}
 IsLocal (plan.Dhcp device) = ⊥
 IsLocal (plan.Ping text) = ⊥
 IsLocal (plan.Nslookup setting text) = ⊥
-IsLocal (plan.Fetch uri) = ⊥
-IsLocal (plan.Exec uri) = ⊥
+IsLocal (plan.Images command) = ⊥
 
 -- a plan that asks for a lease
 abbrev pub IsForLease : CommandPlan → Type 0
@@ -94,8 +94,7 @@ IsForLease (plan.Set name value) = ⊥
 IsForLease (plan.Clear name) = ⊥
 IsForLease (plan.Show name) = ⊥
 IsForLease (plan.Inc name by) = ⊥
-IsForLease (plan.Fetch uri) = ⊥
-IsForLease (plan.Exec uri) = ⊥
+IsForLease (plan.Images command) = ⊥
 IsForLease (plan.Ifopen device) = ⊥
 IsForLease (plan.Ifclose device) = ⊥
 IsForLease (plan.Sleep seconds) = ⊥
@@ -116,8 +115,7 @@ IsForInquiry (plan.Set name value) = ⊥
 IsForInquiry (plan.Clear name) = ⊥
 IsForInquiry (plan.Show name) = ⊥
 IsForInquiry (plan.Inc name by) = ⊥
-IsForInquiry (plan.Fetch uri) = ⊥
-IsForInquiry (plan.Exec uri) = ⊥
+IsForInquiry (plan.Images command) = ⊥
 IsForInquiry (plan.Ifopen device) = ⊥
 IsForInquiry (plan.Ifclose device) = ⊥
 IsForInquiry (plan.Sleep seconds) = ⊥
@@ -133,26 +131,30 @@ IsLocalOutcome outcome.Down = Unit {0}
 IsLocalOutcome (outcome.Wait job.Lease) = ⊥
 IsLocalOutcome (outcome.Wait (job.Ping text)) = ⊥
 IsLocalOutcome (outcome.Wait (job.Lookup setting text)) = ⊥
-IsLocalOutcome (outcome.Wait (job.Fetch target name after)) = ⊥
+IsLocalOutcome (outcome.Images o) = ⊥
 
--- an open may be made, and the file's path and name are of the sizes that a transfer and an image take
+-- a file that is asked for of a TFTP server: its path is one that a transfer takes, and its name and arguments are an image's
+pub record FitsFile (asking : Asking) : Type 0 where
+  pub clean : HasNoZero (target_path asking.target)
+  pub path : length (target_path asking.target) ≤ 1024
+  pub name : length asking.name ≤ 255
+  pub args : length asking.args ≤ 4160
+
+-- an open may be made for it
 pub record CanFetch (opens : ℕ) (w : Wanted) : Type 0 where
   pub few : opens < 16384
-  pub clean : HasNoZero w.file.path
-  pub path : length w.file.path ≤ 1024
-  pub name : length w.file.name ≤ 255
+  pub fits : FitsFile w.asking
 
--- the same of a file, wherever its server is
-pub record FitsFile (file : RemoteFile) : Type 0 where
-  pub clean : HasNoZero file.path
-  pub path : length file.path ≤ 1024
-  pub name : length file.name ≤ 255
+-- a file that a command asks for
+pub record IsAskedWell (asking : Asking) : Type 0 where
+  pub fetched : MayBeFetched asking
+  pub args : length asking.args ≤ 4160
 
 -- a file that is asked for fits
 abbrev pub FitsErrand : Errand → Type 0
-FitsErrand (errand.File file) = FitsFile file
+FitsErrand (errand.File asking) = FitsFile asking
 FitsErrand errand.Echo = Unit {0}
 
 abbrev pub FitsOnward : Onward → Type 0
-FitsOnward (onward.File wanted) = FitsFile wanted.file
+FitsOnward (onward.File wanted) = FitsFile wanted.asking
 FitsOnward (onward.Echo server) = Unit {0}

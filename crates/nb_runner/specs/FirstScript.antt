@@ -1,8 +1,6 @@
 -- How the first script's text is read.
 use Rattle.std.specs.Prelude.{◌≡◌, ℕ, List, Some}
-use Rattle.nb_defs.specs.ScriptLines.{Line, script, no_script, script_too_long, line_too_long}
-use Rattle.nb_script.specs.declared.error.ScriptError.{ScriptError}
-use Rattle.nb_script.specs.declared.error.ScriptError.TheVariants as error
+use Rattle.nb_defs.specs.ScriptLines.{Line, script}
 use Rattle.nb_machine.specs.FirstText.{first_reading, text_refusal}
 use Rattle.nb_machine.specs.Running.{Running, first_script}
 use Rattle.nb_runner.specs.declared.first_script.Unread.{Unread}
@@ -18,11 +16,3 @@ pub record RunsFirst (bytes : List ℕ) (s : Running) : Type 0 where
 abbrev pub IsRefusalOf : List ℕ → Unread → Type 0
 IsRefusalOf bytes (text.Refused cause) = text_refusal (first_reading bytes) ≡ Some cause
 IsRefusalOf bytes text.NoMemory = Unit {0}
-
--- the cause of an error of a text
-abbrev pub IsUnread : ScriptError → Unread → Type 0
-IsUnread error.NotScript (text.Refused cause) = Some cause ≡ text_refusal no_script
-IsUnread error.ScriptTooLong (text.Refused cause) = Some cause ≡ text_refusal script_too_long
-IsUnread error.LineTooLong (text.Refused cause) = Some cause ≡ text_refusal line_too_long
-IsUnread error.NoMemory text.NoMemory = Unit {0}
-IsUnread _ _ = ⊥

@@ -1,6 +1,7 @@
 pub mod CommandWords
 pub mod FirstScript
 pub mod Handings
+pub mod ImageDeeds
 pub mod Intents
 pub mod NextCommand
 pub mod StatusNumber

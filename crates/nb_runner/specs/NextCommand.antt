@@ -19,6 +19,7 @@ list_of empty = None
 -- a command of these words, expanded or not, may begin
 pub record IsReady (s : Running) (ws : List (List ℕ)) : Type 0 where
   pub early : s.begun < 4096
+  pub short : length s.code ≤ 1048576
   pub there : 0 < length s.rest
   pub few : length ws ≤ 64
   pub total : sum_by length ws ≤ 4096
@@ -60,6 +61,7 @@ pub record IsLeft (s : Running) (cause : Cause) : Type 0 where
   pub passes : PassesOn s last
   pub comes : coming last ≡ leaving cause
   pub same_depth : last.depth ≡ s.depth
+  pub same_begun : last.begun ≡ s.begun
 
 -- what the expansion of a command's words is
 abbrev pub IsExpansion : Next → TableLists → List (List ℕ) → Type 0

@@ -104,7 +104,7 @@ fn deed_of(outcome: Outcome) -> Deed
         Outcome::Leave(n) => Deed::Ends(Done::leaving(n)),
         Outcome::Wait(Job::Sleep(seconds)) => Deed::Sleeps(seconds),
         Outcome::Down => Deed::Shuts,
-        Outcome::Wait(Job::Fetch { .. } | Job::Lease | Job::Ping { .. } | Job::Lookup { .. }) => {
+        Outcome::Wait(Job::Lease | Job::Ping { .. } | Job::Lookup { .. }) | Outcome::Images(_) => {
             unreachable!()
         }
     }
@@ -118,7 +118,7 @@ pub fn carry_out(alloc: Global, plan: &CommandPlan, state: &mut State) -> Result
     ensures same { OnErr result (state.new ≡ state.old) }
     ensures printed { IfOk result (λ deed. PrintsAtMost deed (most_printed plan.now)) }
 {
-    match apply(alloc, plan, state) {
+    match apply(alloc, plan, None, state) {
         Ok(outcome) => Ok(deed_of(outcome)),
         Err(cause) if cause == Plain::NoMemory.cause() => Err(NoMemory),
         Err(cause) => Ok(Deed::Ends(Done::with(cause))),

@@ -1,10 +1,12 @@
 //! What a command fetches or asks, before its server's address is known and after that.
 
 ghost use Rattle.std.specs.Prelude.{◌≡◌};
+ghost use Rattle.nb_imagecmd.specs.Asking.{target_host, target_path, target_port};
 ghost use Rattle.nb_runner.specs.CommandWords.{errand_of, onward_of, FitsErrand, FitsOnward};
 ghost use Rattle.nb_machine.specs.Errands.{onward};
 
-use nb_machine::RemoteFile;
+use nb_imagecmd::Asking;
+use nb_uri::UriTarget;
 use nb_wire::Ip4;
 
 /// A file that a command asks for, of a server whose address is known.
@@ -13,14 +15,14 @@ pub struct Wanted {
     /// The address of the server.
     pub server: Ip4,
     /// The file.
-    pub file: RemoteFile,
+    pub asking: Asking,
 }
 
 /// What is asked of a server whose name is looked up first.
 #[derive(Drop)]
 pub enum Errand {
     /// This file of it is fetched.
-    File(RemoteFile),
+    File(Asking),
     /// It is asked for an echo (RFC 792).
     Echo,
 }
@@ -41,8 +43,43 @@ impl Errand {
         ensures fits { FitsErrand self → FitsOnward result }
     {
         match self {
-            Errand::File(file) => Onward::File(Wanted { server, file }),
+            Errand::File(asking) => Onward::File(Wanted { server, asking }),
             Errand::Echo => Onward::Echo(server),
         }
+    }
+}
+
+impl Wanted {
+    /// The port at which the server is asked.
+    pub fn port(&self) -> u16
+        ensures { result ≡ target_port self.now.asking.target }
+    {
+        match &self.asking.target {
+            UriTarget::Tftp { port, .. } => *port,
+            UriTarget::Http { port, .. } => *port,
+            UriTarget::Iscsi { port, .. } => *port,
+        }
+    }
+
+    /// What the server is asked for.
+    pub fn path(&self) -> &[u8]
+        ensures { result.now ≡ target_path self.now.asking.target }
+    {
+        match &self.asking.target {
+            UriTarget::Tftp { path, .. } => path.as_slice(),
+            UriTarget::Http { path, .. } => path.as_slice(),
+            UriTarget::Iscsi { name, .. } => name.as_slice(),
+        }
+    }
+}
+
+/// The server that a URI names, by its address or its name.
+pub(crate) fn host_of(target: &UriTarget) -> &[u8]
+    ensures { result.now ≡ target_host target.now }
+{
+    match target {
+        UriTarget::Tftp { host, .. } => host.as_slice(),
+        UriTarget::Http { host, .. } => host.as_slice(),
+        UriTarget::Iscsi { host, .. } => host.as_slice(),
     }
 }

@@ -1,14 +1,12 @@
 //! How the first script's text is read.
 
 ghost use Rattle.std.specs.Prelude.{◌≡◌, IfOk, IfErr};
-ghost use Rattle.nb_script.specs.Errors.{IsOfText};
 ghost use Rattle.nb_machine.specs.FirstText.{first_text};
-ghost use Rattle.nb_runner.specs.FirstScript.{RunsFirst, IsRefusalOf, IsUnread};
+ghost use Rattle.nb_runner.specs.FirstScript.{RunsFirst, IsRefusalOf};
 
 use crate::RunningScript;
 use nb_record::{Cause, NoMemory};
-use nb_script::{Script, ScriptError};
-use nb_terms::{Long, Plain, Reason};
+use nb_scripts::{TextRead, read_text};
 use nb_wire::Text;
 use std::alloc::Global;
 
@@ -30,19 +28,6 @@ pub enum Unread {
     NoMemory,
 }
 
-/// The cause of a text that is refused.
-fn refused_text(error: ScriptError) -> Unread
-    requires { IsOfText error }
-    ensures { IsUnread error result }
-{
-    match error {
-        ScriptError::ScriptTooLong => Unread::Refused(Cause::from(Reason::TooLong(Long::Script))),
-        ScriptError::LineTooLong => Unread::Refused(Cause::from(Reason::TooLong(Long::Line))),
-        ScriptError::NoMemory => Unread::NoMemory,
-        _ => Unread::Refused(Plain::NotScript.cause()),
-    }
-}
-
 /// The first script's text: START's, or where that is empty the one that is built in.
 fn first_text<'a>(given: &'a [u8]) -> &'a [u8]
     ensures { result.now ≡ first_text given.now }
@@ -58,11 +43,12 @@ pub fn read_script(alloc: Global, given: &[u8]) -> Result<RunningScript, Unread>
     let Ok(copy) = Vec::from_slice(alloc, first_text(given)) else {
         return Err(Unread::NoMemory);
     };
-    match Script::read(alloc, Text::from_vec(copy)) {
-        Ok(script) => match RunningScript::first(alloc, script) {
+    match read_text(alloc, Text::from_vec(copy)) {
+        Ok(TextRead::Runs(script)) => match RunningScript::first(alloc, script) {
             Ok(script) => Ok(script),
             Err(NoMemory) => Err(Unread::NoMemory),
         },
-        Err(error) => Err(refused_text(error)),
+        Ok(TextRead::Refused(cause)) => Err(Unread::Refused(cause)),
+        Err(NoMemory) => Err(Unread::NoMemory),
     }
 }

@@ -3,29 +3,27 @@
 ghost use Rattle.std.specs.Prelude.{◌≡◌, ◌<◌, ◌≤◌, ◌==◌, ◌++◌, ◌∷◌, ℕ, List, length, true, false, Some, None, Ok, IfOk, OnOk, OnErr};
 ghost use Rattle.nb_settings.specs.Tables.{look};
 ghost use Rattle.nb_settings.specs.declared.setting.OwnedKey.TheVariants.{Tag};
-ghost use Rattle.nb_runner.specs.CommandWords.{errand_of, onward_of, FitsErrand, FitsOnward, IsForInquiry, IsForLease};
-ghost use Rattle.nb_tftpmsg.specs.Texts.{HasNoZero};
-ghost use Rattle.nb_machine.specs.Effects.{at_host, fetch, fetched, inquires, looked_up_effect, name_effect, named_host, onward_effect, plan_effect, plan_table, plan_up, unless_full};
-ghost use Rattle.nb_runner.specs.Intents.{query_of, intent_effect, looked_up_table, CanAsk, MayAsk};
+ghost use Rattle.nb_runner.specs.CommandWords.{errand_of, onward_of, FitsErrand, FitsOnward, IsAskedWell, IsForInquiry, IsForLease};
+ghost use Rattle.nb_machine.specs.Effects.{Surroundings, asked_effect, at_host, inquires, looked_up_effect, name_effect, named_host, onward_effect, plan_effect, plan_table, plan_up, unless_full};
+ghost use Rattle.nb_runner.specs.Intents.{query_of, intent_effect, is_of_tftp, looked_up_table, CanAsk, MayAsk};
 ghost use Rattle.nb_machine.specs.Queries.{dns_in, with_domain, domain_bytes};
 ghost use Rattle.nb_runner.specs.World.{IsLinked, state_of, with_state, world_with};
 
 use crate::World;
 use crate::command::{MAX_OPENS, full_opens};
-use crate::errand::{Errand, Onward, Wanted};
+use crate::errand::{Errand, Onward, Wanted, host_of};
 use crate::query::Query;
 use crate::settings::DNS;
 use crate::texts::copy;
 use nb_command::{
-    ApplyError, CommandPlan, Located, State, apply, locate, nonzero, put_address, refuses_address,
-    setting_address,
+    ApplyError, CommandPlan, State, apply, nonzero, put_address, refuses_address, setting_address,
 };
 use nb_dns::is_name;
-use nb_machine::RemoteFile;
+use nb_imagecmd::Asking;
 use nb_record::{Cause, NoMemory};
 use nb_settings::{Key, Table};
 use nb_terms::Plain;
-use nb_uri::number;
+use nb_uri::{UriTarget, number};
 use nb_wire::{Ip4, Text};
 use std::alloc::Global;
 
@@ -190,7 +188,7 @@ fn intend_lease(
     ensures after { OnOk result (state.new ≡ state_of (plan_table plan.now state.old.table) state.old.images (plan_up plan.now state.old.up)) }
     ensures same { OnErr result (state.new ≡ state.old) }
 {
-    match apply(alloc, plan, state) {
+    match apply(alloc, plan, None, state) {
         Ok(_) => Ok(unless_full(opens, Query::Lease)),
         Err(cause) if cause == Plain::NoMemory.cause() => Err(NoMemory),
         Err(cause) => Ok(Intent::Over(cause)),
@@ -224,51 +222,37 @@ fn intend_address(
     }
 }
 
-/// What a command comes to that fetches a file that was located.
-fn fetch_located(
+/// What a command comes to that asks for a file.
+pub(crate) fn intend_file(
     alloc: Global,
     opens: u16,
-    boots: bool,
     table: &Table,
-    file: Located,
+    asking: Asking,
 ) -> Result<Intent, NoMemory>
     requires few { opens ≤ 16384 }
-    requires clean { HasNoZero file.path }
-    requires fits { (length file.path ≤ 1024) × (length file.name ≤ 255) }
-    ensures value { IfOk result (λ i. intent_effect i ≡ fetched opens boots table.now (Ok file)) }
+    requires fits { IsAskedWell asking }
+    ensures value { (x : Surroundings) → x.opens ≡ opens → x.table ≡ table.now → IfOk result (λ i. intent_effect i ≡ asked_effect asking.target x asking) }
     ensures may { IfOk result (λ i. MayAsk opens i) }
 {
-    let Located {
-        host,
-        port,
-        path,
-        name,
-        whole,
-    } = file;
-    let errand = Errand::File(RemoteFile {
-        port,
-        path,
-        name,
-        uri: whole,
-        boots,
-    });
-    intend_host(alloc, opens, table, host.as_slice(), errand)
+    if !is_of_tftp(&asking.target) {
+        return Ok(Intent::Over(Plain::NoScheme.cause()));
+    }
+    let host = copy(alloc, host_of(&asking.target))?;
+    intend_host(alloc, opens, table, host.as_slice(), Errand::File(asking))
+}
+
+/// Of all servers only those of TFTP are asked yet.
+fn is_of_tftp(target: &UriTarget) -> bool
+    ensures { result ≡ is_of_tftp target.now }
+{
+    match target {
+        UriTarget::Tftp { .. } => true,
+        UriTarget::Http { .. } => false,
+        UriTarget::Iscsi { .. } => false,
+    }
 }
 
 impl World {
-    /// What a command comes to that fetches the file of a URI.
-    pub fn seek(&self, alloc: Global, uri: &[u8], boots: bool) -> Result<Intent, NoMemory>
-        requires few { self.now.opens ≤ 16384 }
-        ensures value { IfOk result (λ i. fetch self.now.opens boots self.now.state.table uri.now ≡ intent_effect i) }
-        ensures may { IfOk result (λ i. MayAsk self.now.opens i) }
-    {
-        match locate(alloc, &self.state.table, uri) {
-            Ok(file) => fetch_located(alloc, self.opens, boots, &self.state.table, file),
-            Err(ApplyError::NoMemory) => Err(NoMemory),
-            Err(why) => Ok(Intent::Over(why.cause())),
-        }
-    }
-
     /// What a command comes to that asks for something by one exchange. What it does at once is done, and the link follows.
     pub fn intend(&mut self, alloc: Global, plan: &CommandPlan) -> Result<Intent, NoMemory>
         requires inquiring { IsForInquiry plan.now }

@@ -8,11 +8,11 @@ ghost use Rattle.nb_settings.specs.Tables.{TableLists};
 ghost use Rattle.nb_script.specs.Shown.{shown_item, FitList};
 ghost use Rattle.nb_script.specs.ShownJoin.{shown_join};
 ghost use Rattle.nb_script.specs.ShownLine.{shown_line, HasAtMost};
-ghost use Rattle.nb_machine.specs.Running.{Running, first_script, kept_result, lets_run, onto_line, behind_lines, behind_command, entered, further, with_result, behind_line, anew};
+ghost use Rattle.nb_machine.specs.Running.{Running, first_script, script_within, script_in_place, lets_run, onto_line, behind_lines, behind_command, entered, further, with_result, behind_line, anew};
 ghost use Rattle.nb_runner.specs.declared.running.Next.TheVariants as next;
 ghost use Rattle.nb_machine.specs.Effects.{shown_as};
 ghost use Rattle.nb_machine.specs.CommandRecords.{command_record, command_records, prints};
-ghost use Rattle.nb_runner.specs.Steps.{Does, GoesTo};
+ghost use Rattle.nb_runner.specs.Steps.{Does, GoesTo, begun_script};
 ghost use Rattle.nb_runner.specs.NextCommand.{IsReady, IsNext, IsExpansion, list_of};
 ghost use Rattle.nb_runner.specs.CommandWords.{done_of};
 
@@ -20,6 +20,7 @@ use crate::command::Done;
 use nb_expand::{ExpandError, expand_words};
 use nb_record::{Cause, Log, NoMemory, OutRec};
 use nb_script::{Item, Join, Script, ScriptError, ScriptLine};
+use nb_scripts::kept_result;
 use nb_settings::Table;
 use nb_terms::{Long, Many, Plain, Reason};
 use nb_wire::{Text, Word, Words};
@@ -35,6 +36,8 @@ const MOST_COMMANDS: u16 = 4096;
 #[derive(Drop)]
 struct Progress {
     depth: u8,
+    /// The URI that it was fetched from.
+    base: Option<Text>,
     script: Script,
     passed: usize,
     rest: VecDeque<Item>,
@@ -59,7 +62,7 @@ impl Model for RunningScript {
 
     ghost Value = { Running };
 
-    ghost view = { λ s. record { depth = s.place.value.depth; code = s.place.value.script; passed = s.place.value.passed; rest = map shown_item s.place.value.rest.items; place = s.place.value.place; last = s.place.value.last; begun = s.place.value.begun } };
+    ghost view = { λ s. record { depth = s.place.value.depth; base = s.place.value.base; code = s.place.value.script; passed = s.place.value.passed; rest = map shown_item s.place.value.rest.items; place = s.place.value.place; last = s.place.value.last; begun = s.place.value.begun } };
 
     ghost invariant = { λ s. (s.place.value.begun ≤ 4096)
         × (s.place.value.passed ≤ length s.place.value.script)
@@ -92,17 +95,6 @@ fn lets_run(join: Join, last: Cause) -> bool
         Join::First | Join::Then => true,
         Join::And => last.code == 0,
         Join::Or => last.code != 0,
-    }
-}
-
-/// A result, as a script keeps it: a success has no numbers.
-fn kept_result(cause: Cause) -> Cause
-    ensures { result ≡ kept_result cause }
-{
-    if cause.code == 0 {
-        Plain::Ok.cause()
-    } else {
-        cause
     }
 }
 
@@ -158,18 +150,98 @@ impl RunningScript {
         requires { length script ≤ 1048576 }
         ensures { IfOk result (λ s. s ≡ first_script script) }
     {
+        RunningScript::begun(alloc, 1, None, script, 0)
+    }
+
+    /// A script of this depth, before its first line, where so many commands began in this step.
+    fn begun(
+        alloc: Global,
+        depth: u8,
+        base: Option<Text>,
+        script: Script,
+        begun: u16,
+    ) -> Result<RunningScript, NoMemory>
+        requires short { length script ≤ 1048576 }
+        requires few { begun ≤ 4096 }
+        ensures { IfOk result (λ s. s ≡ begun_script depth base script begun) }
+    {
         let start = Progress {
-            depth: 1,
+            depth,
+            base,
             script,
             passed: 0,
             rest: VecDeque::new(alloc),
             place: 0,
             last: Plain::Ok.cause(),
-            begun: 0,
+            begun,
         };
         Ok(RunningScript {
             place: Box::new(alloc, start)?,
         })
+    }
+
+    /// A script that was fetched from this URI, before its first line, within this one. It counts this one's commands on.
+    pub fn within(
+        &self,
+        alloc: Global,
+        script: Script,
+        uri: Text,
+    ) -> Result<RunningScript, NoMemory>
+        requires short { length script ≤ 1048576 }
+        requires few { self.now.depth < 8 }
+        ensures same { IfOk result (λ s. s ≡ script_within self.now uri script) }
+        ensures counts { IfOk result (λ s. s.begun ≤ 4096) }
+    {
+        let place: &Progress = &self.place;
+        RunningScript::begun(alloc, place.depth + 1, Some(uri), script, place.begun)
+    }
+
+    /// And in its place.
+    pub fn in_place(
+        &self,
+        alloc: Global,
+        script: Script,
+        uri: Text,
+    ) -> Result<RunningScript, NoMemory>
+        requires { length script ≤ 1048576 }
+        ensures same { IfOk result (λ s. s ≡ script_in_place self.now uri script) }
+        ensures counts { IfOk result (λ s. s.begun ≤ 4096) }
+    {
+        let place: &Progress = &self.place;
+        RunningScript::begun(alloc, place.depth, Some(uri), script, place.begun)
+    }
+
+    /// How many scripts are within one another, with this one.
+    pub fn depth(&self) -> u8
+        ensures { result ≡ self.now.depth }
+    {
+        self.place.depth
+    }
+
+    /// The URI that it was fetched from; the first script has none.
+    pub fn base(&self) -> Option<&[u8]>
+        ensures { option_copied result ≡ self.now.base }
+    {
+        match self.place.base {
+            Some(ref base) => Some(base.as_slice()),
+            None => None,
+        }
+    }
+
+    /// How many commands began in this step.
+    pub fn commands(&self) -> u16
+        ensures value { result ≡ self.now.begun }
+        ensures few { result ≤ 4096 }
+    {
+        self.place.begun
+    }
+
+    /// So many commands began in this step, with those of a script within it.
+    pub fn count_on(&mut self, commands: u16)
+        requires { commands ≤ 4096 }
+        ensures { self.new ≡ record self.old { begun = commands } }
+    {
+        self.place.begun = commands;
     }
 
     /// What the script comes to next, with these settings. A line, or a command that doesn't run or has no words, is
@@ -371,11 +443,11 @@ impl RunningScript {
         ensures { Does (shown_as expanded words.now) (done_of done.now) result self.old self.new log.old log.new }
     {
         self.put_command(expanded, words, done, log);
+        self.enter();
         if done.leaves {
             self.put_leave(done.cause, log);
             return Some(done.cause);
         }
-        self.enter();
         self.end_with(done.cause);
         None
     }

@@ -7,6 +7,7 @@ ghost use Rattle.nb_runner.specs.CommandWords.{deed_effect, IsLocal, PrintsAtMos
 ghost use Rattle.nb_runner.specs.World.{IsLinked, bare_world, world_of, world_with};
 ghost use Rattle.nb_machine.specs.Starting.{own_port};
 
+use crate::OuterScripts;
 use crate::command::{Deed, carry_out};
 use crate::link::address_in;
 use crate::settings::start_table;
@@ -33,6 +34,8 @@ pub struct World {
     pub opens: u16,
     /// Its settings, its images, and whether its device is up.
     pub state: State,
+    /// The scripts outside the one that runs.
+    pub outer: OuterScripts,
 }
 
 /// The first port of an open; the others are the 16,383 after it.
@@ -70,6 +73,7 @@ impl World {
                 images: Images::new(alloc),
                 up: false,
             },
+            outer: OuterScripts::new(alloc),
         };
         world.follow();
         world

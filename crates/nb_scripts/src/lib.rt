@@ -9,9 +9,9 @@ mod laws;
 mod level;
 mod scripts;
 
-pub use entry::Entry;
+pub use entry::{Entry, TextRead, read_text};
 pub use laws::{
     each_script_is_its_own_text, scripts_nest_as_brackets, what_was_left_is_not_returned_to,
 };
-pub use level::Progress;
+pub use level::{Progress, kept_result};
 pub use scripts::{MOST_SCRIPTS, Scripts};

@@ -1,11 +1,9 @@
 //! Commands one after another, their words expanded, on a table with the `mac` of `net0`; and files of URIs.
 
-use nb_command::{
-    ApplyError, Job, Located, Outcome, PlanError, State, apply, locate, plan, put_address,
-    refuses_address,
-};
+use nb_command::{Job, Outcome, PlanError, State, apply, plan, put_address, refuses_address};
 use nb_expand::expand;
 use nb_image::Images;
+use nb_imagecmd::{Asking, ImageOutcome};
 use nb_settings::{Key, Kind, Table};
 use nb_terms::Cause;
 use nb_uri::UriTarget;
@@ -38,10 +36,15 @@ ping 10.0.0.1|ping 10.0.0.1\n\
 nslookup net0/a:hex --b|lookup net0/a:hex --b\n\
 nslookup net9/a b|fails 17\n\
 imgfetch k|fails 15\n\
-imgexec http://10.0.0.1/k|fails 16\n\
-imgexec tftp://10.0.0.1/a/k|fetch 10.0.0.1 a/k k Run\n\
+imgexec http://10.0.0.1/k|asks http://10.0.0.1/k k\n\
+imgexec tftp://10.0.0.1/a/k|asks tftp://10.0.0.1/a/k k\n\
 set next-server 10.0.0.2|done\n\
-imgfetch a/k|fetch 10.0.0.2 a/k k Keep\n\
+imgfetch a/k|asks tftp://10.0.0.2/a/k k\n\
+imgfetch|usage\n\
+imgstat|prints 0\n\
+imgfree|images\n\
+imgfree k|fails 12\n\
+boot|fails 12\n\
 set a one two|done\n\
 show a|text a = one two$\n\
 set a |done\n\
@@ -74,7 +77,8 @@ set dollar $|done\n\
 set again ${dollar}{x}|done\n\
 isset ${again}|done\n";
 
-/// A URI, and the host, the port, the path, the image's name and the whole of its file, with the server 10.0.0.1.
+/// A URI, and the host, the port, the path, the image's name and the whole of its file, in the first script, with the
+/// server 10.0.0.1.
 const FILES: &str = "\
 vmlinuz|10.0.0.1 69 vmlinuz vmlinuz tftp://10.0.0.1/vmlinuz\n\
 /x/k?a#b|10.0.0.1 69 x/k k tftp://10.0.0.1/x/k?a\n\
@@ -85,6 +89,14 @@ tftp://a..b|a..b 69  a..b tftp://a..b\n\
 a%00|fails 15\n\
 tftp:///f|fails 15\n\
 iscsi:10.0.0.1::::iqn.x:t|fails 16\n";
+
+/// The same in a script that was fetched from `tftp://10.0.0.2/d/boot.ipxe`.
+const CHAINED: &str = "\
+vmlinuz|10.0.0.2 69 d/vmlinuz vmlinuz tftp://10.0.0.2/d/vmlinuz\n\
+/k|10.0.0.2 69 k k tftp://10.0.0.2/k\n\
+../k|10.0.0.2 69 k k tftp://10.0.0.2/k\n\
+tftp://10.0.0.3/k|10.0.0.3 69 k k tftp://10.0.0.3/k\n\
+";
 
 /// The words with a space between each two, and a dollar for a line feed.
 fn joined(alloc: Global, words: &[&[u8]]) -> Result<Vec<u8>, Fail> {
@@ -114,6 +126,7 @@ fn shown(alloc: Global, answer: &Result<Outcome, Cause>) -> Result<Vec<u8>, Fail
         Ok(Outcome::Leave(number)) => Ok(format!(in alloc; "leave {number}")?.into_bytes()),
         Ok(Outcome::Down) => joined(alloc, &[b"down"]),
         Ok(Outcome::Wait(job)) => shown_job(alloc, job),
+        Ok(Outcome::Images(outcome)) => shown_images(alloc, outcome),
         Err(cause) => failure(alloc, *cause),
     }
 }
@@ -124,22 +137,25 @@ fn shown_job(alloc: Global, job: &Job) -> Result<Vec<u8>, Fail> {
         Job::Ping { host } => joined(alloc, &[b"ping", host.as_slice()]),
         Job::Lookup { name, host } => joined(alloc, &[b"lookup", name.as_slice(), host.as_slice()]),
         Job::Sleep(seconds) => Ok(format!(in alloc; "sleep {seconds}")?.into_bytes()),
-        Job::Fetch {
-            target: UriTarget::Tftp { host, path, .. },
-            name,
-            after,
-        } => {
-            let after = format!(in alloc; "{after:?}")?;
+    }
+}
+
+fn shown_images(alloc: Global, outcome: &ImageOutcome) -> Result<Vec<u8>, Fail> {
+    match outcome {
+        ImageOutcome::Done => joined(alloc, &[b"images"]),
+        ImageOutcome::Print(lines) => {
+            let count = lines.as_slice().len();
+            Ok(format!(in alloc; "prints {count}")?.into_bytes())
+        }
+        ImageOutcome::Ask(asking) => {
             let words = [
-                b"fetch".as_slice(),
-                host.as_slice(),
-                path.as_slice(),
-                name.as_slice(),
-                after.as_bytes(),
+                b"asks".as_slice(),
+                asking.target.whole(),
+                asking.name.as_slice(),
             ];
             joined(alloc, &words)
         }
-        Job::Fetch { .. } => Err(Fail::new("no file of a TFTP server")),
+        ImageOutcome::Run { .. } | ImageOutcome::Boot => Err(Fail::new("no image is there")),
     }
 }
 
@@ -150,7 +166,7 @@ fn outcome(alloc: Global, state: &mut State, line: &str) -> Result<Vec<u8>, Fail
         words.push(expand(alloc, word.as_bytes(), &state.table)?)?;
     }
     match plan(alloc, words.as_slice()) {
-        Ok(plan) => shown(alloc, &apply(alloc, &plan, state)),
+        Ok(plan) => shown(alloc, &apply(alloc, &plan, None, state)),
         Err(PlanError::Unknown) => joined(alloc, &[b"unknown"]),
         Err(PlanError::Usage) => joined(alloc, &[b"usage"]),
         Err(PlanError::NoMemory) => Err(Fail::new("out of memory")),
@@ -183,25 +199,45 @@ fn line_by_line(rt: HostRuntime) -> Result<(), Fail> {
     Ok(())
 }
 
-fn shown_file(alloc: Global, answer: &Result<Located, ApplyError>) -> Result<Vec<u8>, Fail> {
-    match answer {
-        Ok(file) => {
-            let port = format!(in alloc; "{}", file.port)?;
-            let words = [
-                file.host.as_slice(),
-                port.as_bytes(),
-                file.path.as_slice(),
-                file.name.as_slice(),
-                file.whole.as_slice(),
-            ];
-            joined(alloc, &words)
-        }
-        Err(why) => failure(alloc, why.cause()),
+fn shown_file(alloc: Global, asking: &Asking) -> Result<Vec<u8>, Fail> {
+    let UriTarget::Tftp {
+        host,
+        port,
+        path,
+        whole,
+    } = &asking.target
+    else {
+        return Err(Fail::new("no file of a TFTP server"));
+    };
+    let port = format!(in alloc; "{port}")?;
+    let words = [
+        host.as_slice(),
+        port.as_bytes(),
+        path.as_slice(),
+        asking.name.as_slice(),
+        whole.as_slice(),
+    ];
+    joined(alloc, &words)
+}
+
+/// The file that `imgfetch` asks for by a URI, in a script of this base.
+fn file(alloc: Global, state: &mut State, own: Option<&[u8]>, uri: &str) -> Result<Vec<u8>, Fail> {
+    let mut words: Vec<Word> = Vec::new(alloc);
+    for word in ["imgfetch", uri] {
+        words.push(expand(alloc, word.as_bytes(), &state.table)?)?;
+    }
+    let Ok(plan) = plan(alloc, words.as_slice()) else {
+        return Err(Fail::new("no command"));
+    };
+    match apply(alloc, &plan, own, state) {
+        Ok(Outcome::Images(ImageOutcome::Ask(asking))) => shown_file(alloc, &asking),
+        Ok(_) => Err(Fail::new("no file")),
+        Err(cause) => failure(alloc, cause),
     }
 }
 
 #[test]
-fn files_by_the_next_server(rt: HostRuntime) -> Result<(), Fail> {
+fn files_by_the_base(rt: HostRuntime) -> Result<(), Fail> {
     let alloc = rt.alloc();
     let mut table = Table::new(alloc);
     assert_eq!(rt; refuses_address(b"next-server", &table), None);
@@ -209,9 +245,21 @@ fn files_by_the_next_server(rt: HostRuntime) -> Result<(), Fail> {
         put_address(alloc, b"next-server", Ip4(0x0a00_0001), &mut table),
         Ok(())
     );
+    let images = Images::new(alloc);
+    let mut state = State {
+        table,
+        images,
+        up: true,
+    };
     for row in FILES.lines() {
         let (uri, expected) = row.split_once('|').ok_or("no file")?;
-        let found = shown_file(alloc, &locate(alloc, &table, uri.as_bytes()))?;
+        let found = file(alloc, &mut state, None, uri)?;
+        assert_eq!(rt; found.as_slice(), expected.as_bytes(), "{row}");
+    }
+    let base = b"tftp://10.0.0.2/d/boot.ipxe".as_slice();
+    for row in CHAINED.lines() {
+        let (uri, expected) = row.split_once('|').ok_or("no file")?;
+        let found = file(alloc, &mut state, Some(base), uri)?;
         assert_eq!(rt; found.as_slice(), expected.as_bytes(), "{row}");
     }
     Ok(())

@@ -3,7 +3,7 @@
 
 use nb_image::{Body, Images};
 use nb_imagecmd::{
-    After, Arrival, Asking, ImageCommand, ImageFailure, ImageOutcome, ScriptImage, WordsError,
+    After, Arrival, Asking, ImageCommand, ImageFailure, ImageOutcome, PlanError, ScriptImage,
     arrive, carry_out, read_command, take_script,
 };
 use nb_terms::Cause;
@@ -223,9 +223,9 @@ fn row(alloc: Global, images: &mut Images, line: &str, depth: usize) -> Result<V
     let mut text = Vec::new(alloc);
     match read_command(alloc, words(alloc, line)?.as_slice()) {
         Ok(command) => put_outcome(alloc, &mut text, images, &command, depth)?,
-        Err(WordsError::Unknown) => put(&mut text, &[b"unknown"])?,
-        Err(WordsError::Usage) => put(&mut text, &[b"usage"])?,
-        Err(WordsError::NoMemory) => return Err(Fail::new("out of memory")),
+        Err(PlanError::Unknown) => put(&mut text, &[b"unknown"])?,
+        Err(PlanError::Usage) => put(&mut text, &[b"usage"])?,
+        Err(PlanError::NoMemory) => return Err(Fail::new("out of memory")),
     }
     put(&mut text, &[b"|"])?;
     put_images(&mut text, images)?;
@@ -253,13 +253,13 @@ fn words_that_are_refused(rt: HostRuntime) -> Result<(), Fail> {
         let (line, refusal) = expected.split_once('|').ok_or("no refusal")?;
         let found = match read_command(alloc, words(alloc, line)?.as_slice()) {
             Ok(_) => "none",
-            Err(WordsError::Unknown) => "unknown",
-            Err(WordsError::Usage) => "usage",
-            Err(WordsError::NoMemory) => "out of memory",
+            Err(PlanError::Unknown) => "unknown",
+            Err(PlanError::Usage) => "usage",
+            Err(PlanError::NoMemory) => "out of memory",
         };
         assert_eq!(rt; found, refusal, "{expected}");
     }
-    assert!(rt; matches!(read_command(alloc, &[]), Err(WordsError::Unknown)));
+    assert!(rt; matches!(read_command(alloc, &[]), Err(PlanError::Unknown)));
     Ok(())
 }
 

@@ -1,4 +1,5 @@
 use Rattle.std.proofs.Common.{◌≡◌, true, sym, subst}
+use Rattle.nb_imagecmd.specs.Asking.{target_path}
 use Rattle.nb_nodes.specs.Asking.{is_path}
 use Rattle.nb_runner.specs.CommandWords.{FitsFile}
 use Rattle.nb_client.specs.Soundness.{FitsAsked}
@@ -7,5 +8,5 @@ use Rattle.nb_client.proofs.opening.opening_of.Goals as goal
 
 pub returns-in-File-clause-can : goal.returns-in-File-clause-can
 returns-in-File-clause-can c = λ fits.
-    let file : FitsFile c.in-File.wanted.file = subst FitsAsked c.in-File.is fits in
-    subst (λ path. is_path path ≡ true) (sym c.as_slice.ensures) (path_opens c.in-File.wanted.file.path file.clean file.path)
+    let file : FitsFile c.in-File.wanted.asking = subst FitsAsked c.in-File.is fits in
+    subst (λ path. is_path path ≡ true) (sym c.path.ensures) (path_opens (target_path c.in-File.wanted.asking.target) file.clean file.path)

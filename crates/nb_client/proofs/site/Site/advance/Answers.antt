@@ -1,4 +1,5 @@
 use Rattle.std.proofs.Common.{[], ◌∷◌, subst}
+use Rattle.nb_client.specs.Turning.{LeftTo}
 use Rattle.nb_defs.specs.Records.{leave, out_texts}
 use Rattle.nb_record.specs.Logged.{Puts}
 use Rattle.nb_machine.specs.Running.{Running}
@@ -17,7 +18,10 @@ returns-in-Left-clause-moves c =
     let now = c.args.self.now in
     let is_left = rw c.in-Left.is at c.in_ok-next.ensures in
     let puts = subst (λ (x : Running). Puts c.args.log.now c.leave_with.new.log (out_texts (leave x.depth c.in-Left.cause ∷ []))) is_left.0 c.leave_with.ensures.puts in
-    rw c.leave_with.ensures.stage (left_goes now.used now.world now.opens c.args.script c.in-Left.cause c.requires.sound is_left.1 puts)
+    let gone = c.leave_with.ensures.left in
+    let to : LeftTo c.args.script.begun c.in-Left.cause now.world.outer c.leave_with.result c.leave_with.new.self.world.outer =
+    subst (λ (x : Running). LeftTo x.begun c.in-Left.cause now.world.outer c.leave_with.result c.leave_with.new.self.world.outer) is_left.0 gone.to in
+    rw (gone.used, gone.opens, gone.world) (left_goes now.used now.world c.leave_with.new.self.world.outer now.opens c.args.script c.in-Left.cause c.leave_with.result c.requires.sound is_left.1 to puts)
 
 pub returns-in-Full-clause-moves : goal.returns-in-Full-clause-moves
 returns-in-Full-clause-moves c =

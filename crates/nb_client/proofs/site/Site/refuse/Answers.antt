@@ -11,5 +11,5 @@ returns c =
     let shown = shown_as c.args.expanded c.args.words.now in
     let did : Does shown (refused c.args.cause) c.finish-left.result c.args.script c.finish-left.new.self c.args.log.now c.finish-left.new.log =
     subst (λ (o : CommandOutcome). Does shown o c.finish-left.result c.args.script c.finish-left.new.self c.args.log.now c.finish-left.new.log) c.with.ensures c.finish-left.ensures in
-    ends_goes now.used now.world now.world now.opens c.args.script c.finish-left.new.self c.settled.result shown (refused c.args.cause) c.finish-left.result
+    ends_goes now.world now c.settled.new.self c.args.script c.finish-left.new.self c.settled.result shown (refused c.args.cause) c.finish-left.result
     c.requires.sound c.requires.words.early c.requires.refused did c.settled.ensures

@@ -32,7 +32,7 @@ returns-in-Err-Refused-clause-goes c =
     let cause = c.in-Err-Refused.cause in
     let e = c.enter-in-Err-Refused.ensures in
     let other : text_refusal (first_reading s.script) ≡ Some cause = rw c.in-Err-Refused.field-0-is at c.in-Err-Refused.ensures.refused in
-    let both = Puts-outs (step c.enter-in-Err-Refused.new.self.used ∷ enter 1 ∷ []) (leave 1 cause ∷ []) c.put_entered-in-Err-Refused.ensures c.put_refused.ensures in
-    let puts = subst (λ k. Puts c.args.log.now c.put_refused.new.log (out_texts (step k ∷ enter 1 ∷ leave 1 cause ∷ []))) e.used both in
+    let both = Puts-outs (step c.enter-in-Err-Refused.new.self.used ∷ enter 1 ∷ []) (leave 1 cause ∷ []) c.put_entered-in-Err-Refused.ensures c.put_leave.ensures in
+    let puts = subst (λ k. Puts c.args.log.now c.put_leave.new.log (out_texts (step k ∷ enter 1 ∷ leave 1 cause ∷ []))) e.used both in
     start_goes s now c.enter-in-Err-Refused.new.self (stage.Left cause) (enter 1 ∷ leave 1 cause ∷ []) (left (state_at_start s) [] cause) c.requires.valid c.requires.sound
     e.used (e.world ∙ c.in_ok-world.ensures) e.opens tt (tt, (tt, tt)) puts (refuses now.used s cause c.requires.valid other) (λ are. at_left n (world_of s) now.opens cause [] are)

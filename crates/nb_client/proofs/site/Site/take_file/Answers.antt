@@ -1,26 +1,24 @@
-use Rattle.std.proofs.Common.{◌∷◌, [], subst}
-use Rattle.nb_defs.specs.Causes.{ok}
-use Rattle.nb_defs.specs.Records.{out_texts, result}
-use Rattle.nb_record.specs.Logged.{Puts}
-use Rattle.nb_client.proofs.Conclude.{file_boots, file_keeps, file_fails, if_all}
+use Rattle.std.proofs.Common.{◌≡◌, ℕ, List, [], ◌∙◌, subst}
+use Rattle.std.specs.Prelude.{unwrap_or}
+use Rattle.nb_machine.specs.Conclusions.{conclusion}
+use Rattle.nb_runner.specs.ImageDeeds.{IsConcludedWell, conclusion_of}
+use Rattle.nb_client.specs.Soundness.{snapshot_at}
+use Rattle.nb_client.proofs.Conclude.{file_concludes}
+use Rattle.nb_client.proofs.Results.{if_ok}
 use Rattle.nb_client.proofs.site.Site.take_file.Goals as goal
 
-pub returns-in-Keeps : goal.returns-in-Keeps
-returns-in-Keeps c = λ p asks none.
-    let k = rw (c.in-Keeps.is, c.file_of-body.ensures) at c.in_ok-conclude.ensures in
-    let puts : Puts c.args.out.now c.go_on_with.new.out (out_texts (result ok ∷ [])) = subst (λ z. Puts c.args.out.now c.go_on_with.new.out (out_texts (result z ∷ []))) c.cause.ensures c.go_on_with.ensures.puts in
-    rw (c.go_on_with.ensures.stage, c.cause.ensures)
-    (file_keeps c.args.self.now c.args.script c.args.wanted.now p c.args.ended c.conclude.new.images asks none _ _ k c.requires.sound puts)
-
-pub returns-in-Fails : goal.returns-in-Fails
-returns-in-Fails c = λ p asks none.
-    let k = rw (c.in-Fails.is, c.file_of-body.ensures) at c.in_ok-conclude.ensures in
-    rw (c.go_on_with-in-Fails.ensures.stage, k.kept)
-    (file_fails c.args.self.now c.args.script c.args.wanted.now p c.args.ended c.conclude.new.images asks none c.in-Fails.cause _ _ k c.requires.sound c.go_on_with-in-Fails.ensures.puts)
-
-pub returns-in-Boots : goal.returns-in-Boots
-returns-in-Boots c =
-    let e = c.begin_handing.ensures in
-    if_all c.begin_handing.result (λ st is used shuts p asks none.
-    let k = rw (c.in-Boots.is, c.file_of-body.ensures) at c.in_ok-conclude.ensures in
-    rw is (file_boots c.args.self.now c.args.script c.args.wanted.now p c.args.ended c.conclude.new.images asks none c.in-Boots.kernel c.begin_handing.new.self _ _ k c.requires.sound used shuts)) e.stage e.used e.shuts
+pub returns : goal.returns
+returns c =
+    let now = c.args.self.now in
+    let s = c.args.script in
+    let e = c.args.ended in
+    let wanted = c.args.wanted.now in
+    let before = now.world.state.images in
+    let images = c.conclude.new.images in
+    let what = c.in_ok-conclusion.conclusion in
+    let depth : c.from-depth.result ≡ s.depth = c.from-depth.ensures ∙ c.depth.ensures in
+    let same : conclusion e.cause wanted.asking (unwrap_or e.body []) s.depth before ≡ conclusion_of what images =
+    subst (λ (n : ℕ). conclusion e.cause wanted.asking (unwrap_or e.body []) n before ≡ conclusion_of what images) depth
+    (subst (λ (b : List ℕ). conclusion e.cause wanted.asking b c.from-depth.result before ≡ conclusion_of what images) c.file_of-body.ensures c.in_ok-conclusion.ensures.same) in
+    let well : IsConcludedWell what s.depth before images = subst (λ (n : ℕ). IsConcludedWell what n before images) depth c.in_ok-conclusion.ensures.well in
+    if_ok c.lead.result (λ st l p asks none. file_concludes now s wanted p e images asks none what (snapshot_at c.lead.new.self st) c.args.out.now c.lead.new.out same well l) c.lead.ensures

@@ -1,4 +1,4 @@
-use Rattle.std.proofs.Common.{◌≡◌, ◌<◌, true, false, List, [], ◌∷◌, ℕ, length, map, drop, refl, sym, ◌∙◌, ap, subst, arith, ◌==◌}
+use Rattle.std.proofs.Common.{◌≡◌, ◌<◌, ◌≤◌, true, false, List, [], ◌∷◌, ℕ, length, map, drop, refl, sym, ◌∙◌, ap, subst, arith, ◌==◌}
 use Rattle.std.proofs.lemmas.Bool.{eqb-true}
 use Rattle.nb_script.specs.Shown.{shown_item, IsSmallItem}
 use Rattle.nb_machine.specs.Running.{Running, here, further_on, lets_run}
@@ -84,6 +84,7 @@ returns c =
     expansion_next_ok c.expanded.result c.args.self.now c.args.table.now begins.0 begins.1 c.as_slice-2.result.now begins.2 (c.as_slice-2.ensures ∙ begins.3)
     (record {
       early = rw begun_is early;
+      short = subst (λ (x : Running). length x.code ≤ 1048576) c.self.view_is inv.2;
       there = rw there (omega arith);
       few = rw c.as_slice-2.ensures small.0;
       total = rw c.as_slice-2.ensures small.1;

@@ -17,7 +17,7 @@ returns-then-place-ne0 c = λ table.
     let s = c.args.self.now in
     let last : s.last ≡ c.deref-place.result.now.last = sym (ap (λ (x : Running). x.last) c.self.view_is) ∙ sym (ap (λ (q : Progress). q.last) c.deref-place.ensures) in
     let ill : is_ok_cause s.last ≡ false = ne_eqb s.last.code 0 (λ e. c.if-place-ne0.true (sym (ap (λ x. x.code) last) ∙ e)) in
-    (refl, record { last = s; passes = here s; comes = behind_failure s c.requires ill ∙ ap leaving last; same_depth = refl })
+    (refl, record { last = s; passes = here s; comes = behind_failure s c.requires ill ∙ ap leaving last; same_depth = refl; same_begun = refl })
 
 pub returns-in_default : goal.returns-in_default
 returns-in_default c = λ table.
@@ -32,7 +32,7 @@ returns-in_default c = λ table.
     (λ k low high. subst (λ (xs : List Line). IfSome (slice_get xs k) (λ x. is_idle_line x ≡ true)) code (c.next_busy-busy.ensures.idle k (subst (λ x. x ≤ k) (sym passed) low) high)) in
     let u = r.there in
     let line : slice_get u.code u.passed ≡ None = ap (λ (xs : List Line). slice_get xs u.passed) (r.same_code ∙ sym code) ∙ ap (slice_get p.script) r.passed ∙ sym c.in_default.ensures.value in
-    (refl, record { last = u; passes = r.passes; comes = rw c.cause.ensures (between_lists u None r.none (ap is_ok_cause r.well) line); same_depth = r.same_depth })
+    (refl, record { last = u; passes = r.passes; comes = rw c.cause.ensures (between_lists u None r.none (ap is_ok_cause r.well) line); same_depth = r.same_depth; same_begun = r.same_begun })
 
 pub pass-requires-clause-there : goal.pass-requires-clause-there
 pass-requires-clause-there c =
@@ -113,5 +113,6 @@ returns-in-Err-TooManyWords c = λ table.
             ∙ some_list_comes u (shown_line c.in-Some.line) text (sym c.in-Some-list_on.ensures.value)
             ∙ ap (list_comes u) ((rw c.in-Err-TooManyWords.field-0-is at c.in-Err-TooManyWords.ensures.too_many).0 refl));
         same_depth = r.same_depth;
+        same_begun = r.same_begun;
       },
     )
