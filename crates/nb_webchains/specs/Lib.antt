@@ -1,0 +1,4 @@
+pub mod WebChains
+pub mod Plugs
+pub mod Releases
+pub mod WebCalls

@@ -1,0 +1,10 @@
+// Opens by HTTP on a graph: a Fetch, a fetch by HTTP (RFC 9112) plugged below it, and a connection (RFC 9293) below that,
+// whatever else lives there. Each call gives the outside one list, and says of it what these three do as a graph of
+// their own (specs/WebCalls.antt). A Fetch that waits is a chain of nb_chains. Begin with `WebChain`.
+#![tactic(auto)]
+
+mod making;
+mod plugging;
+mod web_chain;
+
+pub use web_chain::WebChain;
