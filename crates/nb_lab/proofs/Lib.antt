@@ -1,3 +1,0 @@
-pub mod ImageLemmas
-pub mod PageLemmas
-pub mod AnswerLemmas
