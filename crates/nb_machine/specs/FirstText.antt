@@ -1,10 +1,9 @@
 -- What the first script's text is, and what comes of any text that is to run.
 use Rattle.std.specs.Prelude.{ℕ, List, [], ◌∷◌, ◌++◌, Option, Some, None, codes}
 use Rattle.nb_terms.specs.declared.cause.Cause.{Cause}
+use Rattle.nb_defs.specs.Causes.{not_script}
 use Rattle.nb_defs.specs.ScriptLines.{Line, Reading, script, no_script, script_too_long, line_too_long, script_reading}
-use Rattle.nb_scripts.specs.declared.entry.Entry.{Entry}
-use Rattle.nb_scripts.specs.declared.entry.Entry.TheVariants.{Runs, LeftAtOnce, Refused}
-use Rattle.nb_scripts.specs.Moves.{entry_by}
+use Rattle.nb_scripts.specs.Texts.{long_script, long_line}
 
 -- the script that is built in
 unfoldable pub built_in : List ℕ
@@ -20,15 +19,12 @@ first_text (b ∷ bytes) = b ∷ bytes
 abbrev pub first_reading : List ℕ → Reading
 first_reading text = script_reading (first_text text)
 
--- why a text doesn't run that is entered, if it doesn't
-abbrev pub entry_refusal : Entry → Option Cause
-entry_refusal Runs = None
-entry_refusal (LeftAtOnce cause) = Some cause
-entry_refusal (Refused cause) = Some cause
-
--- why a text is left at once
+-- why a text that is to run is left at once, if it is
 abbrev pub text_refusal : Reading → Option Cause
-text_refusal reading = entry_refusal (entry_by reading)
+text_refusal (script code) = None
+text_refusal no_script = Some not_script
+text_refusal script_too_long = Some long_script
+text_refusal line_too_long = Some long_line
 
 -- the lines of a text; none where it is no script
 abbrev pub lines_of : Reading → List Line

@@ -3,7 +3,7 @@
 use Rattle.std.specs.Prelude.{◌≡◌, ◌≤◌, ℕ, ◌+◌, Bool, true, not, List, [], ◌∷◌, Option, Some, None, slice_get, length, drop, if◌then◌else◌}
 use Rattle.nb_terms.specs.declared.cause.Cause.{Cause}
 use Rattle.nb_defs.specs.Causes.{ok, is_ok_cause}
-use Rattle.nb_scripts.specs.Levels.{ScriptLevel, kept_result}
+use Rattle.nb_scripts.specs.Results.{kept_result}
 use Rattle.nb_defs.specs.ScriptLines.{Line, label, list, empty, Join, first_join, and_join, or_join, then_join, Item, items}
 
 pub record Running : Type 0 where
@@ -79,10 +79,6 @@ HaveDepths (s ∷ outer) = (s.depth ≡ length outer + 1) × HaveDepths outer
 -- and there are at most eight
 abbrev pub AreNested : List Running → Type 0
 AreNested scripts = HaveDepths scripts × (length scripts ≤ 8)
-
--- a script that runs, as one of scripts within one another
-abbrev pub level_of_running : Running → ScriptLevel
-level_of_running s = record { code = s.code; base = s.base; progress = record { passed = s.passed; rest = s.rest; place = s.place }; last = s.last }
 
 -- a list has more than 64 words or more than 64 joins
 abbrev pub too_many_words : Cause

@@ -1,6 +1,3 @@
 pub mod Texts
-pub mod Levels
-pub mod Moves
 pub mod Records
-pub mod Nesting
-pub mod Numbers
+pub mod Results

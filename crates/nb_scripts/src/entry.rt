@@ -7,17 +7,6 @@ use nb_terms::{Cause, Long, NoMemory, Plain, Reason};
 use nb_wire::Text;
 use std::alloc::Global;
 
-/// What comes of a text that is to run.
-#[derive(Clone, Copy, Debug, PartialEq, Eq)]
-pub enum Entry {
-    /// It runs, before its first line.
-    Runs,
-    /// It is no script: it was entered and left at once, with this cause.
-    LeftAtOnce(Cause),
-    /// So many scripts are within one another that it wasn't entered, for this cause.
-    Refused(Cause),
-}
-
 /// A text that was read.
 #[derive(Drop)]
 pub enum TextRead {

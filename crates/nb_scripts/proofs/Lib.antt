@@ -1,3 +1,0 @@
-mod GoneLemmas
-mod NestingLemmas
-mod NumberLemmas
