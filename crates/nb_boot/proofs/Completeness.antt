@@ -8,7 +8,7 @@ use Rattle.nb_machine.specs.Courses.{Standing, ready, running, waiting, reaching
 use Rattle.nb_traced.specs.Plain.{without_graph}
 use Rattle.nb_record.specs.Outside.{Outside, Gave, IsAtEnd}
 use Rattle.nb_boot.specs.Shown.{IsOther, IsFirst, BeginsWith, NoneMayCome, EndsWhere, was_left, was_handed, was_stopped, ran_out, was_bad, was_full, Shown, ShowsCourse}
-use Rattle.nb_boot.specs.Complete.{Completes, AreOthers}
+use Rattle.nb_boot.specs.Complete.{Completes, AreNoStarts}
 use Rattle.nb_runner.specs.declared.status.Status.{Status}
 use Rattle.nb_runner.specs.declared.status.Status.TheVariants as status
 use Rattle.nb_boot.proofs.Spelled.{Rest, spelled_rest, others_in, others_rest}
@@ -73,7 +73,7 @@ no_bad_end rest o e (inr (inl w)) = omega (arith, ap length e, ap length w.spell
 no_bad_end rest o e (inr (inr (p, some, end))) = omega (arith, ap length e, some)
 
 -- after records used, a rest that begins with another than START, or where nothing follows, is not bad
-no_bad_later : (more : List In) (rest after : List ℕ) (o : Outside) → AreOthers more → in_texts more ≡ rest ++ after → o.left ≡ Some after →
+no_bad_later : (more : List In) (rest after : List ℕ) (o : Outside) → AreNoStarts more → in_texts more ≡ rest ++ after → o.left ≡ Some after →
     IsBroken rest ⊎ (BeginsWith rest IsFirst ⊎ (IsPartial rest × (0 < length rest) × IsAtEnd o)) → ⊥
 no_bad_later [] rest after o a e told (inl b) =
     b off (in_text off) [] tt (ap (λ t. t ++ in_text off) (empty_front rest after e) ∙ sym (append-nil (in_text off)))
@@ -86,7 +86,7 @@ no_bad_later (q ∷ qs) rest after o a e told (inr (inr (p, some, end))) =
     partial_not_whole q rest (in_texts qs) a.0 (ended_there rest after (in_text q ++ in_texts qs) o e told end) p
 
 -- an input that is spelled so has no bad rest
-no_bad : (p : Standing) (s : Start) (others ins : List In) (rest after : List ℕ) (o : Outside) → IsIn (start s) → AreOthers others →
+no_bad : (p : Standing) (s : Start) (others ins : List In) (rest after : List ℕ) (o : Outside) → IsIn (start s) → AreNoStarts others →
     Rest ins (start s ∷ others) (rest ++ after) → UsedBy p ins → o.left ≡ Some after → NoneMayCome p rest o → ⊥
 no_bad ready s others ins rest after o valid a t u told b =
     let all : start s ∷ others ≡ t.more = t.are ∙ ap (λ xs. xs ++ t.more) u in
@@ -129,7 +129,7 @@ pub record Told (before after : Outside) (r : Shown before after) (s : Start) (o
   pub now : after.left ≡ Some behind
   pub rest : Rest r.ins (start s ∷ others) (r.rest ++ behind)
 
-told : (before after : Outside) (r : Shown before after) (s : Start) (others : List In) → IsIn (start s) → AreOthers others →
+told : (before after : Outside) (r : Shown before after) (s : Start) (others : List In) → IsIn (start s) → AreNoStarts others →
     before.left ≡ Some (in_texts (start s ∷ others)) → IsSome after.left → Told before after r s others
 told before after r s others valid a e some =
     let t = gave_told before.left after.left (in_texts (start s ∷ others)) r.read e some r.passes.gave in

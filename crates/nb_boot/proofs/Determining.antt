@@ -11,7 +11,7 @@ use Rattle.nb_machine.specs.Courses.{Standing, ready, running, waiting, reaching
 use Rattle.nb_machine.specs.Closings.{Shuts}
 use Rattle.nb_onecourse.specs.Rests.{HasComeToRest, SameCourse}
 use Rattle.nb_onecourse.proofs.OneCourse.{one_course}
-use Rattle.nb_boot.specs.Shown.{IsFirst, BeginsWith, CommandWaits, NoneMayCome, EndsWhere, was_left, was_handed, was_stopped, ran_out, was_bad, was_full, Shown, HasEnded, ShowsCourse}
+use Rattle.nb_boot.specs.Shown.{IsFirst, BeginsWith, CommandWaits, NoneMayCome, EndsWhere, was_left, was_handed, was_stopped, ran_out, was_bad, was_full, Shown, RunHasEnded, ShowsCourse}
 use Rattle.nb_boot.specs.Determined.{CourseSays, WroteAll, IsDetermined}
 use Rattle.nb_boot.proofs.Completeness.{empty_front, ended_there, gave_told, no_bad_first, some_bytes, no_bad_waiting, no_bad_end}
 use Rattle.nb_boot.proofs.Spelled.{AreIn, are-here}
@@ -146,7 +146,7 @@ ends_so (x ∷ xs) (y ∷ ys) more rest after o outs outs' p p' number number' f
     go (shorter q qs h k) = absurd (ends_more x xs more rest after o outs outs' p p' number number' course says told q (in_texts qs ++ (rest ++ after)) (waited_for (y ∷ ys) outs' p' c x xs q qs h) k)
 
 -- what was written then
-wrote : (before after : Outside) (r : Shown before after) (number number' : ℕ) (ended : HasEnded before after r number') (outs : List Out) (p : Progress) → SameEnd outs (without_graph r.outs) p r.progress number number' → WroteAll before after outs p.standing number
+wrote : (before after : Outside) (r : Shown before after) (number number' : ℕ) (ended : RunHasEnded before after r number') (outs : List Out) (p : Progress) → SameEnd outs (without_graph r.outs) p r.progress number number' → WroteAll before after outs p.standing number
 wrote before after r number number' ended outs p end = record {
   read = r.read;
   written = r.written;
@@ -159,7 +159,7 @@ wrote before after r number number' ended outs p end = record {
       ∙ ap (λ z. outs ++ (ended.put ++ done z ∷ [])) end.numbers;
 }
 
-over : (before after : Outside) (r : Shown before after) (number' : ℕ) → HasEnded before after r number' → (ins : List In) (more : List ℕ) (outs : List Out) (p : Progress) (number : ℕ) → length ins ≤ 4294967295 →
+over : (before after : Outside) (r : Shown before after) (number' : ℕ) → RunHasEnded before after r number' → (ins : List In) (more : List ℕ) (outs : List Out) (p : Progress) (number : ℕ) → length ins ≤ 4294967295 →
     before.left ≡ Some (in_texts ins ++ more) → Course ins outs p → CourseSays p.standing more number → IsSome after.left → (number' ≡ number) × WroteAll before after outs p.standing number
 over before after r number' ended ins more outs p number few e course says some =
     let t = gave_told before.left after.left (in_texts ins ++ more) r.read e some r.passes.gave in

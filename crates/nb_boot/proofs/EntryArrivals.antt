@@ -15,7 +15,7 @@ use Rattle.nb_machine.specs.Courses.{Standing}
 use Rattle.nb_laws.specs.Events.{Event, starts, hears, waits, stops, puts, used_by, written_by}
 use Rattle.nb_laws.specs.Histories.{IsRead}
 use Rattle.nb_laws.specs.Lists.{Opening, openings, open_has_ended, gathered, live, call_at, time}
-use Rattle.nb_openlaws.specs.Standings.{AgreesStanding, AgreesState, AreApart, AreLive, lives_among, live_opening}
+use Rattle.nb_openlaws.specs.Standings.{AgreesStanding, AgreesState, HaveOwnNumbers, AreLive, lives_among, live_opening}
 use Rattle.nb_lawful.proofs.Devices.{DeviceAgrees}
 use Rattle.nb_openlaws.proofs.HeardFrames.{found}
 use Rattle.nb_lawful.proofs.Solitude.{Solitude}
@@ -33,7 +33,7 @@ use Rattle.nb_boot.proofs.EntryFrames.{StepComes, enters_none, frame_comes, live
 pub time_comes_to : (k : ℕ) (es : List Event) (n ms : ℕ) (o : Opening) → live k es ≡ o ∷ [] → call_at k es (waits n ms) ≡ ticked (time es + ms) ∷ []
 time_comes_to k es n ms o lives = ap (λ (os : List Opening). flat_map (λ x. ticked (time es + ms) ∷ []) os) lives
 
-times_to : (k n : ℕ) (ls : List Live) → AreApart ls → came_to k (map (λ l. arrival l.number way.Time n) ls) ≡ cond (lives_among k ls) (record { number = n; way = 3 } ∷ []) []
+times_to : (k n : ℕ) (ls : List Live) → HaveOwnNumbers ls → came_to k (map (λ l. arrival l.number way.Time n) ls) ≡ cond (lives_among k ls) (record { number = n; way = 3 } ∷ []) []
 times_to k n [] apart = refl
 times_to k n (l ∷ ls) apart = elim (cases_eq l.number k) [
   | inl same ↦

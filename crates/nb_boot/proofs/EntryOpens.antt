@@ -5,7 +5,7 @@ use Rattle.nb_laws.specs.Events.{Event, starts, hears, waits, stops, puts, writt
 use Rattle.nb_laws.specs.Lists.{Opening, opening_at, openings, is_end_of, open_has_ended, live}
 use Rattle.nb_laws.proofs.Tellings.{openings_more}
 use Rattle.nb_lawful.proofs.Solitude.{Solitude}
-use Rattle.nb_traced.specs.Openings.{GoesOn, IsNoEnd}
+use Rattle.nb_traced.specs.Openings.{HasNoEnd, IsNoEnd}
 use Rattle.nb_traced.specs.Places.{IsWithinOpen}
 use Rattle.nb_boot.specs.Entries.{is_of_graph, plain}
 use Rattle.nb_boot.proofs.EntryHistories.{plain_events_append}
@@ -100,7 +100,7 @@ none_ended : (k : ℕ) → open_has_ended k [] ≡ false
 unfolding open_has_ended
 none_ended k = refl
 
-not_ended : (k : ℕ) (w : List Event) → GoesOn k (outputs w) → open_has_ended k (plain w) ≡ false
+not_ended : (k : ℕ) (w : List Event) → HasNoEnd k (outputs w) → open_has_ended k (plain w) ≡ false
 not_ended k [] g = none_ended k
 not_ended k (e ∷ w) g = one_more k (is_of_graph e) e (plain w) (no_end k e g.0) (not_ended k w g.1)
 

@@ -15,10 +15,10 @@ use Rattle.nb_laws.specs.Frames as frames
 use Rattle.nb_laws.proofs.Tellings.{told}
 use Rattle.nb_lawful.proofs.Solitude.{Solitude}
 use Rattle.nb_openlaws.proofs.UsedEvents.{IsUsed}
-use Rattle.nb_traced.specs.Entries.{IsWithin, IsOutside}
+use Rattle.nb_traced.specs.Entries.{RunsInEntry, IsOutside}
 use Rattle.nb_traced.specs.Places.{FrameStands, FramesStand, TriesStand, by_open, by_step}
 use Rattle.nb_boot.specs.Stepped.{NoneLives}
-use Rattle.nb_boot.specs.Entries.{Leaves, by_entry, by_reply, plain, LeavesSo}
+use Rattle.nb_boot.specs.Entries.{FrameLeaves, by_entry, by_reply, plain, LeavesSo}
 use Rattle.nb_boot.proofs.EntryAlone.{Known, alone_then, one_lives}
 use Rattle.nb_boot.proofs.EntryComings.{HaveNoGraph}
 use Rattle.nb_boot.proofs.EntryHistories.{outputs_append, plain_events_append}
@@ -87,15 +87,15 @@ one_open o os none one = let no : [] ≡ o ∷ [] = sym none ∙ one in absurd (
 some_bytes : (bytes : List ℕ) → 0 < length bytes → bytes ≡ [] → ⊥
 some_bytes bytes some none = omega (arith, some, ap length none)
 
-not_outside : (k : ℕ) (outs : List Out) → IsWithin k outs → IsOutside outs → ⊥
+not_outside : (k : ℕ) (outs : List Out) → RunsInEntry k outs → IsOutside outs → ⊥
 not_outside k outs within none = let no : [] ≡ within.object ∷ within.outer = sym none ∙ within.runs in absurd (cc)
 
-frame_leaves : (w : List Event) (bytes : List ℕ) (more : List Out) → Context w (sent bytes ∷ more) → FrameStands (outputs w) → IsPut (plain w) bytes → Leaves (outputs w) (plain w) bytes
+frame_leaves : (w : List Event) (bytes : List ℕ) (more : List Out) → Context w (sent bytes ∷ more) → FrameStands (outputs w) → IsPut (plain w) bytes → FrameLeaves (outputs w) (plain w) bytes
 frame_leaves w bytes more c (by_step earlier n at outside) (frames.by_reply b i taken m last is some) = by_reply outside (record { before = b; number = i; taken = taken; message = m; last = last; reply = is })
 frame_leaves w bytes more c (by_step earlier n at outside) (frames.by_open k leaving due) = absurd (one_open leaving.opening (live k (plain w)) (c.due bytes more refl earlier n at k due) leaving.lives)
 frame_leaves w bytes more c (by_open j within) (frames.by_open k leaving due) =
     let l = lives_within j w c.alone within in
-    by_entry k (subst (λ z. IsWithin z (outputs w)) (one_lives (plain w) j k l.0 leaving.opening c.alone l.1 leaving.lives) within.within) leaving
+    by_entry k (subst (λ z. RunsInEntry z (outputs w)) (one_lives (plain w) j k l.0 leaving.opening c.alone l.1 leaving.lives) within.within) leaving
 frame_leaves w bytes more c (by_open j within) (frames.by_reply b i taken m last is some) = elim c.silent [
   | inl quiet ↦ elim (quiet b i taken m last) [
     | inl none ↦ absurd (some_bytes bytes some (is ∙ none))

@@ -17,7 +17,7 @@ use Rattle.nb_lawful.proofs.Runs.{Story, course_story}
 use Rattle.nb_lawful.proofs.Solitude.{Solitude}
 use Rattle.nb_lawful.proofs.StepOpens.{opens_give}
 use Rattle.nb_openlaws.proofs.UsedEvents.{IsUsed}
-use Rattle.nb_traced.specs.Entries.{Arrival, came_to, IsOutside}
+use Rattle.nb_traced.specs.Entries.{EntryArrival, came_to, IsOutside}
 use Rattle.nb_traced.specs.Holdings.{Holdings}
 use Rattle.nb_traced.specs.LowestObjects.{GraphSoFar}
 use Rattle.nb_traced.specs.Outputs.{Arrived, Traced}
@@ -41,7 +41,7 @@ use Rattle.nb_boot.proofs.Following.{follows_course}
 came_append : (k : ℕ) (xs ys : List Arrived) → came_to k (xs ++ ys) ≡ came_to k xs ++ came_to k ys
 came_append k [] ys = refl
 came_append k (x ∷ xs) ys =
-    let this : List Arrival = cond (x.whose == k) (record { number = x.number; way = way_number x.way } ∷ []) [] in
+    let this : List EntryArrival = cond (x.whose == k) (record { number = x.number; way = way_number x.way } ∷ []) [] in
     ap (λ z. this ++ z) (came_append k xs ys) ∙ sym (append_assoc this (came_to k xs) (came_to k ys))
 
 -- what is known of a course with this history

@@ -9,7 +9,7 @@ use Rattle.nb_client.specs.Progressing.{AwaitsRecord}
 use Rattle.nb_runner.specs.declared.status.Status.{Status}
 use Rattle.nb_boot.specs.Run.{Shows}
 use Rattle.nb_boot.specs.Shown.{BeginsWith}
-use Rattle.nb_boot.specs.Going.{Goes, Waits, KeepsWaiting, LeadsOn, Stops, UsesRecord, UsesNext}
+use Rattle.nb_boot.specs.Going.{Goes, Waits, WaitsOn, LeadsOn, Stops, UsesRecord, UsesNext}
 use Rattle.nb_boot.proofs.Standing.{stands_between}
 
 -- a record at the front, and what follows it
@@ -34,7 +34,7 @@ pub waits_stops : (r : In) (n : ℕ) (held held' : List ℕ) (s : Status) (first
 waits_stops r n held held' s first before now old c e l w = l w.ins held' first (subst (λ xs. Goes w.ins xs first before old c) e w.goes)
 
 -- more was read, and output was written
-pub waits_filled : (n : ℕ) (held held' : List ℕ) (first before now : Outside) (old new : Logged) (c : Snapshot) → KeepsWaiting held held' before now old new → AwaitsRecord c.stage →
+pub waits_filled : (n : ℕ) (held held' : List ℕ) (first before now : Outside) (old new : Logged) (c : Snapshot) → WaitsOn held held' before now old new → AwaitsRecord c.stage →
     Waits n held first before old c → Waits n held' first now new c
 waits_filled n held held' first before now old new c h rests w = record {
   ins = w.ins;
@@ -48,18 +48,18 @@ waits_filled n held held' first before now old new c h rests w = record {
   };
 }
 
-pub uses_filled : (r : Option Status) (a b d : List ℕ) (before mid now : Outside) (old log new : Logged) (c c' : Snapshot) → KeepsWaiting a b before mid old log → AwaitsRecord c.stage →
+pub uses_filled : (r : Option Status) (a b d : List ℕ) (before mid now : Outside) (old log new : Logged) (c c' : Snapshot) → WaitsOn a b before mid old log → AwaitsRecord c.stage →
     UsesNext r b d mid now log new c c' → UsesNext r a d before now old new c c'
 uses_filled None a b d before mid now old log new c c' h rests u = (u.0, λ n first w. u.1 n first (waits_filled n a b first before mid old log c h rests w))
 uses_filled (Some s) a b d before mid now old log new c c' h rests u = λ n first w. u n first (waits_filled n a b first before mid old log c h rests w)
 
 -- the same for a client that is the one before
-pub waits_there : (n : ℕ) (held held' : List ℕ) (first before now : Outside) (old new : Logged) (c c' : Snapshot) → KeepsWaiting held held' before now old new → AwaitsRecord c'.stage → c' ≡ c →
+pub waits_there : (n : ℕ) (held held' : List ℕ) (first before now : Outside) (old new : Logged) (c c' : Snapshot) → WaitsOn held held' before now old new → AwaitsRecord c'.stage → c' ≡ c →
     Waits n held first before old c → Waits n held' first now new c'
 waits_there n held held' first before now old new c c' h rests same w =
     waits_filled n held held' first before now old new c' h rests (subst (λ x. Waits n held first before old x) (sym same) w)
 
-pub uses_there : (r : Option Status) (a b d : List ℕ) (before mid now : Outside) (old log new : Logged) (c m c' : Snapshot) → KeepsWaiting a b before mid old log → AwaitsRecord c.stage → m ≡ c →
+pub uses_there : (r : Option Status) (a b d : List ℕ) (before mid now : Outside) (old log new : Logged) (c m c' : Snapshot) → WaitsOn a b before mid old log → AwaitsRecord c.stage → m ≡ c →
     UsesNext r b d mid now log new m c' → UsesNext r a d before now old new c c'
 uses_there r a b d before mid now old log new c m c' h rests same u =
     uses_filled r a b d before mid now old log new c c' h rests (subst (λ x. UsesNext r b d mid now log new x c') same u)

@@ -13,7 +13,7 @@ use Rattle.nb_traced.specs.Entries.{IsOutside}
 use Rattle.nb_traced.specs.Holdings.{Holdings, no_holdings}
 use Rattle.nb_traced.specs.Outputs.{Arrived, at_first}
 use Rattle.nb_client.specs.Snapshots.{Snapshot, StandsForProgress, FitsOutput}
-use Rattle.nb_client.specs.Progressing.{Advances, AdvancesFrom, BeginsStep, IsAtWork, StepsBy}
+use Rattle.nb_client.specs.Progressing.{Advances, AdvancesFrom, BeginsStep, IsAtWork, UsesOrMoves}
 use Rattle.nb_boot.specs.InTurn.{MayGoOn, OfEachRead}
 use Rattle.nb_boot.specs.Following.{FollowsMachine, nothing, uses, goes_on}
 use Rattle.nb_boot.specs.Going.{TookTurn, Going, Goes, Wrote, HasNumber}
@@ -52,7 +52,7 @@ read_again : (ins used : List In) (rest : List ℕ) → in_texts ins ++ (in_text
 read_again ins used rest = sym (append_assoc (in_texts ins) (in_texts used) rest) ∙ ap (λ t. t ++ rest) (sym (flat_map-append in_text ins used))
 
 -- it numbers the record with 32 bits
-steps_few : (used : List In) (outs : List Out) (m m' : Progress) → StepsBy used m outs m' → HasNumber used m.used → m.used ≤ 4294967295 → m'.used ≤ 4294967295
+steps_few : (used : List In) (outs : List Out) (m m' : Progress) → UsesOrMoves used m outs m' → HasNumber used m.used → m.used ≤ 4294967295 → m'.used ≤ 4294967295
 steps_few [] outs m m' s number few = subst (λ n. n ≤ 4294967295) (sym (proceeds_count m outs m' s)) few
 steps_few (r ∷ []) outs m m' s number few = omega (arith, step_counts m r outs m' s, number)
 steps_few (r ∷ q ∷ rs) outs m m' s number few = absurd s
@@ -64,7 +64,7 @@ IsBusy (r ∷ rs) c = Unit {0}
 
 -- what follows the machine goes on by a step
 follows_on : (used ins : List In) (outs added : List Out) (c : Snapshot) (m m' : Progress) (so_far came : List Arrived) → FollowsMachine ins outs m so_far → IsOutside outs → StandsForProgress c m → IsBusy used c →
-    StepsBy used m (without_graph added) m' → BeginsStep used m added came → FollowsMachine (ins ++ used) (outs ++ added) m' (so_far ++ came)
+    UsesOrMoves used m (without_graph added) m' → BeginsStep used m added came → FollowsMachine (ins ++ used) (outs ++ added) m' (so_far ++ came)
 follows_on [] ins outs added c m m' so_far came f still st busy s b =
     subst (λ xs. FollowsMachine xs (outs ++ added) m' (so_far ++ came)) (sym (append-nil ins))
     (subst (λ xs. FollowsMachine ins (outs ++ added) m' (so_far ++ xs)) (sym b)

@@ -10,7 +10,7 @@ use Rattle.nb_client.specs.Snapshots.{Snapshot, snapshot, StandsForProgress, at_
 use Rattle.nb_client.specs.Progressing.{AwaitsRecord}
 use Rattle.nb_client.specs.declared.stage.Stage.TheVariants as stage
 use Rattle.nb_runner.specs.declared.status.Status.{Status}
-use Rattle.nb_boot.specs.Going.{KeepsWaiting, LeadsOn, Stops, Opens, RefusesRun}
+use Rattle.nb_boot.specs.Going.{WaitsOn, LeadsOn, Stops, Opens, RefusesRun}
 
 -- a client before any record
 fresh_stands : (c : Snapshot) → c.used ≡ 0 → c.stage ≡ stage.Ready → StandsForProgress c nowhere
@@ -37,12 +37,12 @@ refuses_used r rest s before now old c e h fits l = λ first g.
     l [] rest first (record { progress = nowhere; holdings = no_holdings; stands = fresh_stands c e h; fits = fits; going = g })
 
 -- what was read before
-pub opens_filled : (r : Result Snapshot Status) (a b d : List ℕ) (before mid now : Outside) (old log new : Logged) → KeepsWaiting a b before mid old log →
+pub opens_filled : (r : Result Snapshot Status) (a b d : List ℕ) (before mid now : Outside) (old log new : Logged) → WaitsOn a b before mid old log →
     IfOk r (λ c. Opens b d mid now log new c) → IfOk r (λ c. Opens a d before now old new c)
 opens_filled (Ok c) a b d before mid now old log new h o = (o.0, λ first g. o.1 first (h [] first nowhere no_holdings tt g))
 opens_filled (Err s) a b d before mid now old log new h o = tt
 
-pub refuses_filled : (r : Result Snapshot Status) (a b : List ℕ) (before mid now : Outside) (old log : Logged) → KeepsWaiting a b before mid old log →
+pub refuses_filled : (r : Result Snapshot Status) (a b : List ℕ) (before mid now : Outside) (old log : Logged) → WaitsOn a b before mid old log →
     IfErr r (λ s. RefusesRun s b mid now log) → IfErr r (λ s. RefusesRun s a before now old)
 refuses_filled (Ok c) a b before mid now old log h o = tt
 refuses_filled (Err s) a b before mid now old log h o = λ first g. o first (h [] first nowhere no_holdings tt g)

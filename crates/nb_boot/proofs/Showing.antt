@@ -22,7 +22,7 @@ use Rattle.nb_traced.proofs.Following.{opens_have_pieces, numbers_rise, leaves_t
 use Rattle.nb_client.specs.Progressing.{ShutsStanding}
 use Rattle.nb_boot.specs.Stepped.{ShutsLive}
 use Rattle.nb_boot.specs.Run.{Run, IsOver, Says, Shows}
-use Rattle.nb_boot.specs.Shown.{EndsWhere, was_left, was_handed, was_stopped, ran_out, was_bad, was_full, SaysOfGraph, LeadsToNone, Shown, HasEnded, HandsTrueFiles, IsSaid, ShowsCourse}
+use Rattle.nb_boot.specs.Shown.{EndsWhere, was_left, was_handed, was_stopped, ran_out, was_bad, was_full, SaysOfGraph, LeadsToNone, Shown, RunHasEnded, HandsTrueFiles, IsSaid, ShowsCourse}
 use Rattle.nb_boot.proofs.EntryArrivals.{shuts_live}
 use Rattle.nb_boot.proofs.EntrySteps.{run_agrees}
 use Rattle.nb_boot.proofs.Following.{follows_course}
@@ -88,7 +88,7 @@ shown_by before after r =
       contents = (run_agrees r.ins r.outs r.closing r.progress r.came r.holdings r.at_end es r.follows r.traced r.traced_all is).1;
     }
 
-ended_by : (before after : Outside) (r : Run before after) (number : ℕ) → IsOver before after r number → HasEnded before after (shown_by before after r) number
+ended_by : (before after : Outside) (r : Run before after) (number : ℕ) → IsOver before after r number → RunHasEnded before after (shown_by before after r) number
 ended_by before after r number h = record {
   ends = h.ends;
   put = h.put;

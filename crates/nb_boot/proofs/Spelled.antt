@@ -2,7 +2,7 @@
 use Rattle.std.proofs.Common.{◌≡◌, ℕ, ◌<◌, List, [], ◌∷◌, ◌++◌, length, refl, ◌∙◌, ap, arith, append_assoc, length-append}
 use Rattle.nb_defs.specs.Records.{In, IsIn, in_text, in_texts}
 use Rattle.nb_defs.proofs.RecordLaws.{in_text_apart, length-in_text}
-use Rattle.nb_boot.specs.Complete.{AreOthers}
+use Rattle.nb_boot.specs.Complete.{AreNoStarts}
 
 -- each has a spelling
 abbrev pub AreIn : List In → Type 0
@@ -34,16 +34,16 @@ spelled_rest (r ∷ rs) (q ∷ qs) tail v w e =
     let t = spelled_rest rs qs tail v.1 w.1 same.rest_is in
     record { more = t.more; are = ap (λ x. x ∷ qs) same.record_is ∙ ap (λ xs. r ∷ xs) t.are; spelled = t.spelled }
 
-pub others_in : (rs : List In) → AreOthers rs → AreIn rs
+pub others_in : (rs : List In) → AreNoStarts rs → AreIn rs
 others_in [] a = tt
 others_in (r ∷ rs) a = (a.0, others_in rs a.2)
 
-others_behind : (qs more : List In) → AreOthers (qs ++ more) → AreOthers more
+others_behind : (qs more : List In) → AreNoStarts (qs ++ more) → AreNoStarts more
 others_behind [] more a = a
 others_behind (q ∷ qs) more a = others_behind qs more a.2
 
 -- after some records of a list that begins with a START there is none
-pub others_rest : (ins more others : List In) (r : In) → r ∷ others ≡ ins ++ more → 0 < length ins → AreOthers others → AreOthers more
+pub others_rest : (ins more others : List In) (r : In) → r ∷ others ≡ ins ++ more → 0 < length ins → AreNoStarts others → AreNoStarts more
 others_rest [] more others r e h a = absurd (omega (arith, h))
 others_rest (q ∷ qs) more others r e h a =
     let tails : others ≡ qs ++ more = cc in others_behind qs more (rw (← tails) a)

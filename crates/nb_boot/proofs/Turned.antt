@@ -10,7 +10,7 @@ use Rattle.nb_client.specs.declared.stage.Stage.TheVariants as stage
 use Rattle.nb_client.specs.declared.client.Turn.TheVariants as turn
 use Rattle.nb_runner.specs.declared.status.Status.{Status}
 use Rattle.nb_runner.specs.declared.status.Status.TheVariants as status
-use Rattle.nb_boot.specs.Going.{Goes, KeepsRun, CutsAll, LeadsOn, Stops, StepsTo, IsEndOf, HasNumber, flaw_status}
+use Rattle.nb_boot.specs.Going.{Goes, KeepsRun, CutsAll, LeadsOn, Stops, StepsTo, IsStatusOf, HasNumber, flaw_status}
 use Rattle.nb_boot.specs.declared.output.Flaw.{Flaw}
 use Rattle.nb_boot.specs.declared.play.StepEnd.{StepEnd}
 use Rattle.nb_boot.specs.declared.play.StepEnd.TheVariants as ending
@@ -81,7 +81,7 @@ over_acts status.TooManyRecords used c c' old new ne a = a
 
 -- the run is over, or memory ran out, after one that went on
 pub over_steps : (e : StepEnd) (s : Status) (used : List In) (before now : Outside) (old mid new : Logged) (c c1 c' : Snapshot) → Keeps before now old mid c c1 →
-    TurnsBy (turn.Over s) used c1 c' mid new → IsBusy used c1 → HasNumber used c1.used → IsEndOf s e → StepsTo e used before now old new c c'
+    TurnsBy (turn.Over s) used c1 c' mid new → IsBusy used c1 → HasNumber used c1.used → IsStatusOf s e → StepsTo e used before now old new c c'
 over_steps ending.Waits s used before now old mid new c c1 c' k a busy number e = absurd e
 over_steps (ending.Over t) s used before now old mid new c c1 c' k a busy number e =
     let d = over_acts s used c1 c' mid new e.1 a in

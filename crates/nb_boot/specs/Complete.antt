@@ -17,9 +17,9 @@ pub record NoneRose (before after : Outside) : Type 0 where
   pub write : Rose before.write_faults after.write_faults → ⊥
 
 -- records with a spelling, none of them a START
-abbrev pub AreOthers : List In → Type 0
-AreOthers [] = Unit {0}
-AreOthers (r ∷ rs) = IsIn r × IsOther r × AreOthers rs
+abbrev pub AreNoStarts : List In → Type 0
+AreNoStarts [] = Unit {0}
+AreNoStarts (r ∷ rs) = IsIn r × IsOther r × AreNoStarts rs
 
 -- The script handed off, was left, or did not come to its end; or there are more records than numbers for
 -- them. What the script did, the run shows by the machine's path.
@@ -39,6 +39,6 @@ IsMachines status.AttachFault count = ⊥
 -- where the whole input is the spelling of a START and other records, the line tells what is left, no count
 -- rose and memory sufficed, the status is one of these
 abbrev pub Completes : Status → Outside → Outside → Type 0
-Completes result before after = (s : Start) (others : List In) → IsIn (start s) → AreOthers others →
+Completes result before after = (s : Start) (others : List In) → IsIn (start s) → AreNoStarts others →
     before.left ≡ Some (in_texts (start s ∷ others)) → IsSome after.left → NoneRose before after → (result ≡ status.NoMemory → ⊥) →
     IsMachines result (length (start s ∷ others))

@@ -11,7 +11,7 @@ use Rattle.nb_laws.specs.Lists.{gathered, call_at}
 use Rattle.nb_laws.specs.Frames.{IsSent}
 use Rattle.nb_traced.specs.Plain.{is_graph}
 use Rattle.nb_traced.specs.LowestObjects.{graph_so_far}
-use Rattle.nb_traced.specs.Entries.{Arrival, entries, IsWithin, IsOutside}
+use Rattle.nb_traced.specs.Entries.{EntryArrival, entries, RunsInEntry, IsOutside}
 
 -- WHAT ENTERS IT
 
@@ -26,11 +26,11 @@ event_number (waits n ms) = n
 event_number (stops n) = n
 event_number (puts o) = 0
 
-abbrev pub arrival_at : ℕ → List Event → Event → List Arrival
+abbrev pub arrival_at : ℕ → List Event → Event → List EntryArrival
 arrival_at k before e = map (λ c. record { number = event_number e; way = way_of c }) (call_at k before e)
 
 -- the datagrams, echo replies and times that came to open k while it lived, each in its step
-unfoldable pub arrivals : ℕ → List Event → List Arrival
+unfoldable pub arrivals : ℕ → List Event → List EntryArrival
 arrivals k es = gathered (arrival_at k) [] es
 
 -- WHAT GOES DOWN OUT OF IT
@@ -46,9 +46,9 @@ pub record IsReplied (es : List Event) (bytes : List ℕ) : Type 0 where
 
 -- Why a FRAME stands after these records, which without those of the graph are this history: an open may send it, and the entry that runs is
 -- its lowest object's; or it is a reply, and none runs.
-pub data Leaves (outs : List Out) (es : List Event) (bytes : List ℕ) : Type 0 where
-  by_entry : (k : ℕ) → IsWithin k outs → IsSent k es bytes → Leaves outs es bytes
-  by_reply : IsOutside outs → IsReplied es bytes → Leaves outs es bytes
+pub data FrameLeaves (outs : List Out) (es : List Event) (bytes : List ℕ) : Type 0 where
+  by_entry : (k : ℕ) → RunsInEntry k outs → IsSent k es bytes → FrameLeaves outs es bytes
+  by_reply : IsOutside outs → IsReplied es bytes → FrameLeaves outs es bytes
 
 -- a history without the records of the graph
 abbrev pub is_of_graph : Event → Bool
@@ -63,8 +63,8 @@ plain es = filter (λ e. not (is_of_graph e)) es
 
 -- each FRAME leaves so, and each TRY of an open stands within an entry of its lowest object
 abbrev pub LeavesSo : List Event → Event → Type 0
-LeavesSo before (puts (sent bytes)) = Leaves (outputs before) (plain before) bytes
-LeavesSo before (puts (tried k count)) = IsWithin k (outputs before)
+LeavesSo before (puts (sent bytes)) = FrameLeaves (outputs before) (plain before) bytes
+LeavesSo before (puts (tried k count)) = RunsInEntry k (outputs before)
 LeavesSo before (puts (step number)) = Unit {0}
 LeavesSo before _ = Unit {0}
 

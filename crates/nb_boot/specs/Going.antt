@@ -94,14 +94,14 @@ abbrev pub CutsAll : Status → Outside → Outside → Logged → Type 0
 CutsAll s before now old = (held : List ℕ) → Cuts s held before now old
 
 -- the same of a run between two steps
-abbrev pub KeepsWaiting : List ℕ → List ℕ → Outside → Outside → Logged → Logged → Type 0
-KeepsWaiting held held' before now old new =
+abbrev pub WaitsOn : List ℕ → List ℕ → Outside → Outside → Logged → Logged → Type 0
+WaitsOn held held' before now old new =
     (ins : List In) (first : Outside) (m : Progress) (p : Holdings) → MayGoOn m.standing → Going ins held first before old m p → Going ins held' first now new m p
 
 -- what a read brings to a run between two steps
 abbrev pub Fills : Filled → List ℕ → List ℕ → Outside → Outside → Logged → Logged → Type 0
-Fills filled.More held held' before now old new = KeepsWaiting held held' before now old new
-Fills filled.Ended held held' before now old new = KeepsWaiting held held' before now old new × IsPartial held' × IsAtEnd now
+Fills filled.More held held' before now old new = WaitsOn held held' before now old new
+Fills filled.Ended held held' before now old new = WaitsOn held held' before now old new × IsPartial held' × IsAtEnd now
 Fills filled.Fault held held' before now old new =
     (ins : List In) (first : Outside) (m : Progress) (p : Holdings) → MayGoOn m.standing → Going ins held first before old m p → Shows status.ReadFault first now
 Fills (filled.Cut f) held held' before now old new =
@@ -129,10 +129,10 @@ StepsTo (ending.Over s) used before now old new c c' = IsFinal s × RunEndsWith 
 StepsTo (ending.Cut f) used before now old new c c' = Stops (flaw_status f) used before now old c
 
 -- a turn's status: the run's, or out of memory
-abbrev pub IsEndOf : Status → StepEnd → Type 0
-IsEndOf s ending.Waits = ⊥
-IsEndOf s (ending.Over t) = (t ≡ s) × (s ≡ status.NoMemory → ⊥)
-IsEndOf s (ending.Cut f) = (s ≡ status.NoMemory) × (f ≡ flaw.NoMemory)
+abbrev pub IsStatusOf : Status → StepEnd → Type 0
+IsStatusOf s ending.Waits = ⊥
+IsStatusOf s (ending.Over t) = (t ≡ s) × (s ≡ status.NoMemory → ⊥)
+IsStatusOf s (ending.Cut f) = (s ≡ status.NoMemory) × (f ≡ flaw.NoMemory)
 
 -- a record was used and the next is waited for, or the run is over with this status
 abbrev pub UsesRecord : Option Status → In → Outside → Outside → Logged → Logged → Snapshot → Snapshot → Type 0

@@ -155,7 +155,7 @@ pub record Shown (before after : Outside) : Type 0 where
   pub contents : EntriesAgree outs closing history
 
 -- the run has ended, for a cause of this number, and all was taken, DONE last; no object of the graph lives then
-pub record HasEnded (before after : Outside) (r : Shown before after) (number : ℕ) : Type 0 where
+pub record RunHasEnded (before after : Outside) (r : Shown before after) (number : ℕ) : Type 0 where
   pub ends : EndsWhere r.progress r.rest after number
   pub put : List Out
   pub shuts : Shuts r.progress.standing put
@@ -182,14 +182,14 @@ HandsTrueFiles before after r = HandsOff r.history (without_graph r.outs) [] × 
 abbrev pub LeftUnclosed : (before after : Outside) → Shown before after → Type 0
 LeftUnclosed before after r = (r.closing ≡ []) ⊎ (0 < length r.lost)
 
--- What a status says of what is shown. The output ends with DONE, and is whole, where `HasEnded` stands; for no other.
+-- What a status says of what is shown. The output ends with DONE, and is whole, where `RunHasEnded` stands; for no other.
 abbrev pub IsSaid : Status → (before after : Outside) → Shown before after → Type 0
-IsSaid status.HandedOff before after r = HasEnded before after r 0 × HandsTrueFiles before after r
-IsSaid status.Ended before after r = HasEnded before after r 3
-IsSaid status.ScriptFailed before after r = HasEnded before after r 4
-IsSaid status.Unfinished before after r = HasEnded before after r 5
-IsSaid status.BadRecord before after r = HasEnded before after r 6
-IsSaid status.TooManyRecords before after r = HasEnded before after r 11
+IsSaid status.HandedOff before after r = RunHasEnded before after r 0 × HandsTrueFiles before after r
+IsSaid status.Ended before after r = RunHasEnded before after r 3
+IsSaid status.ScriptFailed before after r = RunHasEnded before after r 4
+IsSaid status.Unfinished before after r = RunHasEnded before after r 5
+IsSaid status.BadRecord before after r = RunHasEnded before after r 6
+IsSaid status.TooManyRecords before after r = RunHasEnded before after r 11
 IsSaid status.ReadFault before after r = WasUnread before after r
 IsSaid status.WriteFault before after r = Rose before.write_faults after.write_faults × (0 < length r.lost)
 IsSaid status.NoMemory before after r = LeftUnclosed before after r

@@ -9,7 +9,7 @@ ghost use Rattle.nb_client.specs.Snapshots.{FitsOutput, StandsForProgress};
 ghost use Rattle.nb_client.specs.Progressing.{CanUse, IsAtWork};
 ghost use Rattle.nb_boot.specs.Run.{Shows};
 ghost use Rattle.nb_boot.specs.Shown.{EndsWhere};
-ghost use Rattle.nb_boot.specs.Going.{StepsTo, IsEndOf, UsesRecord, Going, IsClosing};
+ghost use Rattle.nb_boot.specs.Going.{StepsTo, IsStatusOf, UsesRecord, Going, IsClosing};
 
 use crate::Status;
 use crate::output::{Flaw, flush, make_room};
@@ -29,7 +29,7 @@ pub enum StepEnd {
 
 /// The end of a step with which the run ended, or out of memory.
 fn end_of(status: Status) -> StepEnd
-    ensures { IsEndOf status result }
+    ensures { IsStatusOf status result }
 {
     match status {
         Status::NoMemory => StepEnd::Cut(Flaw::NoMemory),

@@ -19,11 +19,11 @@ use Rattle.nb_chains.proofs.FreshOnes.{fresh_kept, sole_is}
 use Rattle.nb_chains.proofs.Opened.{ready_open}
 use Rattle.nb_chains.proofs.OfTwo.{of_two}
 use Rattle.nb_chains.specs.Calls.{ClosesChain, IsOpenChain, ShutsChain}
-use Rattle.nb_chains.specs.Chains.{AreChained, AreOthers, Awaits, GrowsBy, GoesOn, IsReadyChain, IsReleased, IsShutChain, below_ids, chain_ids}
+use Rattle.nb_chains.specs.Chains.{AreChained, AreOthers, Awaits, GrowsBy, AreStillChained, IsReadyChain, IsReleased, IsShutChain, below_ids, chain_ids}
 use Rattle.nb_chains.proofs.Staying.{goes_stays, grows_stays, released_stays}
-use Rattle.nb_chain_tests.specs.Beside.{AreBeside, WaitsBeside}
+use Rattle.nb_chain_tests.specs.Beside.{AreBeside, WaitsAside}
 
-module _ (g h : Objects Obj) (c d : Chain) (noded : AreNoded rank_of_obj h) (b : AreBeside g c d) (on : GoesOn (chain_ids c) g h) where
+module _ (g h : Objects Obj) (c d : Chain) (noded : AreNoded rank_of_obj h) (b : AreBeside g c d) (on : AreStillChained (chain_ids c) g h) where
   pub stay_beside : AreBeside h c d
   stay_beside = record { one = on.chained; other = (goes_stays (chain_ids c) (chain_ids d) g h noded b.other b.apart on).chained; apart = b.apart; away = b.away }
 
@@ -79,7 +79,7 @@ waits_still : (kind : ChainKind) (w : Chain) (g h : Objects Obj) → Awaits kind
 waits_still kind w g h a k later = record { alone = a.alone; fresh = fresh_kept g h w.top.0 (top_rank kind) (top_mark kind) a.fresh k later }
 
 -- one that waits, and another that was made after it
-pub made_after : (kind two : ChainKind) (w c : Chain) (g a h : Objects Obj) → AreNoded rank_of_obj h → Awaits kind w a → GrowsBy 1 w g a → GrowsBy (1 + count_below two) c a h → IsReadyChain two c h → c.top.0 ≡ a.book.made + 1 → WaitsBeside kind h w c
+pub made_after : (kind two : ChainKind) (w c : Chain) (g a h : Objects Obj) → AreNoded rank_of_obj h → Awaits kind w a → GrowsBy 1 w g a → GrowsBy (1 + count_below two) c a h → IsReadyChain two c h → c.top.0 ≡ a.book.made + 1 → WaitsAside kind h w c
 made_after kind two w c g a h noded waits i j r e =
     let b = made_beside Name two w c g a h noded i j r e in
     record {
@@ -89,7 +89,7 @@ made_after kind two w c g a h noded waits i j r e =
     }
 
 -- it still waits after a call on the other
-pub stays_waiting : (kind : ChainKind) (w c : Chain) (g h : Objects Obj) → WaitsBeside kind g w c → GoesOn (chain_ids c) g h → WaitsBeside kind h w c
+pub stays_waiting : (kind : ChainKind) (w c : Chain) (g h : Objects Obj) → WaitsAside kind g w c → AreStillChained (chain_ids c) g h → WaitsAside kind h w c
 stays_waiting kind w c g h b on = record {
   waits = waits_still kind w g h b.waits (on.others.others w.top.0 b.waits.fresh.given (b.apart w.top.0 (top_in w))) (let e = on.others.same_made in omega (arith, e));
   chained = on.chained;

@@ -13,7 +13,7 @@ pub record AreBeside (g : Objects Obj) (c d : Chain) : Type 0 where
   pub away : AreOthers (chain_ids d) (chain_ids c)
 
 -- one of this kind waits beside another
-pub record WaitsBeside (kind : ChainKind) (g : Objects Obj) (w c : Chain) : Type 0 where
+pub record WaitsAside (kind : ChainKind) (g : Objects Obj) (w c : Chain) : Type 0 where
   pub waits : Awaits kind w g
   pub chained : AreChained g (chain_ids c)
   pub apart : AreOthers (chain_ids c) (chain_ids w)

@@ -3,7 +3,7 @@
 ghost use Rattle.std.specs.Prelude.{◌≡◌, ◌≤◌, IfOk, length};
 ghost use Rattle.nb_chains.specs.Chains.{AreChained, chain_ids, IsReadyChain};
 ghost use Rattle.nb_chains.specs.declared.kind.ChainKind.TheVariants as kind;
-ghost use Rattle.nb_chain_tests.specs.Beside.{AreBeside, WaitsBeside};
+ghost use Rattle.nb_chain_tests.specs.Beside.{AreBeside, WaitsAside};
 ghost use Rattle.nb_ledger.specs.Flat.{unknown};
 
 use nb_chains::{Arrival, Chain, ChainKind};
@@ -58,7 +58,7 @@ pub(crate) fn one_and_what_waits(
     waits: ChainKind,
     kind: ChainKind,
 ) -> Result<(Graph<Obj>, Chain, Chain), Fail>
-    ensures { IfOk result (λ r. WaitsBeside waits r.0 r.1 r.2) }
+    ensures { IfOk result (λ r. WaitsAside waits r.0 r.1 r.2) }
 {
     let mut graph = Graph::new(rt.alloc(), 8)?;
     let first = Chain::wait(rt.alloc(), &mut graph, waits, tape)?;
@@ -75,8 +75,8 @@ pub(crate) fn ask_name(
     kind: ChainKind,
     tape: &mut Tape,
 )
-    requires { WaitsBeside kind graph.old waits chain }
-    ensures { WaitsBeside kind graph.new waits chain }
+    requires { WaitsAside kind graph.old waits chain }
+    ensures { WaitsAside kind graph.new waits chain }
 {
     let _kind = kind;
     let _waits = waits;

@@ -25,7 +25,7 @@ use Rattle.nb_nodes.specs.Objects.{obj_nature, rank_of_obj}
 use Rattle.nb_nodes.specs.Standing.{ObjStands}
 use Rattle.nb_opens.proofs.HoldLemmas.{NotFreed, held_stays}
 use Rattle.nb_opens.proofs.QuietLemmas.{AreQuiet, LeavesObject, quiet_run}
-use Rattle.nb_chains.specs.Chains.{AreChained, GoesOn}
+use Rattle.nb_chains.specs.Chains.{AreChained, AreStillChained}
 use Rattle.nb_chains.specs.Giving.{CallGives}
 use Rattle.nb_chains.proofs.GivingLemmas.{call_gives, events_within, known_call}
 use Rattle.nb_chains.proofs.NoMakes.{makes_none}
@@ -50,7 +50,7 @@ pub record ChainCalled (ids : List ℕ) (now : ℕ) (asks : List (Stage Obj Load
   pub alone : (front : List Notice) → WentOne ObjStands obj_nature now asks (graph_of ids g) (graph_of ids h) (all front) (all (front ++ ns))
   pub whole : (front : List Notice) → WentOne ObjStands obj_nature now asks g h (all front) (all (front ++ ns))
   pub noded : AreNoded rank_of_obj (graph_of ids h)
-  pub on : GoesOn ids g h
+  pub on : AreStillChained ids g h
   pub gives : CallGives (IsEventWithin (is_one_of ids)) g h m n ns
 
 module _ (ids : List ℕ) (now : ℕ) (asks : List (Stage Obj Load)) (g h : Objects Obj) (m n : Heard) where

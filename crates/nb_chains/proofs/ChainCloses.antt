@@ -15,12 +15,12 @@ use Rattle.nb_nodes.specs.Standing.{ObjStands}
 use Rattle.nb_opens.specs.AloneNotices.{alone_closed}
 use Rattle.nb_opens.specs.Alones.{IsOpenLone, IsShutLone}
 use Rattle.nb_opens.specs.Notices.{closed_notices}
-use Rattle.nb_opens.specs.Pairs.{AreGoing, HasEnded}
+use Rattle.nb_opens.specs.Pairs.{AreGoing, HasHandedOut}
 use Rattle.nb_opens.proofs.Closing.{close_does}
 use Rattle.nb_opens.proofs.LoneCloses.{both_slots}
 use Rattle.nb_chains.specs.declared.chain.Chain.{Chain}
 use Rattle.nb_chains.specs.Calls.{ClosesChain, IsOpenBy, closing_notices}
-use Rattle.nb_chains.specs.Chains.{AreChained, GoesOn, IsShutBy, chain_ids, last_below, last_serial, own_graph}
+use Rattle.nb_chains.specs.Chains.{AreChained, AreStillChained, IsShutBy, chain_ids, last_below, last_serial, own_graph}
 use Rattle.nb_chains.specs.Shapes.{SendsNone}
 use Rattle.nb_chains.proofs.ChainCalls.{ChainCalled}
 use Rattle.nb_chains.proofs.ChainDoes.{closed_top}
@@ -46,14 +46,14 @@ module _ (c : Chain) (g a h : Objects Obj) (m n o : Heard) (now : ℕ) (cause : 
   two_called : ChainCalled (chain_ids c) now (Closes (port_at c.top.0 1) cause ∷ []) a h n o
   two_called = closed_top c a h n o now one_called.on.chained mid end 1 cause two
 
-  pub close_on : GoesOn (chain_ids c) g h
+  pub close_on : AreStillChained (chain_ids c) g h
   close_on = goes_both (chain_ids c) g a h one_called.on two_called.on
 
   abbrev ns : List Notice
   ns = one_called.ns ++ two_called.ns
 
   -- what they do to two, whatever the outside knew
-  two_ended : (t : ObjId) → AreGoing (own_graph c g) c.top.0 t.0 → HasEnded (own_graph c h) c.top.0 t.0 None × (closed_notices c.top.0 t.0 cause ≡ ns)
+  two_ended : (t : ObjId) → AreGoing (own_graph c g) c.top.0 t.0 → HasHandedOut (own_graph c h) c.top.0 t.0 None × (closed_notices c.top.0 t.0 cause ≡ ns)
   two_ended t going =
       let d = close_does (own_graph c g) (own_graph c a) (own_graph c h) (all []) (all one_called.ns) (all ns) now c.top.0 t.0 cause going one_called.noded two_called.noded (one_called.alone []) (two_called.alone one_called.ns) in
       (d.0, known_notices ns (closed_notices c.top.0 t.0 cause) d.1)

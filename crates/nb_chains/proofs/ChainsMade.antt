@@ -15,7 +15,7 @@ use Rattle.nb_nodes.specs.declared.obj.Obj.{Obj}
 use Rattle.nb_nodes.specs.Objects.{obj_nature, rank_of_obj, kind_of_obj, mark_of_obj}
 use Rattle.nb_nodes.specs.Standing.{ObjStands}
 use Rattle.nb_opens.specs.AloneNotices.{alone_made}
-use Rattle.nb_opens.specs.Alones.{IsReady}
+use Rattle.nb_opens.specs.Alones.{IsUnasked}
 use Rattle.nb_opens.specs.Notices.{tells, completed_notices}
 use Rattle.nb_opens.specs.Pairs.{AreMade, IsNewTftp}
 use Rattle.nb_chains.specs.declared.chain.Chain.{Chain}
@@ -49,9 +49,9 @@ module _ (g h : Objects Obj) (m n : Heard) (kind : ChainKind) (x : ObjId) (node 
 -- one that has nothing below it is ready as it waits
 pub ready_so : (kind : ChainKind) (c : Chain) (g : Objects Obj) → AreNoded rank_of_obj g → Awaits kind c g → IsLowerOf kind None → IsReadyChain kind c g
 ready_so File c g noded w h = absurd h
-ready_so Name c g noded w h = (w.alone, subst (λ (b : Option ObjId). IsReady (graph_of (c.top.0 ∷ below_ids b) g) c.top.0 5) (sym w.alone) (fresh_ready g noded c.top.0 2 5 w.fresh))
-ready_so Lease c g noded w h = (w.alone, subst (λ (b : Option ObjId). IsReady (graph_of (c.top.0 ∷ below_ids b) g) c.top.0 6) (sym w.alone) (fresh_ready g noded c.top.0 2 6 w.fresh))
-ready_so Echo c g noded w h = (w.alone, subst (λ (b : Option ObjId). IsReady (graph_of (c.top.0 ∷ below_ids b) g) c.top.0 7) (sym w.alone) (fresh_ready g noded c.top.0 5 7 w.fresh))
+ready_so Name c g noded w h = (w.alone, subst (λ (b : Option ObjId). IsUnasked (graph_of (c.top.0 ∷ below_ids b) g) c.top.0 5) (sym w.alone) (fresh_ready g noded c.top.0 2 5 w.fresh))
+ready_so Lease c g noded w h = (w.alone, subst (λ (b : Option ObjId). IsUnasked (graph_of (c.top.0 ∷ below_ids b) g) c.top.0 6) (sym w.alone) (fresh_ready g noded c.top.0 2 6 w.fresh))
+ready_so Echo c g noded w h = (w.alone, subst (λ (b : Option ObjId). IsUnasked (graph_of (c.top.0 ∷ below_ids b) g) c.top.0 7) (sym w.alone) (fresh_ready g noded c.top.0 5 7 w.fresh))
 
 -- and nothing more is made of it
 pub completes_none : (kind : ChainKind) (c : Chain) (g : Objects Obj) (m : Heard) → IsLowerOf kind None → MakingGives c g g m m (completes_notices kind c)

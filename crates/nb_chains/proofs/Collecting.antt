@@ -15,10 +15,10 @@ use Rattle.nb_nodes.specs.declared.obj.Obj.{Obj}
 use Rattle.nb_nodes.specs.Objects.{rank_of_obj}
 use Rattle.nb_nodes.specs.Standing.{ObjStands, ObjHarvests}
 use Rattle.nb_opens.specs.Alones.{IsShutLone}
-use Rattle.nb_opens.specs.Pairs.{AreShut, HasEnded, body_in}
+use Rattle.nb_opens.specs.Pairs.{AreShut, HasHandedOut, body_in}
 use Rattle.nb_opens.proofs.Harvesting.{harvests_body}
 use Rattle.nb_chains.specs.declared.chain.Chain.{Chain}
-use Rattle.nb_chains.specs.Chains.{AreChained, GoesOn, IsShutBy, IsShutChain, chain_ids, own_graph}
+use Rattle.nb_chains.specs.Chains.{AreChained, AreStillChained, IsShutBy, IsShutChain, chain_ids, own_graph}
 use Rattle.nb_chains.proofs.ChainDoes.{top_in}
 
 -- what is said of a graph's book alone, whatever its nodes are
@@ -63,7 +63,7 @@ module _ (c : Chain) (g h : Objects Obj) (same : h.book ≡ g.book) where
     far_node : (y : ℕ) → is_one_of (chain_ids c) y ≡ false → node_at h y ≡ node_at g y
     far_node y far = apart y (λ e. false≢true (sym far ∙ (ap (is_one_of (chain_ids c)) e ∙ top_in c)))
 
-    pub collect_on : GoesOn (chain_ids c) g h
+    pub collect_on : AreStillChained (chain_ids c) g h
     collect_on = record {
       chained = record {
         given = λ x o. subst (λ (l : Ledger). x ≤ l.made) (sym same) (chained.given x o);
@@ -87,7 +87,7 @@ module _ (c : Chain) (g h : Objects Obj) (same : h.book ≡ g.book) where
     }
 
     -- the file
-    pub collects : (r : Option Load) → AreNoded rank_of_obj g → AreNoded rank_of_obj h → Harvests ObjHarvests g h c.top r → (t : ObjId) (body : Option (List ℕ)) → HasEnded (own_graph c g) c.top.0 t.0 body → body_in r ≡ body
+    pub collects : (r : Option Load) → AreNoded rank_of_obj g → AreNoded rank_of_obj h → Harvests ObjHarvests g h c.top r → (t : ObjId) (body : Option (List ℕ)) → HasHandedOut (own_graph c g) c.top.0 t.0 body → body_in r ≡ body
     collects r before after k t body e =
         let here : AreThere (chain_ids c) g = are_there (chain_ids c) g chained.lives (λ x o. let i = before x (chained.lives x o) in (i.node, i.is_node)) in
         let lives : (x : ℕ) → is_one_of (chain_ids c) x ≡ true → object_lives h.book x ≡ true = λ x o. ap (λ (l : Ledger). object_lives l x) same ∙ chained.lives x o in

@@ -16,7 +16,7 @@ use Rattle.nb_nodes.specs.Conversations.{first_acts}
 use Rattle.nb_nodes.specs.Exchanges.{Service}
 use Rattle.nb_nodes.specs.Fetches.{body_too_large}
 use Rattle.nb_opens.specs.AloneNotices.{alone_call, alone_end}
-use Rattle.nb_opens.specs.Alones.{AsksMore, Begins, IsShutLone, Receives, asks_on, comes_to_end, fails_at_once as fails_one, fails_before, is_ignored, is_taken, runs_out, starts}
+use Rattle.nb_opens.specs.Alones.{AsksMore, Begins, IsShutLone, AsksOrIgnores, asks_on, comes_to_end, fails_at_once as fails_one, fails_before, is_ignored, is_taken, runs_out, starts}
 use Rattle.nb_opens.specs.Notices.{begun_notices, call_notices, closed_late, down_notices, end_notices, first_close, large_notices, parted_notices, passed_on, sent_from, tells, too_many_notices, up_notices}
 use Rattle.nb_opens.specs.Pairs.{BeginDoes, CallDoes, begins, fails, fails_at_once, goes_on, is_over, is_too_large}
 use Rattle.nb_opens.proofs.CloseLemmas.{behind_none, sent_closes}
@@ -91,7 +91,7 @@ module _ (c : Chain) (g : Objects Obj) (e : c.below ≡ None) (of : ChainKind) {
     one_comes p by rec call ns (comes_to_end acts z given _ over _ same l) = has_closed z (ap first_close same ∙ (alone_close c.top.0 p by rec acts given ∙ over)) (shut_one l)
     one_comes p by rec call ns (runs_out z) = has_failed z
 
-    pub one_receives_so : (m : Said) (now : ℕ) (ns : List Notice) → Receives s kind (own_graph c g) c.top.0 b start calls m now ns → ComesOf of c g ns
+    pub one_receives_so : (m : Said) (now : ℕ) (ns : List Notice) → AsksOrIgnores s kind (own_graph c g) c.top.0 b start calls m now ns → ComesOf of c g ns
     one_receives_so m now ns (is_taken _ more) = one_comes (port_at c.top.0 1) way.Up m.rec (s.received m now) ns more
     one_receives_so m now ns (is_ignored _ same d) = stays_under_way (ap first_close same) (is (b, start, calls, d))
     one_receives_so m now ns (fails_before z) = has_failed z

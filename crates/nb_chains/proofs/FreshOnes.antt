@@ -23,7 +23,7 @@ use Rattle.nb_nodes.specs.declared.obj.Obj.{Obj}
 use Rattle.nb_nodes.specs.Objects.{kind_of_obj, obj_nature, rank_of_obj, mark_of_obj}
 use Rattle.nb_nodes.specs.Standing.{ObjStands}
 use Rattle.nb_opens.specs.AloneNotices.{alone_made}
-use Rattle.nb_opens.specs.Alones.{IsReady}
+use Rattle.nb_opens.specs.Alones.{IsUnasked}
 use Rattle.nb_chains.specs.Chains.{AreChained, GrowsBy, IsFresh}
 use Rattle.nb_chains.specs.Giving.{CallGives, IsMakeWithin}
 use Rattle.nb_chains.proofs.GivingLemmas.{call_gives}
@@ -66,7 +66,7 @@ module _ (g : Objects Obj) (noded : AreNoded rank_of_obj g) (x r kind : ℕ) (f 
   sole_others : (y : ℕ) → (y ≡ x → ⊥) → object_lives (graph_of (x ∷ []) g).book y ≡ false
   sole_others y n = own_lives g (x ∷ []) sole_there y ∙ rw (ne_eqb y x n) refl
 
-  pub fresh_ready : IsReady (graph_of (x ∷ []) g) x kind
+  pub fresh_ready : IsUnasked (graph_of (x ∷ []) g) x kind
   fresh_ready = record {
     lone = record {
       last = refl;

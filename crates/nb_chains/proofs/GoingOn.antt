@@ -3,7 +3,7 @@ use Rattle.std.proofs.Common.{ℕ, ◌∙◌, Bool, List, arith}
 use Rattle.nb_graph.specs.Whole.{Objects}
 use Rattle.nb_frames.specs.Frames.{is_one_of, KeepsObject, KeepsOthers}
 use Rattle.nb_nodes.specs.declared.obj.Obj.{Obj}
-use Rattle.nb_chains.specs.Chains.{GoesOn}
+use Rattle.nb_chains.specs.Chains.{AreStillChained}
 
 -- what stays in both stays
 pub keeps_both : {N : Type 0} (g a h : Objects N) (y : ℕ) → KeepsObject g a y → KeepsObject a h y → KeepsObject g h y
@@ -21,7 +21,7 @@ others_both own g a h i j = record {
   others = λ y low far. keeps_both g a h y (i.others y low far) (j.others y (let e = i.same_made in omega (arith, low, e)) far);
 }
 
-pub goes_both : (ids : List ℕ) (g a h : Objects Obj) → GoesOn ids g a → GoesOn ids a h → GoesOn ids g h
+pub goes_both : (ids : List ℕ) (g a h : Objects Obj) → AreStillChained ids g a → AreStillChained ids a h → AreStillChained ids g h
 goes_both ids g a h i j = record {
   chained = j.chained;
   others = others_both (is_one_of ids) g a h i.others j.others;

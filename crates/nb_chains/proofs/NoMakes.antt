@@ -9,7 +9,7 @@ use Rattle.nb_nodes.specs.declared.load.Load.{Load}
 use Rattle.nb_nodes.specs.declared.obj.Obj.{Obj}
 use Rattle.nb_nodes.specs.declared.obj.Obj.TheVariants as obj
 use Rattle.nb_nodes.specs.Conversations.{Conversation, Continues, RunsTo, begins as it_begins, receives, ticks, ends, rests, AsksOfIdle}
-use Rattle.nb_nodes.specs.Exchanges.{Service, Exchange, Exchanges, LeadsTo, is_begun, takes_message, takes_time, is_ended, stays_idle}
+use Rattle.nb_nodes.specs.Exchanges.{Service, AskerState, AskerTakes, AskerLeadsTo, is_begun, takes_message, takes_time, is_ended, stays_idle}
 use Rattle.nb_nodes.specs.Fetches.{EachOf, AsksOfFetch, AsksOfUp, brings_move}
 use Rattle.nb_nodes.specs.Standing.{ObjStands}
 use Rattle.nb_chains.proofs.StreamMakes.{web_last, conn_last}
@@ -55,7 +55,7 @@ runs_last : (t : List (NodeEntry Obj Load)) (e : NodeEntry Obj Load) (v w : Conv
 runs_last [] e v w (u, goes, run) = tftp_makes v u e goes
 runs_last (d ∷ t) e v w (u, goes, run) = runs_last t e u w run
 
-asker_makes : {S B C : Type 0} (s : Service S B C) (v w : Exchange B C) (e : NodeEntry Obj Load) → Exchanges s v e w → AsksNoMake e
+asker_makes : {S B C : Type 0} (s : Service S B C) (v w : AskerState B C) (e : NodeEntry Obj Load) → AskerTakes s v e w → AsksNoMake e
 asker_makes s _ _ _ (is_begun b m now fx tag ask effects) = λ d. effects.no_make
 asker_makes s _ _ _ (takes_message b start past slot m now fx acts given takes effects whole gives) = λ d. effects.no_make
 asker_makes s _ _ _ (takes_time b start past now fx acts given effects gives) = λ d. effects.no_make
@@ -66,7 +66,7 @@ asker_makes s _ _ _ (is_ended v (time now done fx) fatal passes) = λ d. absurd 
 asker_makes s _ _ _ (is_ended v (regain l) fatal passes) = tt
 asker_makes s _ _ _ (stays_idle v e idle asks) = idle_makes e asks
 
-leads_last : {S B C : Type 0} (s : Service S B C) (t : List (NodeEntry Obj Load)) (e : NodeEntry Obj Load) (v w : Exchange B C) → LeadsTo s v (t ++ e ∷ []) w → AsksNoMake e
+leads_last : {S B C : Type 0} (s : Service S B C) (t : List (NodeEntry Obj Load)) (e : NodeEntry Obj Load) (v w : AskerState B C) → AskerLeadsTo s v (t ++ e ∷ []) w → AsksNoMake e
 leads_last s [] e v w (u, goes, run) = asker_makes s v u e goes
 leads_last s (d ∷ t) e v w (u, goes, run) = leads_last s t e u w run
 

@@ -19,7 +19,7 @@ use Rattle.nb_opens.specs.Notices.{closed_notices}
 use Rattle.nb_opens.specs.Pairs.{AreShut}
 use Rattle.nb_chains.specs.declared.chain.Chain.{Chain}
 use Rattle.nb_chains.specs.Calls.{ClosesChain, ClosesPorts, IsOpenChain, closing_notices}
-use Rattle.nb_chains.specs.Chains.{AreChained, GoesOn, IsShutBy, below_ids, chain_ids}
+use Rattle.nb_chains.specs.Chains.{AreChained, AreStillChained, IsShutBy, below_ids, chain_ids}
 use Rattle.nb_chains.specs.Ends.{FreesSlots, HasFreeSlots, LivesUnlinked, free_slot_notices}
 use Rattle.nb_chains.specs.Giving.{ChainGives}
 use Rattle.nb_chains.proofs.ChainDoes.{top_in}
@@ -31,7 +31,7 @@ use Rattle.nb_chains.proofs.LettingOneGo.{sole_loose}
 use Rattle.nb_chains.proofs.OfTwo.{first_in, other_in}
 
 -- one of a chain without a link
-loose_of : (g : Objects Obj) (ids : List ℕ) (x : ℕ) → AreChained g ids → is_one_of ids x ≡ true → LivesUnlinked g x → (h : Objects Obj) → GoesOn ids g h → ((k : ℕ) → link_count (port_in g.book x k) ≡ 0 → link_count (port_in h.book x k) ≡ 0) → LivesUnlinked h x
+loose_of : (g : Objects Obj) (ids : List ℕ) (x : ℕ) → AreChained g ids → is_one_of ids x ≡ true → LivesUnlinked g x → (h : Objects Obj) → AreStillChained ids g h → ((k : ℕ) → link_count (port_in g.book x k) ≡ 0 → link_count (port_in h.book x k) ≡ 0) → LivesUnlinked h x
 loose_of g ids x chained is l h on kept = record {
   given = on.chained.given x is;
   lives = on.chained.lives x is;
@@ -41,7 +41,7 @@ loose_of g ids x chained is l h on kept = record {
 }
 
 -- one alone
-module _ (g b d : Objects Obj) (l m n : Heard) (x : ObjId) (z : Cause) (noded : AreNoded rank_of_obj b) (on : GoesOn (x.0 ∷ []) g b)
+module _ (g b d : Objects Obj) (l m n : Heard) (x : ObjId) (z : Cause) (noded : AreNoded rank_of_obj b) (on : AreStillChained (x.0 ∷ []) g b)
     (more : (ids : List ℕ) → AreChained b ids → is_one_of ids x.0 ≡ true → FreesSlots ids b d m n x.0 z) where
   abbrev sole : List ℕ
   sole = x.0 ∷ []
@@ -67,7 +67,7 @@ module _ (g b d : Objects Obj) (l m n : Heard) (x : ObjId) (z : Cause) (noded : 
       }
 
 -- two: the free ports of each
-module _ (g b d e : Objects Obj) (l m n o : Heard) (f t : ObjId) (z : Cause) (noded : AreNoded rank_of_obj b) (on : GoesOn (f.0 ∷ t.0 ∷ []) g b)
+module _ (g b d e : Objects Obj) (l m n o : Heard) (f t : ObjId) (z : Cause) (noded : AreNoded rank_of_obj b) (on : AreStillChained (f.0 ∷ t.0 ∷ []) g b)
     (top_more : (ids : List ℕ) → AreChained b ids → is_one_of ids f.0 ≡ true → FreesSlots ids b d m n f.0 z) (low_more : (ids : List ℕ) → AreChained d ids → is_one_of ids t.0 ≡ true → FreesSlots ids d e n o t.0 z) where
   abbrev ids : List ℕ
   ids = f.0 ∷ t.0 ∷ []
@@ -110,21 +110,21 @@ module _ (g b d e : Objects Obj) (l m n o : Heard) (f t : ObjId) (z : Cause) (no
       }
 
 -- by what a chain has below its top object
-module _ (c : Chain) (g b d : Objects Obj) (l m n : Heard) (z : Cause) (noded : AreNoded rank_of_obj b) (on : GoesOn (chain_ids c) g b) (closes : ClosesChain c g b z l m)
+module _ (c : Chain) (g b d : Objects Obj) (l m n : Heard) (z : Cause) (noded : AreNoded rank_of_obj b) (on : AreStillChained (chain_ids c) g b) (closes : ClosesChain c g b z l m)
     (top_more : (ids : List ℕ) → AreChained b ids → is_one_of ids c.top.0 ≡ true → FreesSlots ids b d m n c.top.0 z) where
   -- those that are plugged were closed
   record WereShut (w : Option ObjId) : Type 0 where
-    pub goes : GoesOn (c.top.0 ∷ below_ids w) g b
+    pub goes : AreStillChained (c.top.0 ∷ below_ids w) g b
     pub shut : IsShutBy w c.top.0 (graph_of (c.top.0 ∷ below_ids w) b)
     pub gives : ChainGives (record { top = c.top; below = w }) g b l m (closing_notices c.top.0 w z)
 
   were_shut : IsOpenChain c g → WereShut c.below
   were_shut is = record { goes = on; shut = closes.shut is; gives = subst (ChainGives c g b l m) (closes.are is) closes.gives }
 
-  top_on : GoesOn (chain_ids c) b d
+  top_on : AreStillChained (chain_ids c) b d
   top_on = (top_more (chain_ids c) on.chained (top_in c)).on
 
-  pub sole_goes : GoesOn (chain_ids c) g d
+  pub sole_goes : AreStillChained (chain_ids c) g d
   sole_goes = goes_both (chain_ids c) g b d on top_on
 
   pub ports_sole : c.below ≡ None → IsOpenChain c g → ClosesPorts c g d z l n
@@ -136,7 +136,7 @@ module _ (c : Chain) (g b d : Objects Obj) (l m n : Heard) (z : Cause) (noded : 
     lower_in : is_one_of (chain_ids c) t.0 ≡ true
     lower_in = subst (λ (w : Option ObjId). is_one_of (c.top.0 ∷ below_ids w) t.0 ≡ true) (sym same) (other_in c.top.0 t.0)
 
-    pub two_go : GoesOn (chain_ids c) g e
+    pub two_go : AreStillChained (chain_ids c) g e
     two_go = goes_both (chain_ids c) g d e sole_goes (low_more (chain_ids c) top_on.chained lower_in).on
 
     pub ports_two : IsOpenChain c g → ClosesPorts c g e z l o

@@ -14,7 +14,7 @@ use Rattle.nb_nodes.specs.EchoExchanges.{ping_service}
 use Rattle.nb_nodes.specs.Exchanges.{Service}
 use Rattle.nb_nodes.specs.LeaseExchanges.{lease_said, lease_service}
 use Rattle.nb_nodes.specs.LookupExchanges.{address_said, lookup_service}
-use Rattle.nb_opens.specs.Alones.{AsksMore, Begins, Receives, asks_on, comes_to_end, fails_at_once as fails_one, fails_before, is_ignored, is_taken, runs_out, starts}
+use Rattle.nb_opens.specs.Alones.{AsksMore, Begins, AsksOrIgnores, asks_on, comes_to_end, fails_at_once as fails_one, fails_before, is_ignored, is_taken, runs_out, starts}
 use Rattle.nb_opens.specs.Pairs.{BeginDoes, CallDoes, begins, fails, fails_at_once, goes_on, is_over, is_too_large}
 use Rattle.nb_tftp.specs.Asks.{Begun}
 use Rattle.nb_tftp.specs.History.{Call, Entry}
@@ -69,7 +69,7 @@ module _ {S B C : Type 0} (s : Service S B C) (kind : ℕ) (g : Objects Obj) (x 
     one_asks p by rec call ns (comes_to_end acts _ given _ _ h e _) = inl (subst (HasShape x (Some (Entered p by))) (sym e) (alone_shape x p by rec acts given (gives rec b _ given h)))
     one_asks p by rec call ns (runs_out e) = inr e
 
-    pub one_receives : (m : Said) (now : ℕ) (ns : List Notice) → Receives s kind g x b start calls m now ns → HasShapeOrFails x (Some (Entered (port_at x 1) way.Up)) ns
+    pub one_receives : (m : Said) (now : ℕ) (ns : List Notice) → AsksOrIgnores s kind g x b start calls m now ns → HasShapeOrFails x (Some (Entered (port_at x 1) way.Up)) ns
     one_receives m now ns (is_taken _ more) = one_asks (port_at x 1) way.Up m.rec (s.received m now) ns more
     one_receives m now ns (is_ignored _ e _) = inl (subst (HasShape x (Some (Entered (port_at x 1) way.Up))) (sym e) (ignored_shape x (port_at x 1) way.Up))
     one_receives m now ns (fails_before e) = inr e

@@ -17,7 +17,7 @@ use Rattle.nb_opens.specs.AloneNotices.{all_closed, alone_freed}
 use Rattle.nb_chains.specs.declared.chain.Chain.{Chain}
 use Rattle.nb_chains.specs.declared.kind.ChainKind.{ChainKind}
 use Rattle.nb_chains.specs.Calls.{ClosesPorts, IsOpenBy, IsOpenChain, ReleasesChain, ShutsChainBeside, beside_notices, closing_notices, ports_closed_notices}
-use Rattle.nb_chains.specs.Chains.{AreChained, AreOthers, Awaits, GoesOn, below_ids, chain_ids, last_below, last_serial, released_by, released_notices}
+use Rattle.nb_chains.specs.Chains.{AreChained, AreOthers, Awaits, AreStillChained, below_ids, chain_ids, last_below, last_serial, released_by, released_notices}
 use Rattle.nb_chains.specs.Ends.{HasNoLinks, first_close_among, free_notices, free_slot_notices}
 use Rattle.nb_chains.specs.Giving.{CallGives}
 use Rattle.nb_chains.specs.Kinds.{top_mark, top_rank}
@@ -83,7 +83,7 @@ module _ (kind : ChainKind) (w : Chain) (g : Objects Obj) (waits : Awaits kind w
   waits_open noded = subst (λ (b : Option ObjId). IsOpenBy b w.top.0 (graph_of (w.top.0 ∷ below_ids b) g)) (sym waits.alone) (fresh_ready g noded w.top.0 (top_rank kind) (top_mark kind) waits.fresh).lone
 
 -- a chain is still there after the ports of an object were closed that waits, whichever that is
-module _ (ids : List ℕ) (x : ℕ) (g a : Objects Obj) (chained : AreChained g ids) (on : GoesOn (x ∷ []) g a) where
+module _ (ids : List ℕ) (x : ℕ) (g a : Objects Obj) (chained : AreChained g ids) (on : AreStillChained (x ∷ []) g a) where
   leads_more : (v : PortState) → is_one_of ids x ≡ true → LeadsWithin (is_one_of (x ∷ [])) v → LeadsWithin (is_one_of ids) v
   leads_more port.Open o k = tt
   leads_more (port.Linked q) o k = ap (is_one_of ids) (sole_is x q.obj.0 k) ∙ o
@@ -106,19 +106,19 @@ module _ (ids : List ℕ) (x : ℕ) (g a : Objects Obj) (chained : AreChained g 
   }
 
 -- so it is of what waits
-pub chained_beside : (kind : ChainKind) (c w : Chain) (g a : Objects Obj) → AreChained g (chain_ids c) → Awaits kind w g → GoesOn (chain_ids w) g a → AreChained a (chain_ids c)
-chained_beside kind c w g a chained waits on = still_chained (chain_ids c) w.top.0 g a chained (subst (λ (b : Option ObjId). GoesOn (w.top.0 ∷ below_ids b) g a) waits.alone on)
+pub chained_beside : (kind : ChainKind) (c w : Chain) (g a : Objects Obj) → AreChained g (chain_ids c) → Awaits kind w g → AreStillChained (chain_ids w) g a → AreChained a (chain_ids c)
+chained_beside kind c w g a chained waits on = still_chained (chain_ids c) w.top.0 g a chained (subst (λ (b : Option ObjId). AreStillChained (w.top.0 ∷ below_ids b) g a) waits.alone on)
 
 -- and where it isn't one of the chain's objects, the chain's ports are still open
-still_open : (c w : Chain) (g a : Objects Obj) → AreNoded rank_of_obj a → AreChained g (chain_ids c) → AreOthers (chain_ids c) (chain_ids w) → GoesOn (chain_ids w) g a → IsOpenChain c g → IsOpenChain c a
+still_open : (c w : Chain) (g a : Objects Obj) → AreNoded rank_of_obj a → AreChained g (chain_ids c) → AreOthers (chain_ids c) (chain_ids w) → AreStillChained (chain_ids w) g a → IsOpenChain c g → IsOpenChain c a
 still_open c w g a noded chained apart w_on is =
     subst (IsOpenBy c.below c.top.0) (sym (goes_stays (chain_ids w) (chain_ids c) g a noded chained (away_from (chain_ids c) (chain_ids w) apart) w_on).same_graph) is
 
 -- BOTH
 
 module _ (kind : ChainKind) (c w : Chain) (g a b d h : Objects Obj) (l m n o q : Heard) (z : Cause) (chained : AreChained g (chain_ids c)) (waits : Awaits kind w g)
-    (g_noded : AreNoded rank_of_obj g) (a_noded : AreNoded rank_of_obj a) (w_on : GoesOn (chain_ids w) g a) (w_closes : IsOpenChain w g → ClosesPorts w g a z l m)
-    (c_on : GoesOn (chain_ids c) a b) (c_closes : IsOpenChain c a → ClosesPorts c a b z m n)
+    (g_noded : AreNoded rank_of_obj g) (a_noded : AreNoded rank_of_obj a) (w_on : AreStillChained (chain_ids w) g a) (w_closes : IsOpenChain w g → ClosesPorts w g a z l m)
+    (c_on : AreStillChained (chain_ids c) a b) (c_closes : IsOpenChain c a → ClosesPorts c a b z m n)
     (w_goes : HasNoLinks w.below w.top.0 b → ReleasesChain w b d n o) (c_goes : HasNoLinks c.below c.top.0 d → ReleasesChain c d h o q) (apart : AreOthers (chain_ids c) (chain_ids w)) where
   abbrev both : List ℕ
   both = chain_ids c ++ chain_ids w

@@ -9,7 +9,7 @@ use Rattle.nb_frames.specs.Within.{IsEventWithin}
 use Rattle.nb_nodes.specs.declared.obj.Obj.{Obj}
 use Rattle.nb_chains.specs.declared.chain.Chain.{Chain}
 use Rattle.nb_chains.specs.Calls.{ClosesPorts, IsOpenChain, ReleasesChain, ShutsChain, ports_closed_notices, shutting_notices}
-use Rattle.nb_chains.specs.Chains.{GoesOn, IsReleased, chain_ids, last_below, released_by, released_notices}
+use Rattle.nb_chains.specs.Chains.{AreStillChained, IsReleased, chain_ids, last_below, released_by, released_notices}
 use Rattle.nb_chains.specs.Ends.{HasNoLinks}
 use Rattle.nb_chains.specs.Shapes.{SendsNone}
 use Rattle.nb_chains.proofs.GivingLemmas.{gives_both}
@@ -18,7 +18,7 @@ use Rattle.nb_chains.proofs.ShapesOf.{alone_shut_stays, shut_stays}
 use Rattle.nb_chains.specs.Giving.{ChainGives}
 
 -- what is released after it went on is released
-released_after : (c : Chain) (g a h : Objects Obj) → GoesOn (chain_ids c) g a → IsReleased c a h → IsReleased c g h
+released_after : (c : Chain) (g a h : Objects Obj) → AreStillChained (chain_ids c) g a → IsReleased c a h → IsReleased c g h
 released_after c g a h on r = record {
   gone = r.gone;
   others = others_both (is_one_of (chain_ids c)) g a h on.others r.others;
@@ -35,7 +35,7 @@ shutting_stays : (x : ℕ) (b : Option ObjId) (z : Cause) → SendsNone (last_be
 shutting_stays x None z = alone_shut_stays x z
 shutting_stays x (Some t) z = shut_stays x t.0 z
 
-pub shuts_chain : (c : Chain) (g a h : Objects Obj) (m n o : Heard) (z : Cause) → GoesOn (chain_ids c) g a → (IsOpenChain c g → ClosesPorts c g a z m n) → (HasNoLinks c.below c.top.0 a → ReleasesChain c a h n o) → IsOpenChain c g → ShutsChain c g h z m o
+pub shuts_chain : (c : Chain) (g a h : Objects Obj) (m n o : Heard) (z : Cause) → AreStillChained (chain_ids c) g a → (IsOpenChain c g → ClosesPorts c g a z m n) → (HasNoLinks c.below c.top.0 a → ReleasesChain c a h n o) → IsOpenChain c g → ShutsChain c g h z m o
 shuts_chain c g a h m n o z on closes goes is =
     let p = closes is in
     let r = goes p.unlinked in

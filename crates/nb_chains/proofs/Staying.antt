@@ -8,7 +8,7 @@ use Rattle.nb_frames.proofs.SameGraph.{same_graph}
 use Rattle.nb_nodes.specs.declared.obj.Obj.{Obj}
 use Rattle.nb_nodes.specs.Objects.{rank_of_obj}
 use Rattle.nb_chains.specs.declared.chain.Chain.{Chain}
-use Rattle.nb_chains.specs.Chains.{AreChained, AreOthers, GoesOn, GrowsBy, IsReleased, StaysChained, chain_ids}
+use Rattle.nb_chains.specs.Chains.{AreChained, AreOthers, AreStillChained, GrowsBy, IsReleased, StaysChained, chain_ids}
 
 -- objects that stay as they are stay chained
 stays : (others : List ℕ) (g h : Objects Obj) → AreNoded rank_of_obj h → AreChained g others → ((x : ℕ) → is_one_of others x ≡ true → KeepsObject g h x) → g.book.made ≤ h.book.made → StaysChained others g h
@@ -23,7 +23,7 @@ stays others g h noded c kept later = record {
   same_graph = same_graph rank_of_obj g h noded others c.lives kept;
 }
 
-pub goes_stays : (ids others : List ℕ) (g h : Objects Obj) → AreNoded rank_of_obj h → AreChained g others → AreOthers ids others → GoesOn ids g h → StaysChained others g h
+pub goes_stays : (ids others : List ℕ) (g h : Objects Obj) → AreNoded rank_of_obj h → AreChained g others → AreOthers ids others → AreStillChained ids g h → StaysChained others g h
 goes_stays ids others g h noded c far on = stays others g h noded c (λ x o. on.others.others x (c.given x o) (far x o)) (let e = on.others.same_made in omega (arith, e))
 
 pub grows_stays : (count : ℕ) (c : Chain) (others : List ℕ) (g h : Objects Obj) → AreNoded rank_of_obj h → AreChained g others → AreOthers (chain_ids c) others → GrowsBy count c g h → StaysChained others g h

@@ -13,7 +13,7 @@ use Rattle.nb_nodes.specs.declared.load.Load.{Load}
 use Rattle.nb_nodes.specs.declared.obj.Obj.{Obj}
 use Rattle.nb_nodes.specs.declared.obj.Obj.TheVariants as obj
 use Rattle.nb_nodes.specs.EchoExchanges.{ping_service}
-use Rattle.nb_nodes.specs.Exchanges.{LeadsTo, Service, asking, not_begun}
+use Rattle.nb_nodes.specs.Exchanges.{AskerLeadsTo, Service, asking, not_begun}
 use Rattle.nb_nodes.specs.LeaseExchanges.{lease_service}
 use Rattle.nb_nodes.specs.LookupExchanges.{lookup_service}
 use Rattle.nb_nodes.specs.Objects.{is_handed, mark_of_obj, rank_of_obj}
@@ -34,7 +34,7 @@ use Rattle.nb_chains.proofs.OfTwo.{first_in, of_two, other_in}
 -- an object of this kind that stands for no entry asks nothing
 abbrev AsksNot : {S B C : Type 0} → Service S B C → ℕ → Type 0
 AsksNot {S} {B} {C} s kind =
-    (n : Obj) (t : List (NodeEntry Obj Load)) (b : B) (start : ℕ) (calls : List C) → mark_of_obj n ≡ kind → ObjStands n [] → ObjStands n t → LeadsTo s not_begun t (asking b start calls) → ⊥
+    (n : Obj) (t : List (NodeEntry Obj Load)) (b : B) (start : ℕ) (calls : List C) → mark_of_obj n ≡ kind → ObjStands n [] → ObjStands n t → AskerLeadsTo s not_begun t (asking b start calls) → ⊥
 
 low_mark : (handed : Bool) (k : ℕ) → (if handed then 1 else 0) ≡ k → 2 ≤ k → ⊥
 low_mark true k e le = omega (arith, e, le)

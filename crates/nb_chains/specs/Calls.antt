@@ -25,9 +25,9 @@ use Rattle.nb_nodes.specs.LookupExchanges.{lookup_service}
 use Rattle.nb_nodes.specs.declared.tag.Tag.TheVariants.{Datagram}
 use Rattle.nb_nodes.specs.Tags.{tag_number}
 use Rattle.nb_opens.specs.AloneNotices.{all_closed, alone_closed, alone_freed, alone_shut}
-use Rattle.nb_opens.specs.Alones.{Begins, IsOpenLone, IsReady, IsShutLone, ReceivesEach, Talks, TicksEach}
+use Rattle.nb_opens.specs.Alones.{Begins, IsOpenLone, IsUnasked, IsShutLone, ReceivesEach, Talks, TicksEach}
 use Rattle.nb_opens.specs.Notices.{closed_notices, first_close, shut_notices}
-use Rattle.nb_opens.specs.Pairs.{AreGoing, AreMade, BeginDoes, CallDoes, Downloads, HasEnded, IsDownloading}
+use Rattle.nb_opens.specs.Pairs.{AreGoing, AreMade, BeginDoes, CallDoes, Downloads, HasHandedOut, IsDownloading}
 use Rattle.nb_ping.specs.Pings.{Pinged}
 use Rattle.nb_tftp.specs.Asks.{Begun}
 use Rattle.nb_tftp.specs.History.{Call, Entry}
@@ -72,7 +72,7 @@ BeginsTwo c old new bytes now rec ns =
 -- the same of one that asks by itself
 abbrev pub BeginsOne : {S B C : Type 0} → Service S B C → ℕ → Chain → Objects Obj → Objects Obj → List ℕ → ℕ → ℕ → List Notice → Type 0
 BeginsOne {S} {B} {C} s kind c old new bytes now rec ns =
-    (b : B) → s.asked bytes ≡ Some b → IsReady (own_graph c old) c.top.0 kind → Begins s kind (own_graph c new) c.top.0 b now rec ns
+    (b : B) → s.asked bytes ≡ Some b → IsUnasked (own_graph c old) c.top.0 kind → Begins s kind (own_graph c new) c.top.0 b now rec ns
 
 -- the bytes ask for what such an open does
 abbrev pub IsAsk : ChainKind → List ℕ → Type 0
@@ -156,7 +156,7 @@ closing_notices x (Some t) cause = closed_notices x t.0 cause
 
 -- of two nothing is left to hand out; of each the ports to the user, to the network and between them are closed
 abbrev pub ClosesTwo : Chain → Objects Obj → Objects Obj → Type 0
-ClosesTwo c old new = (t : ObjId) → c.below ≡ Some t → AreGoing (own_graph c old) c.top.0 t.0 → HasEnded (own_graph c new) c.top.0 t.0 None
+ClosesTwo c old new = (t : ObjId) → c.below ≡ Some t → AreGoing (own_graph c old) c.top.0 t.0 → HasHandedOut (own_graph c new) c.top.0 t.0 None
 
 abbrev pub ClosesSole : Chain → Objects Obj → Objects Obj → Type 0
 ClosesSole c old new = c.below ≡ None → IsOpenLone (own_graph c old) c.top.0 → IsShutLone (own_graph c new) c.top.0

@@ -6,7 +6,7 @@ use Rattle.nb_ledger.specs.GraphRun.{new_ports}
 use Rattle.nb_ledger.specs.Ledger.{object_lives, holds, port, rank}
 use Rattle.nb_ledger.specs.Flat.{Notice}
 use Rattle.nb_opens.specs.AloneNotices.{alone_freed, alone_made}
-use Rattle.nb_opens.specs.Alones.{IsReady, IsShutLone}
+use Rattle.nb_opens.specs.Alones.{IsUnasked, IsShutLone}
 use Rattle.nb_opens.specs.Notices.{completed_notices, freed_notices}
 use Rattle.nb_opens.specs.Marks.{IsOfKind}
 use Rattle.nb_opens.specs.Pairs.{AreMade, AreShut}
@@ -52,7 +52,7 @@ pub record AreChained (g : Objects Obj) (ids : List ℕ) : Type 0 where
   pub links : AreLinkedWithin (is_one_of ids) (port g.book)
 
 -- They still are after a call, and all else on the graph is as it was.
-pub record GoesOn (ids : List ℕ) (g h : Objects Obj) : Type 0 where
+pub record AreStillChained (ids : List ℕ) (g h : Objects Obj) : Type 0 where
   pub chained : AreChained h ids
   pub others : KeepsOthers (is_one_of ids) g h
   pub same_number : length h.book.objects ≡ length g.book.objects
@@ -93,9 +93,9 @@ pub record GrowsBy (count : ℕ) (c : Chain) (g h : Objects Obj) : Type 0 where
 -- All objects of such an open are there, and nothing was asked of them.
 abbrev pub IsReadyChain : ChainKind → Chain → Objects Obj → Type 0
 IsReadyChain File c g = (t : ObjId) × (c.below ≡ Some t) × AreMade (own_graph c g) c.top.0 t.0
-IsReadyChain Name c g = (c.below ≡ None) × IsReady (own_graph c g) c.top.0 (top_mark Name)
-IsReadyChain Lease c g = (c.below ≡ None) × IsReady (own_graph c g) c.top.0 (top_mark Lease)
-IsReadyChain Echo c g = (c.below ≡ None) × IsReady (own_graph c g) c.top.0 (top_mark Echo)
+IsReadyChain Name c g = (c.below ≡ None) × IsUnasked (own_graph c g) c.top.0 (top_mark Name)
+IsReadyChain Lease c g = (c.below ≡ None) × IsUnasked (own_graph c g) c.top.0 (top_mark Lease)
+IsReadyChain Echo c g = (c.below ≡ None) × IsUnasked (own_graph c g) c.top.0 (top_mark Echo)
 
 -- what the outside is given where the top object is made, and where the others are
 abbrev pub waits_notices : ChainKind → ℕ → List Notice

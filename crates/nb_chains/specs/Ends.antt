@@ -13,7 +13,7 @@ use Rattle.nb_frames.specs.Within.{IsEventWithin}
 use Rattle.nb_nodes.specs.declared.obj.Obj.{Obj}
 use Rattle.nb_opens.specs.Notices.{or_else, tells}
 use Rattle.nb_terms.specs.declared.cause.Cause.{Cause}
-use Rattle.nb_chains.specs.Chains.{GoesOn, StandsForSome}
+use Rattle.nb_chains.specs.Chains.{AreStillChained, StandsForSome}
 use Rattle.nb_chains.specs.Giving.{CallGives}
 
 -- x lives by its one hold, without a link
@@ -46,7 +46,7 @@ pub record ClosesFreeSlots (ids : List ℕ) (g h : Objects Obj) (before after : 
 
 -- So they are of one of a chain's objects, which goes on.
 pub record FreesSlots (ids : List ℕ) (g h : Objects Obj) (before after : Heard) (x : ℕ) (c : Cause) : Type 0 where
-  pub on : GoesOn ids g h
+  pub on : AreStillChained ids g h
   pub free : HasFreeSlots g x → ClosesFreeSlots ids g h before after x c
 
 -- of a chain, by what it has below its top object: none of its objects has a link

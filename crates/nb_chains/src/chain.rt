@@ -1,6 +1,6 @@
 ghost use Rattle.std.specs.Prelude.{◌≡◌, ◌+◌, ◌<◌, ◌≤◌, ◌^◌, ◌++◌, ◌∷◌, [], ℕ, List, Option, Some, true, length};
 ghost use Rattle.nb_chains.specs.Calls.{arrival_said, BeginsChain, ClosesChain, ClosesPorts, IsOpenChain, ReceivesChain, ReleasesChain, ShutsChain, ShutsChainBeside, TicksChain};
-ghost use Rattle.nb_chains.specs.Chains.{AreChained, AreOthers, Awaits, GoesOn, IsShutChain, chain_ids, last_serial, own_graph, source_for};
+ghost use Rattle.nb_chains.specs.Chains.{AreChained, AreOthers, Awaits, AreStillChained, IsShutChain, chain_ids, last_serial, own_graph, source_for};
 ghost use Rattle.nb_chains.specs.Ends.{AreUnlinked, FreesSlots, HasNoLinks};
 ghost use Rattle.nb_frames.specs.Frames.{is_one_of};
 ghost use Rattle.nb_graph.specs.Deeds.{Wants};
@@ -11,7 +11,7 @@ ghost use Rattle.nb_ledger.specs.declared.event.GraphEvent.TheVariants.{LetGo};
 ghost use Rattle.nb_ledger.specs.declared.port.ObjId.{ObjId as TheObjId};
 ghost use Rattle.nb_nodes.specs.Objects.{obj_nature};
 ghost use Rattle.nb_nodes.specs.Standing.{ObjStands};
-ghost use Rattle.nb_opens.specs.Pairs.{HasEnded, body_in};
+ghost use Rattle.nb_opens.specs.Pairs.{HasHandedOut, body_in};
 ghost use Rattle.nb_tftp.specs.History.{came, ticked};
 ghost use Rattle.nb_tftp.specs.Received.{received};
 
@@ -44,7 +44,7 @@ impl Chain {
     )
         requires chained { AreChained graph.old (chain_ids self) }
         requires short { length first.now + length second.now < 2 ^ 32 }
-        ensures on { GoesOn (chain_ids self) graph.old graph.new }
+        ensures on { AreStillChained (chain_ids self) graph.old graph.new }
         ensures begins { BeginsChain self graph.old graph.new (first.now ++ second.now) now rec (O.events out.old)
             (O.events out.new) }
     {
@@ -72,7 +72,7 @@ impl Chain {
     )
         requires chained { AreChained graph.old (chain_ids self) }
         requires short { length arrival.now.body.now ≤ 65535 }
-        ensures on { GoesOn (chain_ids self) graph.old graph.new }
+        ensures on { AreStillChained (chain_ids self) graph.old graph.new }
         ensures receives { ReceivesChain self graph.old graph.new rec
             (came (received rec arrival.now.port arrival.now.body.now) now) (arrival_said rec arrival.now) now
             (O.events out.old) (O.events out.new) }
@@ -93,7 +93,7 @@ impl Chain {
     /// Time has come to `now`, in milliseconds.
     pub fn time<O: Outside>(self, graph: &mut Graph<Obj>, now: u64, out: &mut O)
         requires { AreChained graph.old (chain_ids self) }
-        ensures on { GoesOn (chain_ids self) graph.old graph.new }
+        ensures on { AreStillChained (chain_ids self) graph.old graph.new }
         ensures ticks { TicksChain self graph.old graph.new (ticked now) now (O.events out.old) (O.events out.new) }
     {
         graph.has_nodes();
@@ -104,7 +104,7 @@ impl Chain {
     /// The user closes the open with this cause: both ports of the top object.
     pub fn close<O: Outside>(self, graph: &mut Graph<Obj>, cause: &Cause, now: u64, out: &mut O)
         requires { AreChained graph.old (chain_ids self) }
-        ensures on { GoesOn (chain_ids self) graph.old graph.new }
+        ensures on { AreStillChained (chain_ids self) graph.old graph.new }
         ensures closes { ClosesChain self graph.old graph.new cause.now (O.events out.old) (O.events out.new) }
     {
         graph.has_nodes();
@@ -121,8 +121,8 @@ impl Chain {
     /// The bytes of the file that it has brought, if it has. They are handed out once.
     pub fn collect(self, graph: &mut Graph<Obj>) -> Option<Body>
         requires { AreChained graph.old (chain_ids self) }
-        ensures on { GoesOn (chain_ids self) graph.old graph.new }
-        ensures body { (t : TheObjId) (body : Option (List ℕ)) → HasEnded (own_graph self graph.old) self.top.0 t.0 body
+        ensures on { AreStillChained (chain_ids self) graph.old graph.new }
+        ensures body { (t : TheObjId) (body : Option (List ℕ)) → HasHandedOut (own_graph self graph.old) self.top.0 t.0 body
             → result ≡ body }
         ensures shut { IsShutChain self graph.old → IsShutChain self graph.new }
         // Every life, hold, rank, port and link.
@@ -192,7 +192,7 @@ impl Chain {
     /// Closes all ports of its objects, the free ones last.
     fn close_ports<O: Outside>(self, graph: &mut Graph<Obj>, cause: &Cause, now: u64, out: &mut O)
         requires { AreChained graph.old (chain_ids self) }
-        ensures on { GoesOn (chain_ids self) graph.old graph.new }
+        ensures on { AreStillChained (chain_ids self) graph.old graph.new }
         ensures closes { IsOpenChain self graph.old → ClosesPorts self graph.old graph.new cause.now (O.events out.old)
             (O.events out.new) }
     {

@@ -2,7 +2,7 @@
 
 ghost use Rattle.std.specs.Prelude.{◌≡◌, ℕ, List, Option, []};
 ghost use Rattle.nb_chains.specs.Calls.{IsChainUnderWay, IsOpenChain};
-ghost use Rattle.nb_chains.specs.Chains.{AreChained, AreOthers, Awaits, GoesOn, GrowsBy, IsReadyChain, IsReleased, StaysChained, chain_ids};
+ghost use Rattle.nb_chains.specs.Chains.{AreChained, AreOthers, Awaits, AreStillChained, GrowsBy, IsReadyChain, IsReleased, StaysChained, chain_ids};
 ghost use Rattle.nb_chains.specs.Giving.{CallGives, ChainGives};
 ghost use Rattle.nb_chains.specs.Shapes.{HasShape, RunsInOrder, SendsNone};
 ghost use Rattle.nb_chains.specs.declared.chain.Chain.{Chain as TheChain};
@@ -20,7 +20,7 @@ ghost use Rattle.nb_nodes.specs.Objects.{rank_of_obj};
 /// own stays true: that is the same graph.
 pub fn other_chains_stay()
     ensures goes { (ids others : List ℕ) (g h : Objects TheObj) → AreNoded rank_of_obj h → AreChained g others
-        → AreOthers ids others → GoesOn ids g h → StaysChained others g h }
+        → AreOthers ids others → AreStillChained ids g h → StaysChained others g h }
     ensures grows { (count : ℕ) (c : TheChain) (others : List ℕ) (g h : Objects TheObj) → AreNoded rank_of_obj h
         → AreChained g others → AreOthers (chain_ids c) others → GrowsBy count c g h → StaysChained others g h }
     ensures released { (c : TheChain) (others : List ℕ) (g h : Objects TheObj) → AreNoded rank_of_obj h

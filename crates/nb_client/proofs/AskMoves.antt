@@ -19,7 +19,7 @@ use Rattle.nb_runner.specs.declared.world.World.{World}
 use Rattle.nb_traced.specs.Outputs.{Traced, commands}
 use Rattle.nb_client.specs.Asked.{job_asked, live_asked}
 use Rattle.nb_client.specs.Openings.{AsksFor, IsOpenedIn, Opened, sets_out, turns_back}
-use Rattle.nb_client.specs.Progressing.{LeadsTo, TracesTo, most_moves}
+use Rattle.nb_client.specs.Progressing.{LeadsToSnapshot, TracesTo, most_moves}
 use Rattle.nb_client.specs.Snapshots.{Snapshot, snapshot, state_of_world}
 use Rattle.nb_client.specs.Turning.{MovesOn, found_by_script, left_by}
 use Rattle.nb_client.specs.declared.asked.Asked.{Asked}
@@ -43,7 +43,7 @@ doing_asked w now live (Exchange q) s ws x =
 
 leads_asked : (n : ℕ) (w now : World) (live : List Live) (a : Asked) (s : Running) (ws : List (List ℕ)) (put : List Out) (after : Snapshot) → s.begun < 4096 → AsksFor w a s ws now →
     IsOpenedIn (state_of_world now live) (live_asked (state_of_world now live) a) (job_asked a) (entered s) w.outer n put after →
-    LeadsTo [] (stands n (running (state_of_world w live) s w.outer)) (command_record s (shown_as true ws) ∷ put) after
+    LeadsToSnapshot [] (stands n (running (state_of_world w live) s w.outer)) (command_record s (shown_as true ws) ∷ put) after
 leads_asked n w now live a s ws put after early x (sets_out link more to dev first stood) =
     let from = stands n (running (state_of_world w live) s w.outer) in
     let l = live_asked (state_of_world now live) a in
@@ -81,7 +81,7 @@ asks_goes {old} {new} w a s ws before after early x o =
               added = front ++ o.rest;
               came = [];
               puts = o.puts;
-              leads = subst (λ y. LeadsTo [] y (command_record s (shown_as true ws) ∷ without_graph o.rest) after) (sym at.2)
+              leads = subst (λ y. LeadsToSnapshot [] y (command_record s (shown_as true ws) ∷ without_graph o.rest) after) (sym at.2)
                   (leads_asked before.used w before.world at.0 a s ws (without_graph o.rest) after early x (subst (λ k. IsOpenedIn (state_of_world before.world at.0) (live_asked (state_of_world before.world at.0) a) (job_asked a) (entered s) k before.used (without_graph o.rest) after) same_outer (o.opens at.0 at.1)));
               begins = refl;
               traces = λ outs h so_far t fits.

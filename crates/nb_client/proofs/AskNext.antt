@@ -19,7 +19,7 @@ use Rattle.nb_traced.specs.Outputs.{Traced, apart}
 use Rattle.nb_traced.specs.Pieces.{event_records}
 use Rattle.nb_client.specs.Asked.{job_asked, live_asked}
 use Rattle.nb_client.specs.Openings.{IsOpenedIn, OpensNext, asked_onward, opens_it, opens_none, sets_out, turns_back}
-use Rattle.nb_client.specs.Progressing.{LeadsTo, TracesTo, most_moves}
+use Rattle.nb_client.specs.Progressing.{LeadsToSnapshot, TracesTo, most_moves}
 use Rattle.nb_client.specs.Snapshots.{Snapshot, at_running, snapshot, state_of_world}
 use Rattle.nb_client.specs.Soundness.{IsSound}
 use Rattle.nb_client.specs.Turning.{MovesOn}
@@ -31,7 +31,7 @@ use Rattle.nb_client.proofs.Standing.{stands_at}
 
 leads_next : (n : ℕ) (w : World) (live : List Live) (s : Running) (x : Onward) (put : List Out) (after : Snapshot) → w.opens < 16384 →
     IsOpenedIn (state_of_world w live) (live_asked (state_of_world w live) (asked_onward x)) (job_asked (asked_onward x)) s w.outer n put after →
-    LeadsTo [] (stands n (reaching (state_of_world w live) s w.outer (onward_of x))) put after
+    LeadsToSnapshot [] (stands n (reaching (state_of_world w live) s w.outer (onward_of x))) put after
 leads_next n w live s (onward.File wanted) put after few (sets_out link more to dev first stood) = record {
   progress = stands n (waiting _ _);
   steps = one_move _ _ _ (opens_onward n (state_of_world w live) s w.outer (onward_of (onward.File wanted)) link more few dev first);
@@ -66,7 +66,7 @@ next_goes {old} {new} s k before after sound (opens_it few o) = record {
           added = o.rest;
           came = [];
           puts = o.puts;
-          leads = subst (λ y. LeadsTo [] y (without_graph o.rest) after) (sym at.2)
+          leads = subst (λ y. LeadsToSnapshot [] y (without_graph o.rest) after) (sym at.2)
               (leads_next before.used before.world at.0 s k.onward (without_graph o.rest) after few (o.opens at.0 at.1));
           begins = refl;
           traces = λ outs h so_far t fits. subst (λ y. TracesTo after (outs ++ o.rest) y) (sym (append-nil so_far)) (o.traces outs h so_far t fits);
@@ -97,8 +97,8 @@ next_goes {old} {new} s k before after sound (opens_none now full used world is 
               added = records;
               came = [];
               puts = lets.puts;
-              leads = subst (λ y. LeadsTo [] y (without_graph records) then_at) (sym at.2)
-                  (subst (λ xs. LeadsTo [] (stands before.used (reaching (state_of_world w live) s w.outer (onward_of k.onward))) xs then_at) (sym plain) (record {
+              leads = subst (λ y. LeadsToSnapshot [] y (without_graph records) then_at) (sym at.2)
+                  (subst (λ xs. LeadsToSnapshot [] (stands before.used (reaching (state_of_world w live) s w.outer (onward_of k.onward))) xs then_at) (sym plain) (record {
                     progress = stands before.used (running (state_of_world w live) s' w.outer);
                     steps = one_move _ _ _ (opens_no_more before.used (state_of_world w live) s w.outer (onward_of k.onward) full);
                     stands = at_running before.used w now.opens s' live (lets.state w.net w.time (state_of_world w live) (record { devices = refl; time = refl; live = at.1 })).live;

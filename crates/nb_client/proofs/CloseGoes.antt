@@ -7,7 +7,7 @@ use Rattle.nb_traced.specs.Plain.{without_graph}
 use Rattle.nb_machine.specs.Courses.{Progress, stands, stopped, StepBegins, switches_off, goes_off}
 use Rattle.nb_machine.specs.States.{State, with_live}
 use Rattle.nb_runner.specs.declared.world.World.{World}
-use Rattle.nb_traced.specs.Holdings.{Piece}
+use Rattle.nb_traced.specs.Holdings.{GraphObject}
 use Rattle.nb_traced.specs.Outputs.{Traced}
 use Rattle.nb_open.specs.Open.{kin_of}
 use Rattle.nb_network.specs.Many.{FitsHoldings}
@@ -24,7 +24,7 @@ use Rattle.nb_client.proofs.Served.{state_is}
 use Rattle.nb_client.proofs.Traces.{trace_apart}
 
 -- the client is sound where nothing lives
-pub closed_sound : {cause : Cause} {first : List Piece} {front : List Out} {before after : Site} {old new : Logged} {used : ℕ} (n : ℕ) (at : Stage) → IsSound used before.world before.opens at → ClosesBy cause first front before after old new →
+pub closed_sound : {cause : Cause} {first : List GraphObject} {front : List Out} {before after : Site} {old new : Logged} {used : ℕ} (n : ℕ) (at : Stage) → IsSound used before.world before.opens at → ClosesBy cause first front before after old new →
     used ≤ n → IsSound n after.world after.opens stage.Stopped
 closed_sound {cause} {first} {front} {before} {after} {old} {new} {used} n at sound k more = record {
   time = let same : after.world.time ≡ before.world.time = ap (λ (w : World). w.time) k.world in omega (arith, same, sound.time, more);
@@ -37,11 +37,11 @@ closed_sound {cause} {first} {front} {before} {after} {old} {new} {used} n at so
   linked = rw k.world (record { address = sound.linked.address; up = sound.linked.up });
 }
 
-pub shuts_many : {first : List Piece} {front : List Out} {before after : Site} {old new : Logged} (k : ShutsAll first front before after old new) → ShutsMany before.world before.opens k.records
+pub shuts_many : {first : List GraphObject} {front : List Out} {before after : Site} {old new : Logged} (k : ShutsAll first front before after old new) → ShutsMany before.world before.opens k.records
 shuts_many k = record { closes = k.closes; closes_first = k.closes_first }
 
 -- a run ends, and its number is put
-pub end_finishes : {first : List Piece} {before after : Site} {l0 l1 old new : Logged} (used number : ℕ) (at : Stage) → IsSound used before.world before.opens at → first ≡ pieces_waiting at →
+pub end_finishes : {first : List GraphObject} {before after : Site} {l0 l1 old new : Logged} (used number : ℕ) (at : Stage) → IsSound used before.world before.opens at → first ≡ pieces_waiting at →
     (k : ShutsAll first [] before after l0 l1) → Puts old new (out_texts (k.records ++ (done number ∷ []))) → FinishesBy number (snapshot used before.world before.opens at) old new
 end_finishes {first} {before} {after} {l0} {l1} {old} {new} used number at sound waits k puts = record {
   closing = k.records;
@@ -73,7 +73,7 @@ goes_off_at c p closing (at_yielded n w m s live are) awaits k =
     record { state = state_of_world w live; begins = goes_off n (state_of_world w live) s w.outer (without_graph closing) all.0 all.1; same_used = refl }
 goes_off_at c p closing _ awaits k = absurd awaits
 
-pub off_goes : {first : List Piece} {before after : Site} {l0 l1 old new : Logged} (used n : ℕ) (at : Stage) → IsSound used before.world before.opens at → AwaitsRecord at → first ≡ pieces_waiting at → n ≡ used + 1 →
+pub off_goes : {first : List GraphObject} {before after : Site} {l0 l1 old new : Logged} (used n : ℕ) (at : Stage) → IsSound used before.world before.opens at → AwaitsRecord at → first ≡ pieces_waiting at → n ≡ used + 1 →
     (k : ShutsAll first [] before after l0 l1) → Puts old new (out_texts (step n ∷ k.records)) → GoesOnBy (off ∷ []) (snapshot used before.world before.opens at) (snapshot n after.world after.opens stage.Stopped) old new
 off_goes {first} {before} {after} {l0} {l1} {old} {new} used n at sound awaits waits next k puts =
     let c = snapshot used before.world before.opens at in

@@ -8,7 +8,7 @@ use Rattle.nb_imagecmd.specs.declared.commands.ImageCommand.{ImageCommand}
 use Rattle.nb_imagecmd.specs.declared.error.PlanError.{PlanError}
 use Rattle.nb_command.specs.Planning.{planned}
 use Rattle.nb_runner.specs.declared.world.World.{World}
-use Rattle.nb_runner.specs.World.{IsLinked, world_with, world_with_images}
+use Rattle.nb_runner.specs.World.{IsLinkOfState, world_with, world_with_images}
 use Rattle.nb_runner.specs.ImageDeeds.{IsConcludedWell, conclusion_of}
 use Rattle.nb_runner.specs.Intents.{intent_effect}
 use Rattle.nb_runner.specs.declared.images.Conclusion.{Conclusion}
@@ -26,7 +26,7 @@ use Rattle.nb_client.specs.Openings.{Intends}
 use Rattle.nb_runner.proofs.CommandLaws.{effect_in_of, effect_in_of_plan, effect_of_words, table_of_words, up_of_words, shown_of_words, effect_of_refused, table_of_refused, up_of_refused, shown_of_refused, effect_of_plan, table_of_plan, up_of_plan, world_stays}
 
 -- a command whose words are expanded ends at once, and leaves the world as it was
-pub ends_expanded : (s : Running) (w : World) (ws : List (List ℕ)) (o : CommandOutcome) → IsLinked w → HasCommand s w.state.table ws →
+pub ends_expanded : (s : Running) (w : World) (ws : List (List ℕ)) (o : CommandOutcome) → IsLinkOfState w → HasCommand s w.state.table ws →
     words_effect w.opens w.state.table ws ≡ says o → words_table w.state.table ws ≡ w.state.table → words_up w.state.up ws ≡ w.state.up → ComesToEnd s w (shown_as true ws) o w
 ends_expanded s w ws o linked h e t u = record {
   name = h.name;
@@ -38,7 +38,7 @@ ends_expanded s w ws o linked h e t u = record {
 }
 
 -- so does one whose words aren't
-pub ends_unexpanded : (s : Running) (w : World) (ws : List (List ℕ)) (cause : Cause) → IsLinked w → HasRefused s w.state.table ws cause →
+pub ends_unexpanded : (s : Running) (w : World) (ws : List (List ℕ)) (cause : Cause) → IsLinkOfState w → HasRefused s w.state.table ws cause →
     ComesToEnd s w (shown_as false ws) (refused cause) w
 ends_unexpanded s w ws cause linked h = record {
   name = h.name;
@@ -50,7 +50,7 @@ ends_unexpanded s w ws cause linked h = record {
 }
 
 -- words that are no command
-pub ends_unplanned : (s : Running) (w : World) (ws : List (List ℕ)) (why : PlanError) → IsLinked w → HasCommand s w.state.table ws → planned ws ≡ Err why →
+pub ends_unplanned : (s : Running) (w : World) (ws : List (List ℕ)) (why : PlanError) → IsLinkOfState w → HasCommand s w.state.table ws → planned ws ≡ Err why →
     ComesToEnd s w (shown_as true ws) (refused (plan_cause why)) w
 ends_unplanned s w ws why linked h e =
     ends_expanded s w ws (refused (plan_cause why)) linked h (effect_of_plan w.opens w.state.table ws (Err why) e) (table_of_plan w.state.table ws (Err why) e) (up_of_plan w.state.up ws (Err why) e)
@@ -62,7 +62,7 @@ settled_deed x (deed.Sleeps seconds) = refl
 settled_deed x deed.Shuts = refl
 
 -- a command that was carried out, in the world that it leaves
-pub carried_deed : (s : Running) (w : World) (ws : List (List ℕ)) (p : CommandPlan) (d : Deed) (now : World) → IsLinked w → HasCommand s w.state.table ws → planned ws ≡ Ok p →
+pub carried_deed : (s : Running) (w : World) (ws : List (List ℕ)) (p : CommandPlan) (d : Deed) (now : World) → IsLinkOfState w → HasCommand s w.state.table ws → planned ws ≡ Ok p →
     plan_effect w.opens w.state.table p ≡ deed_effect d → now ≡ world_with w (plan_table p w.state.table) (plan_up p w.state.up) → IsCarriedOutBy w d s ws now
 carried_deed s w ws p d now linked h is e world = record {
   name = h.name;
@@ -82,7 +82,7 @@ settled_intent x (intent.Asks query) = refl
 settled_intent x (intent.Fetches wanted) = refl
 
 -- a command whose words are expanded intends this, in the world that it leaves
-pub intends_planned : (s : Running) (w : World) (ws : List (List ℕ)) (p : CommandPlan) (i : Intent) (now : World) → IsLinked w → HasCommand s w.state.table ws → planned ws ≡ Ok p →
+pub intends_planned : (s : Running) (w : World) (ws : List (List ℕ)) (p : CommandPlan) (i : Intent) (now : World) → IsLinkOfState w → HasCommand s w.state.table ws → planned ws ≡ Ok p →
     plan_effect w.opens w.state.table p ≡ intent_effect i → now ≡ world_with w (plan_table p w.state.table) (plan_up p w.state.up) → Intends w i s ws now
 intends_planned s w ws p i now linked h is e world = record {
   name = h.name;
@@ -97,12 +97,12 @@ intends_planned s w ws p i now linked h is e world = record {
 }
 
 -- a command on images leaves the settings and the device
-images_stay : (s : Running) (w : World) (ws : List (List ℕ)) (command : ImageCommand) (h : HasCommand s w.state.table ws) → IsLinked w → planned ws ≡ Ok (plan.Images command) → left_by w (h.name ∷ h.args) ≡ w
+images_stay : (s : Running) (w : World) (ws : List (List ℕ)) (command : ImageCommand) (h : HasCommand s w.state.table ws) → IsLinkOfState w → planned ws ≡ Ok (plan.Images command) → left_by w (h.name ∷ h.args) ≡ w
 images_stay s w ws command h linked is = world_stays w _ _ linked (table_of_words w.state.table (h.name ∷ h.args) ws h.expands ∙ table_of_plan w.state.table ws (Ok (plan.Images command)) is)
     (up_of_words w.state.table w.state.up (h.name ∷ h.args) ws h.expands ∙ up_of_plan w.state.up ws (Ok (plan.Images command)) is)
 
 -- one on images that asks for its file, or is refused
-pub intends_images : (s : Running) (w : World) (ws : List (List ℕ)) (command : ImageCommand) (i : Intent) (now : World) → IsLinked w → HasCommand s w.state.table ws → planned ws ≡ Ok (plan.Images command) →
+pub intends_images : (s : Running) (w : World) (ws : List (List ℕ)) (command : ImageCommand) (i : Intent) (now : World) → IsLinkOfState w → HasCommand s w.state.table ws → planned ws ≡ Ok (plan.Images command) →
     images_effect (found_by_script w s) command ≡ intent_effect i → now ≡ w → Intends w i s ws now
 intends_images s w ws command i now linked h is e world = record {
   name = h.name;

@@ -30,7 +30,7 @@ use Rattle.nb_machine.specs.Scripts.{Upshot, by_end, concluded_by, concludes, up
 use Rattle.nb_machine.specs.States.{State, with_images, with_live}
 use Rattle.nb_machine.specs.Takings.{Over}
 use Rattle.nb_runner.specs.CommandWords.{FitsFile}
-use Rattle.nb_runner.specs.Handings.{IsShort, AreShort, records_left}
+use Rattle.nb_runner.specs.Handings.{IsShortImage, AreShortImages, records_left}
 use Rattle.nb_runner.specs.ImageDeeds.{IsConcludedWell, conclusion_of}
 use Rattle.nb_runner.specs.Steps.{moves_between, moves_in, moves_outside}
 use Rattle.nb_runner.specs.World.{world_with_images}
@@ -47,7 +47,7 @@ use Rattle.nb_network.specs.Takes.{IsEndOf}
 use Rattle.nb_network.specs.declared.over.HasEnded.{HasEnded}
 use Rattle.nb_client.specs.Concluding.{ArrivesWell, handing_of}
 use Rattle.nb_client.specs.Closings.{ShutsAll}
-use Rattle.nb_client.specs.Leading.{LeadsBy}
+use Rattle.nb_client.specs.Leading.{LeadsOnBy}
 use Rattle.nb_runner.proofs.HandingLemmas.{all_remove, begins_at, handoff_few, with_short}
 use Rattle.nb_runner.proofs.ImageLaws.{deep_enough}
 use Rattle.nb_client.proofs.Served.{state_is}
@@ -69,35 +69,35 @@ if_all (Err e) f p q r = tt
 abbrev LeavesShort : ℕ → ArrivalAnswer → Type 0
 LeavesShort depth answer = IfOk answer (λ x. ArrivesWell depth x.0 x.1)
 
-listed_short : (image : Image) (list : ImageList) → IsShort image → AreShort list.images → AreShort (selected_listed image list).images
+listed_short : (image : Image) (list : ImageList) → IsShortImage image → AreShortImages list.images → AreShortImages (selected_listed image list).images
 listed_short image list one all = with_short image list.images one all
 
-script_short : (image : Image) (replace : Bool) (depth : ℕ) (list : ImageList) → IsShort image → AreShort list.images → (b : Bool) → is_too_deep replace depth ≡ b →
+script_short : (image : Image) (replace : Bool) (depth : ℕ) (list : ImageList) → IsShortImage image → AreShortImages list.images → (b : Bool) → is_too_deep replace depth ≡ b →
     LeavesShort depth (cond b (Err ManyScripts) (Ok (arrival.Run (script_of image) replace, script_gone image list)))
 script_short image replace depth list one all true e = tt
-script_short image replace depth list one all false e = (all_remove IsShort (selected_listed image list).images (listed_place image list) (listed_short image list one all), deep_enough replace depth e)
+script_short image replace depth list one all false e = (all_remove IsShortImage (selected_listed image list).images (listed_place image list) (listed_short image list one all), deep_enough replace depth e)
 
-kind_short : (kind : ImageKind) (image : Image) (replace : Bool) (depth : ℕ) (list : ImageList) → IsShort image → AreShort list.images → LeavesShort depth (runs_kind kind image replace depth list)
+kind_short : (kind : ImageKind) (image : Image) (replace : Bool) (depth : ℕ) (list : ImageList) → IsShortImage image → AreShortImages list.images → LeavesShort depth (runs_kind kind image replace depth list)
 kind_short Script image replace depth list one all = script_short image replace depth list one all (is_too_deep replace depth) refl
 kind_short BzImage image replace depth list one all = (listed_short image list one all, listed_place image list, refl)
 kind_short Elf image replace depth list one all = (listed_short image list one all, listed_place image list, refl)
 kind_short Efi image replace depth list one all = (listed_short image list one all, listed_place image list, refl)
 kind_short Other image replace depth list one all = tt
 
-after_short : (a : After) (image : Image) (depth : ℕ) (list : ImageList) → IsShort image → AreShort list.images → LeavesShort depth (arrives_as a image depth list)
+after_short : (a : After) (image : Image) (depth : ℕ) (list : ImageList) → IsShortImage image → AreShortImages list.images → LeavesShort depth (arrives_as a image depth list)
 after_short after.Keep image depth list one all = listed_short image list one all
 after_short after.Select image depth list one all = listed_short image list one all
 after_short (after.Run replace) image depth list one all = kind_short (kind_of image.body) image replace depth list one all
 
-unless_short : (why : Option ImageError) (a : After) (image : Image) (depth : ℕ) (list : ImageList) → IsShort image → AreShort list.images → LeavesShort depth (taken_unless why a image depth list)
+unless_short : (why : Option ImageError) (a : After) (image : Image) (depth : ℕ) (list : ImageList) → IsShortImage image → AreShortImages list.images → LeavesShort depth (taken_unless why a image depth list)
 unless_short (Some why) a image depth list one all = tt
 unless_short None a image depth list one all = after_short a image depth list one all
 
-pub arrives_well : (asking : Asking) (body uri : List ℕ) (depth : ℕ) (list left : ImageList) (a : Arrival) → FitsFile asking → length body ≤ 268435456 → AreShort list.images → arrived asking body uri depth list ≡ Ok (a, left) → ArrivesWell depth a left
+pub arrives_well : (asking : Asking) (body uri : List ℕ) (depth : ℕ) (list left : ImageList) (a : Arrival) → FitsFile asking → length body ≤ 268435456 → AreShortImages list.images → arrived asking body uri depth list ≡ Ok (a, left) → ArrivesWell depth a left
 unfolding arrived
 arrives_well asking body uri depth list left a fits few all is =
     let image = arrived_image asking body uri in
-    let one : IsShort image = record { name = omega (arith, fits.name); body = few; args = omega (arith, fits.args) } in
+    let one : IsShortImage image = record { name = omega (arith, fits.name); body = few; args = omega (arith, fits.args) } in
     subst (λ (r : ArrivalAnswer). LeavesShort depth r) is (unless_short (refusal image list.images) asking.after image depth list one all)
 
 -- WHAT THE MACHINE CONCLUDES
@@ -135,7 +135,7 @@ module _ (before : Site) (s : Running) (wanted : Wanted) (p : Pending) (e : HasE
 
   -- a file was concluded, and that was carried on
   pub file_concludes : (c : Conclusion) (after : Snapshot) (old new : Logged) → conclusion e.cause wanted.asking (unwrap_or e.body []) s.depth w.state.images ≡ conclusion_of c images → IsConcludedWell c s.depth w.state.images images →
-      LeadsBy s c mid after old new → Concludes p e s before after old new
+      LeadsOnBy s c mid after old new → Concludes p e s before after old new
   file_concludes c after old new same well l = record {
     rest = l.rest;
     puts = l.puts;
@@ -159,7 +159,7 @@ module _ (before : Site) (s : Running) (wanted : Wanted) (p : Pending) (e : HasE
 
 -- all that lives was closed, and the image is handed off
 pub boots_leads : {old new : Logged} (before after : Site) (s : Running) (kernel : ℕ) → IsSound before.used before.world before.opens (stage.Running s) → kernel < length before.world.state.images.images → length before.world.state.images.images ≤ 32 →
-    after.used ≡ before.used → ShutsAll [] (result ok ∷ []) before after old new → LeadsBy s (concluded.Boots kernel) before (snapshot_at after (stage.HandingOff (handing_of kernel))) old new
+    after.used ≡ before.used → ShutsAll [] (result ok ∷ []) before after old new → LeadsOnBy s (concluded.Boots kernel) before (snapshot_at after (stage.HandingOff (handing_of kernel))) old new
 boots_leads {old} {new} before after s kernel sound within few same shut =
     let w = before.world in
     let images = w.state.images in

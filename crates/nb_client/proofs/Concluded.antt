@@ -12,7 +12,7 @@ use Rattle.nb_machine.specs.Lives.{Live}
 use Rattle.nb_machine.specs.Running.{Running, entered}
 use Rattle.nb_network.specs.Many.{FitsHoldings, Many}
 use Rattle.nb_runner.specs.ImageDeeds.{IsConcludedWell, IsDeedWell, MayFollow, conclusion_of}
-use Rattle.nb_runner.specs.Intents.{MayAsk}
+use Rattle.nb_runner.specs.Intents.{IsAskable}
 use Rattle.nb_runner.specs.declared.images.ImageDeed.{ImageDeed}
 use Rattle.nb_runner.specs.declared.images.ImageDeed.TheVariants.{Intends, Concludes}
 use Rattle.nb_runner.specs.declared.intent.Intent.{Intent}
@@ -22,8 +22,8 @@ use Rattle.nb_runner.specs.declared.images.Conclusion.{Conclusion}
 use Rattle.nb_runner.specs.declared.images.Conclusion.TheVariants as concluded
 use Rattle.nb_runner.specs.declared.world.World.{World}
 use Rattle.nb_traced.specs.Outputs.{Traced, commands}
-use Rattle.nb_client.specs.Leading.{ConcludesNow, LeadsBy}
-use Rattle.nb_client.specs.Progressing.{LeadsTo, ProceedsTo, TracesTo}
+use Rattle.nb_client.specs.Leading.{ConcludesNow, LeadsOnBy}
+use Rattle.nb_client.specs.Progressing.{LeadsToSnapshot, ProceedsTo, TracesTo}
 use Rattle.nb_client.specs.Snapshots.{Snapshot, snapshot, state_of_world}
 use Rattle.nb_client.specs.Soundness.{IsSound}
 use Rattle.nb_client.specs.Turning.{MovesOn}
@@ -54,7 +54,7 @@ entered_near s early =
     omega (arith, less, length-drop 1 s.rest)
 
 pub concludes_goes : {old new from to : Logged} (w : World) (c : Conclusion) (s : Running) (ws : List (List ℕ)) (before : Site) (after : Snapshot) → s.begun < 4096 → ConcludesNow w c s ws before.world →
-    (l : LeadsBy (entered s) c before after from to) → Puts old new (out_texts (command_record s (shown_as true ws) ∷ l.rest)) → MovesOn (snapshot before.used w before.opens (stage.Running s)) after old new
+    (l : LeadsOnBy (entered s) c before after from to) → Puts old new (out_texts (command_record s (shown_as true ws) ∷ l.rest)) → MovesOn (snapshot before.used w before.opens (stage.Running s)) after old new
 concludes_goes {old} {new} {from} {to} w c s ws before after early x l puts =
     let now = before.world in
     let list = now.state.images in
@@ -99,7 +99,7 @@ concludes_goes {old} {new} {from} {to} w c s ws before after early x l puts =
     }
 
 -- what is known of a deed that asks for its file or is refused, and of one that waits for nothing
-pub deed_intends : (d : ImageDeed) (i : Intent) (depth opens : ℕ) (before after : ImageList) → d ≡ Intends i → IsDeedWell d depth opens before after → MayAsk opens i × (after ≡ before)
+pub deed_intends : (d : ImageDeed) (i : Intent) (depth opens : ℕ) (before after : ImageList) → d ≡ Intends i → IsDeedWell d depth opens before after → IsAskable opens i × (after ≡ before)
 deed_intends d i depth opens before after is h = subst (λ (x : ImageDeed). IsDeedWell x depth opens before after) is h
 
 pub deed_concludes : (d : ImageDeed) (c : Conclusion) (depth opens : ℕ) (before after : ImageList) → d ≡ Concludes c → IsDeedWell d depth opens before after → IsConcludedWell c depth before after

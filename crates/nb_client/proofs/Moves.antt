@@ -10,8 +10,8 @@ use Rattle.nb_defs.specs.ScriptLines.{label_place}
 use Rattle.nb_record.specs.Logged.{Logged, Puts}
 use Rattle.nb_traced.specs.Plain.{without_graph}
 use Rattle.nb_runner.specs.declared.world.World.{World}
-use Rattle.nb_runner.specs.NextCommand.{IsFull, IsLeft, HasPassed}
-use Rattle.nb_runner.specs.Steps.{Does, GoesTo, moves_in, moves_left, moves_outside}
+use Rattle.nb_runner.specs.NextCommand.{IsStepFull, IsScriptLeft, HasPassed}
+use Rattle.nb_runner.specs.Steps.{Does, GoesToLabel, moves_in, moves_left, moves_outside}
 use Rattle.nb_runner.specs.World.{world_within}
 use Rattle.nb_runner.proofs.Measures.{further_nearer, jump_nearer}
 use Rattle.nb_runner.proofs.Puts.{Puts-nothing}
@@ -27,7 +27,7 @@ use Rattle.nb_traced.specs.Pieces.{IsApart}
 use Rattle.nb_network.specs.Many.{AreOpensOf, Many}
 use Rattle.nb_client.specs.Progressing.{IsAtWork, ProceedsTo, most_moves, no_further, one_further}
 use Rattle.nb_client.specs.Snapshots.{StandsForProgress, at_running, at_waiting, at_yielded, at_left, at_returning, pieces_waiting, snapshot, state_of_world, waiting_for}
-use Rattle.nb_client.specs.Soundness.{IsSound, IsUnderWay, snapshot_at}
+use Rattle.nb_client.specs.Soundness.{IsSound, WasStarted, snapshot_at}
 use Rattle.nb_client.specs.Turning.{ComesToEnd, GoesOnBy, IsSettledAt, LeftTo, MovesOn, found_by_script, left_by}
 use Rattle.nb_client.specs.declared.pending.Expected.TheVariants.{Open, Moment}
 use Rattle.nb_client.specs.declared.site.Site.{Site}
@@ -63,7 +63,7 @@ none_waits (stage.HandingOff h) q = absurd q
 none_waits stage.HandedOff q = absurd q
 none_waits stage.Stopped q = absurd q
 
-pub quiet_under_way : (st : Stage) → IsQuiet st → IsUnderWay st
+pub quiet_under_way : (st : Stage) → IsQuiet st → WasStarted st
 quiet_under_way (stage.Running s) q = tt
 quiet_under_way (stage.Yielded s) q = tt
 quiet_under_way (stage.Returning s cause) q = tt
@@ -180,7 +180,7 @@ left_nearer n w m s cause (t ∷ others) now st h at_work =
     rw (h.0, h.1) (omega (arith, both))
 
 -- the script is left, after what it passes first
-pub left_goes : {old new : Logged} (n : ℕ) (w : World) (now : List Running) (m : Many) (s : Running) (cause : Cause) (st : Stage) → IsSound n w m (stage.Running s) → IsLeft s cause → LeftTo s.begun cause w.outer st now → Puts old new (out_texts (leave s.depth cause ∷ [])) →
+pub left_goes : {old new : Logged} (n : ℕ) (w : World) (now : List Running) (m : Many) (s : Running) (cause : Cause) (st : Stage) → IsSound n w m (stage.Running s) → IsScriptLeft s cause → LeftTo s.begun cause w.outer st now → Puts old new (out_texts (leave s.depth cause ∷ [])) →
     MovesOn (snapshot n w m (stage.Running s)) (snapshot n (world_within w now) m st) old new
 left_goes {old} {new} n w now m s cause st sound is to puts =
     let to_last : LeftTo is.last.begun cause w.outer st now = subst (λ k. LeftTo k cause w.outer st now) (sym is.same_begun) to in
@@ -226,7 +226,7 @@ back_goes {old} {new} n w m s cause sound puts = record {
 }
 
 -- its next command has to wait
-pub yield_goes : {old : Logged} (n : ℕ) (w : World) (m : Many) (s : Running) → IsSound n w m (stage.Running s) → IsFull s → MovesOn (snapshot n w m (stage.Running s)) (snapshot n w m (stage.Yielded s)) old old
+pub yield_goes : {old : Logged} (n : ℕ) (w : World) (m : Many) (s : Running) → IsSound n w m (stage.Running s) → IsStepFull s → MovesOn (snapshot n w m (stage.Running s)) (snapshot n w m (stage.Yielded s)) old old
 yield_goes n w m s sound full = record {
   goes = quiet_goes n w w m s (stage.Yielded s) [] tt refl sound refl Puts-nothing
       (λ live are. (stands n (yielded (state_of_world w live) s w.outer), one_move _ _ [] (yields n (state_of_world w live) s w.outer full.name full.args full.comes full.full), at_yielded n w m s live are))
@@ -312,7 +312,7 @@ after_goto n w m s t shown cause sound puts moves near = record {
 
 -- `goto`
 pub goto_goes : {old new : Logged} (n : ℕ) (w : World) (m : Many) (s t : Running) (shown : ShownWords) (c : List ℕ) (cs : List (List ℕ)) (name : List ℕ) (place : Option ℕ) → IsSound n w m (stage.Running s) →
-    coming s ≡ beginning c cs → s.begun < 4096 → length s.code ≤ 1048576 → effect_in (found_by_script w s) (c ∷ cs) ≡ goes name → shown_words w.state.table (c ∷ cs) ≡ shown → label_place name s.code ≡ place → GoesTo shown place s t old new →
+    coming s ≡ beginning c cs → s.begun < 4096 → length s.code ≤ 1048576 → effect_in (found_by_script w s) (c ∷ cs) ≡ goes name → shown_words w.state.table (c ∷ cs) ≡ shown → label_place name s.code ≡ place → GoesToLabel shown place s t old new →
     MovesOn (snapshot n w m (stage.Running s)) (snapshot n w m (stage.Running t)) old new
 goto_goes {old} {new} n w m s t shown c cs name (Some line) sound comes early short e shows there to =
     let moves : (live : List Live) → Proceeds (stands n (running (state_of_world w live) s w.outer)) (command_records s shown (refused ok)) (stands n (running (state_of_world w live) (behind_line s line) w.outer)) =

@@ -29,7 +29,7 @@ use Rattle.nb_runner.specs.declared.world.World.{World}
 use Rattle.nb_traced.specs.Outputs.{apart}
 use Rattle.nb_traced.specs.Pieces.{IsApart}
 use Rattle.nb_network.specs.Many.{AreOpensOf}
-use Rattle.nb_client.specs.Leading.{LeadsBy, RunsBy, RunsTextInPlace, RunsTextWithin}
+use Rattle.nb_client.specs.Leading.{LeadsOnBy, RunsBy, RunsTextInPlace, RunsTextWithin}
 use Rattle.nb_client.specs.Progressing.{IsAtWork, most_moves}
 use Rattle.nb_client.specs.Snapshots.{Snapshot, StandsForProgress, at_returning, at_running, snapshot, state_of_world}
 use Rattle.nb_client.specs.Soundness.{IsSound, snapshot_at}
@@ -64,9 +64,9 @@ record IsQuietly (before : Site) (inner : Running) (c : Conclusion) (w' : World)
   nearer : IsAtWork st → most_moves st (snapshot before.used w' before.opens st) < moves_in inner + moves_between + moves_outside before.world.outer
 
 quiet_leads : {old new : Logged} (before after : Site) (inner : Running) (c : Conclusion) (w' : World) (st : Stage) (rest : List Out) → IsQuietly before inner c w' st rest → after.used ≡ before.used → after.opens ≡ before.opens → after.world ≡ w' →
-    Puts old new (out_texts rest) → LeadsBy inner c before (snapshot_at after st) old new
+    Puts old new (out_texts rest) → LeadsOnBy inner c before (snapshot_at after st) old new
 quiet_leads {old} {new} before after inner c w' st rest q used opens world puts =
-    subst (λ (x : Snapshot). LeadsBy inner c before x old new) (sym (same_snapshot st st used world opens refl)) (record {
+    subst (λ (x : Snapshot). LeadsOnBy inner c before x old new) (sym (same_snapshot st st used world opens refl)) (record {
       rest = rest;
       puts = puts;
       comes = λ live are. record {
@@ -126,15 +126,15 @@ module _ (before : Site) (s : Running) (sound : IsSound before.used before.world
   }
 
   pub keeps_leads : {old new : Logged} (after : Site) → after.used ≡ before.used → after.opens ≡ before.opens → after.world ≡ w → Puts old new (out_texts (result ok ∷ [])) →
-      LeadsBy s conclusion.Keeps before (snapshot_at after (stage.Running (with_result s ok))) old new
+      LeadsOnBy s conclusion.Keeps before (snapshot_at after (stage.Running (with_result s ok))) old new
   keeps_leads after used opens world puts = quiet_leads before after s conclusion.Keeps w _ (result ok ∷ []) (goes_on conclusion.Keeps ok [] tt refl (λ live. (refl, refl))) used opens world puts
 
   pub tells_leads : {old new : Logged} (lines : Lines) (after : Site) → after.used ≡ before.used → after.opens ≡ before.opens → after.world ≡ w → Puts old new (out_texts (map text lines ++ (result ok ∷ []))) →
-      LeadsBy s (conclusion.Tells lines) before (snapshot_at after (stage.Running (with_result s ok))) old new
+      LeadsOnBy s (conclusion.Tells lines) before (snapshot_at after (stage.Running (with_result s ok))) old new
   tells_leads lines after used opens world puts = quiet_leads before after s (conclusion.Tells lines) w _ (map text lines ++ (result ok ∷ [])) (goes_on (conclusion.Tells lines) ok (map text lines) (apart_texts lines) refl (λ live. (refl, refl))) used opens world puts
 
   pub fails_leads : {old new : Logged} (cause : Cause) (after : Site) → after.used ≡ before.used → after.opens ≡ before.opens → after.world ≡ w → Puts old new (out_texts (result cause ∷ [])) →
-      LeadsBy s (conclusion.Fails cause) before (snapshot_at after (stage.Running (with_result s cause))) old new
+      LeadsOnBy s (conclusion.Fails cause) before (snapshot_at after (stage.Running (with_result s cause))) old new
   fails_leads cause after used opens world puts = quiet_leads before after s (conclusion.Fails cause) w _ (result cause ∷ []) (goes_on (conclusion.Fails cause) cause [] tt refl (λ live. (refl, refl))) used opens world puts
 
   -- ANOTHER SCRIPT RUNS
@@ -207,10 +207,10 @@ module _ (before : Site) (s : Running) (sound : IsSound before.used before.world
       }
 
   -- a script of the list runs
-  pub runs_leads : {old new : Logged} (image : ScriptImage) (replaces : Bool) (after : Site) (st : Stage) → RunsBy s image replaces before after st old new → LeadsBy s (conclusion.Runs image replaces) before (snapshot_at after st) old new
+  pub runs_leads : {old new : Logged} (image : ScriptImage) (replaces : Bool) (after : Site) (st : Stage) → RunsBy s image replaces before after st old new → LeadsOnBy s (conclusion.Runs image replaces) before (snapshot_at after st) old new
   runs_leads {old} {new} image false after st r = by r.text r.is_read r.runs
     where
-      by : (t : TextRead) → IsTextRead image.text t → RunsTextWithin s t image.uri before after st old new → LeadsBy s (conclusion.Runs image false) before (snapshot_at after st) old new
+      by : (t : TextRead) → IsTextRead image.text t → RunsTextWithin s t image.uri before after st old new → LeadsOnBy s (conclusion.Runs image false) before (snapshot_at after st) old new
       by (read.Runs code) reads runs =
           rw runs.0 (quiet_leads before after s (conclusion.Runs image false) (world_within w (s ∷ w.outer)) (stage.Running (script_within s image.uri code)) (enter (s.depth + 1) ∷ [])
           (enters_within image code reads runs.1) runs.2.used runs.2.opens runs.2.world runs.3)
@@ -219,7 +219,7 @@ module _ (before : Site) (s : Running) (sound : IsSound before.used before.world
           (refuses_within image cause reads) refl refl refl runs.2)
   runs_leads {old} {new} image true after st r = by r.text r.is_read r.runs
     where
-      by : (t : TextRead) → IsTextRead image.text t → RunsTextInPlace s t image.uri before after st r.between new → LeadsBy s (conclusion.Runs image true) before (snapshot_at after st) old new
+      by : (t : TextRead) → IsTextRead image.text t → RunsTextInPlace s t image.uri before after st r.between new → LeadsOnBy s (conclusion.Runs image true) before (snapshot_at after st) old new
       by (read.Runs code) reads runs =
           rw (runs.0, runs.2) (quiet_leads before before s (conclusion.Runs image true) w (stage.Running (script_in_place s image.uri code)) (result ok ∷ replace s.depth ∷ [])
           (enters_in_place image code reads runs.1) refl refl refl (Puts-outs (result ok ∷ []) (replace s.depth ∷ []) r.ends runs.3))

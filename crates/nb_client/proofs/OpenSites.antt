@@ -15,13 +15,13 @@ use Rattle.nb_traced.specs.Plain.{without_graph}
 use Rattle.nb_traced.proofs.Plain.{plain_append, plain_behind}
 use Rattle.nb_record.specs.Logged.{Logged, Puts}
 use Rattle.nb_runner.proofs.Puts.{Puts-outs}
-use Rattle.nb_runner.specs.World.{IsLinked}
+use Rattle.nb_runner.specs.World.{IsLinkOfState}
 use Rattle.nb_runner.specs.declared.world.World.{World}
 use Rattle.nb_stack.specs.Client.{Client}
 use Rattle.nb_traced.specs.Outputs.{Traced, apart}
 use Rattle.nb_traced.specs.Pieces.{event_records}
 use Rattle.nb_client.specs.Asked.{beside_kind, job_asked, live_asked}
-use Rattle.nb_client.specs.Beginnings.{BeginsBy, LetsGo, asked_kind}
+use Rattle.nb_client.specs.Beginnings.{BeginsNext, DropsWaiting, asked_kind}
 use Rattle.nb_client.specs.Openings.{IsOpenedIn, Opened, begun_script, front_records}
 use Rattle.nb_client.specs.Serving.{world_at}
 use Rattle.nb_client.specs.Snapshots.{snapshot, state_of_world}
@@ -41,17 +41,17 @@ pub record HasBegun (a : Asked) (o : Opening) (waits left : Option Chain) (befor
   pub opens : OpensOne before.opens before.world.net before.world.time before.world.opens o (waiting_pieces (chain_kind o) waits) (waiting_pieces (beside_kind a) left) m net ended made_text told_text
   pub sound : AreSound before.world.w (before.world.opens + 1) net m
   pub serials : m.graph.book.made ≤ 3 * before.world.opens + 3
-  pub linked : IsLinked (world_at before.world net before.world.time)
+  pub linked : IsLinkOfState (world_at before.world net before.world.time)
   pub waiting : HasWaiting (beside_kind a) left (number_by ended before.world.opens) m
 
-pub has_begun : (a : Asked) (o : Opening) (waits : Option Chain) (before begun : Site) (made : NewOpen) (ended : Option Cause) → made.ended ≡ ended → BeginsBy o (beside_kind a) waits before begun made →
+pub has_begun : (a : Asked) (o : Opening) (waits : Option Chain) (before begun : Site) (made : NewOpen) (ended : Option Cause) → made.ended ≡ ended → BeginsNext o (beside_kind a) waits before begun made →
     HasBegun a o waits made.waits before begun.world.net begun.opens ended made.desk.made.value.text made.desk.told.value.text
 has_begun a o waits before begun made ended is b =
     subst (λ e. HasBegun a o waits made.waits before begun.world.net begun.opens e made.desk.made.value.text made.desk.told.value.text) is (record {
       opens = b.opens;
       sound = subst (λ (v : World). AreSound v.w (v.opens + 1) begun.world.net begun.opens) b.world b.sound;
       serials = b.serials;
-      linked = subst IsLinked b.world b.linked;
+      linked = subst IsLinkOfState b.world b.linked;
       waiting = b.waiting;
     })
 
@@ -109,7 +109,7 @@ opened_waits {old} {new} a o waits left shown script before net m sound fits is 
 pub opened_back : {old mid new : Logged} {made_text told_text : List ℕ} (a : Asked) (o : Opening) (waits left : Option Chain) (shown : Option (List (List ℕ))) (script : Running) (before begun now : Site) (cause : Cause) →
     IsSound before.used before.world before.opens (stage.Running script) → IsOpeningFor a o before.world → begun.world ≡ world_at before.world begun.world.net before.world.time →
     HasBegun a o waits left before begun.world.net begun.opens (Some cause) made_text told_text → PutsBegun shown script o before.world (Some cause) made_text told_text old mid →
-    LetsGo (beside_kind a) left (before.world.opens + 1) begun now (result cause ∷ []) mid new →
+    DropsWaiting (beside_kind a) left (before.world.opens + 1) begun now (result cause ∷ []) mid new →
     Opened a (waiting_pieces (asked_kind a) waits) shown script before (snapshot before.used (world_begun before.world begun.world.net) now.opens (stage.Running (with_result (begun_script shown script) cause))) old new
 opened_back {old} {mid} {new} a o waits left shown script before begun now cause sound is world h puts lets =
     let w = before.world in

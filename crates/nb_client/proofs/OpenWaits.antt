@@ -9,10 +9,10 @@ use Rattle.nb_network.specs.Many.{AreSound, FitsHoldings, IsNewestBut, IsStateOf
 use Rattle.nb_record.specs.Logged.{Logged, Puts}
 use Rattle.nb_runner.proofs.Puts.{Puts-nothing, Puts-outs}
 use Rattle.nb_terms.specs.declared.cause.Cause.{Cause}
-use Rattle.nb_traced.specs.Holdings.{Piece}
+use Rattle.nb_traced.specs.Holdings.{GraphObject}
 use Rattle.nb_traced.specs.Outputs.{Traced}
 use Rattle.nb_traced.specs.Pieces.{event_records}
-use Rattle.nb_client.specs.Beginnings.{LetsGo}
+use Rattle.nb_client.specs.Beginnings.{DropsWaiting}
 use Rattle.nb_client.specs.Openings.{Opened, OpensNext, opens_it, opens_none}
 use Rattle.nb_client.specs.Snapshots.{Snapshot}
 use Rattle.nb_client.specs.Soundness.{HasWaiting, IsClean}
@@ -42,8 +42,8 @@ one_waits kind c awaited m beside newest = record {
 
 -- nothing waits, and nothing is put
 pub lets_nothing : {log : Logged} (kind : ChainKind) (waits : Option Chain) (opens : ℕ) (before after : Site) → waits ≡ None → after.opens ≡ before.opens → AreSound before.world.w opens before.world.net before.opens →
-    LetsGo kind waits opens before after [] log log
-lets_nothing {log} kind waits opens before after none same sound = subst (λ x. LetsGo kind x opens before after [] log log) (sym none) (record {
+    DropsWaiting kind waits opens before after [] log log
+lets_nothing {log} kind waits opens before after none same sound = subst (λ x. DropsWaiting kind x opens before after [] log log) (sym none) (record {
   events = [];
   puts = Puts-nothing;
   same_list = ap (λ (m : Many). m.list) same;
@@ -59,8 +59,8 @@ lets_nothing {log} kind waits opens before after none same sound = subst (λ x. 
 
 -- one waits, and is given up
 pub lets_one : {old new : Logged} (kind : ChainKind) (waits : Option Chain) (c : Chain) (opens : ℕ) (before after : Site) (text : List ℕ) → waits ≡ Some c → GivesUpWaiting kind c before.opens opens after.opens text →
-    AreSound before.world.w opens before.world.net after.opens → after.opens.graph.book.made ≡ before.opens.graph.book.made → Puts old new text → LetsGo kind waits opens before after [] old new
-lets_one {old} {new} kind waits c opens before after text some gone sound made puts = subst (λ x. LetsGo kind x opens before after [] old new) (sym some) (record {
+    AreSound before.world.w opens before.world.net after.opens → after.opens.graph.book.made ≡ before.opens.graph.book.made → Puts old new text → DropsWaiting kind waits opens before after [] old new
+lets_one {old} {new} kind waits c opens before after text some gone sound made puts = subst (λ x. DropsWaiting kind x opens before after [] old new) (sym some) (record {
   events = gone.events;
   puts = subst (Puts old new) (gone.text_is ∙ ap out_texts (sym (append-nil (event_records gone.events)))) puts;
   same_list = gone.same_list;
@@ -71,8 +71,8 @@ lets_one {old} {new} kind waits c opens before after text some gone sound made p
 })
 
 -- and then a result is put
-pub lets_result : {old mid new : Logged} (kind : ChainKind) (waits : Option Chain) (opens : ℕ) (before after : Site) (cause : Cause) → LetsGo kind waits opens before after [] old mid → Puts mid new (out_texts (result cause ∷ [])) →
-    LetsGo kind waits opens before after (result cause ∷ []) old new
+pub lets_result : {old mid new : Logged} (kind : ChainKind) (waits : Option Chain) (opens : ℕ) (before after : Site) (cause : Cause) → DropsWaiting kind waits opens before after [] old mid → Puts mid new (out_texts (result cause ∷ [])) →
+    DropsWaiting kind waits opens before after (result cause ∷ []) old new
 lets_result {old} {mid} {new} kind waits opens before after cause l p = record {
   events = l.events;
   puts = subst (λ xs. Puts old new (out_texts (xs ++ (result cause ∷ [])))) (append-nil (event_records l.events)) (Puts-outs (event_records l.events ++ []) (result cause ∷ []) l.puts p);
@@ -85,7 +85,7 @@ lets_result {old} {mid} {new} kind waits opens before after cause l p = record {
 
 -- WHAT WAS GATHERED
 
-pub gathered_opened : {from to old new : Logged} (a : Asked) (first : List Piece) (shown : Option (List (List ℕ))) (script : Running) (before : Site) (after : Snapshot) → Opened a first shown script before after from to →
+pub gathered_opened : {from to old new : Logged} (a : Asked) (first : List GraphObject) (shown : Option (List (List ℕ))) (script : Running) (before : Site) (after : Snapshot) → Opened a first shown script before after from to →
     IsClean from → to.is_short ≡ false → Puts old new to.bytes → Opened a first shown script before after old new
 gathered_opened a first shown script before after o clean whole puts = record {
   rest = o.rest;

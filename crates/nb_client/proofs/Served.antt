@@ -10,7 +10,7 @@ use Rattle.nb_traced.proofs.Plain.{plain_append}
 use Rattle.nb_stack.specs.Client.{Client}
 use Rattle.nb_runner.specs.declared.world.World.{World}
 use Rattle.nb_imagecmd.specs.Promises.{HasShortNames}
-use Rattle.nb_runner.specs.Handings.{AreShort}
+use Rattle.nb_runner.specs.Handings.{AreShortImages}
 use Rattle.nb_machine.specs.Courses.{Progress, Standing, stands, waiting, yielded, StepBegins}
 use Rattle.nb_machine.specs.Lives.{Live}
 use Rattle.nb_machine.specs.Network.{Network, passes_by, brings, brings_reply, passes_time}
@@ -28,7 +28,7 @@ use Rattle.nb_network.specs.declared.over.HasEnded.{HasEnded}
 use Rattle.nb_client.specs.Progressing.{AdvancesFrom, BringsTo, StandsFirst, TracesTo}
 use Rattle.nb_client.specs.Serving.{Serves, world_at}
 use Rattle.nb_client.specs.Snapshots.{Snapshot, StandsForProgress, pieces_waiting, state_of_world}
-use Rattle.nb_client.specs.Soundness.{IsSound, IsUnderWay, StandsWell, awaited_at, snapshot_at}
+use Rattle.nb_client.specs.Soundness.{IsSound, WasStarted, StandsWell, awaited_at, snapshot_at}
 use Rattle.nb_client.specs.Turning.{GoesOnBy, IsServed}
 use Rattle.nb_client.specs.declared.site.Site.{Site}
 use Rattle.nb_client.specs.declared.stage.Stage.{Stage}
@@ -115,7 +115,7 @@ served_sound {r} {awaited} {answer} {before} {mid} at st sound v leases well =
       serials = omega (arith, t.takes.same_made, same, sound.serials);
       leases = leases;
       well = well;
-      short = subst (λ (w : World). AreShort w.state.images.images) (sym v.world) sound.short;
+      short = subst (λ (w : World). AreShortImages w.state.images.images) (sym v.world) sound.short;
       named = subst (λ (w : World). HasShortNames w.state.images) (sym v.world) sound.named;
       linked = v.linked;
     }
@@ -160,7 +160,7 @@ pub step_goes : {r : In} {awaited : Option ℕ} {answer : Option HasEnded} {befo
     ((live : List Live) (h : HasServed r awaited answer before mid l0 l1 live) → StepsOn r before.used (place.standing live) (without_graph h.records) (without_graph rest) after) →
     ((outs : List Out) (h : Holdings) (so_far : List Arrived) → Traced outs h so_far → FitsHoldings mid.opens before.world.opens (pieces_waiting at) h → TracesTo after (outs ++ rest) so_far) →
     ((live : List Live) (h : HasServed r awaited answer before mid l0 l1 live) → h.came ≡ [] → without_graph rest ≡ rest) →
-    IsSound after.used after.world after.many after.stage → IsUnderWay after.stage → GoesOnBy (r ∷ []) (snapshot_at before at) after old new
+    IsSound after.used after.world after.many after.stage → WasStarted after.stage → GoesOnBy (r ∷ []) (snapshot_at before at) after old new
 step_goes {r} {awaited} {answer} {before} {mid} {l0} {l1} {old} {new} at place after rest v puts steps traces quiet sound under_way =
     let n = before.used + 1 in
     let at_place : (live : List Live) → AreOpensOf before.opens.graph before.opens.list live → AdvancesFrom (r ∷ []) (stands before.used (place.standing live)) (snapshot_at before at) after old new =

@@ -12,7 +12,7 @@ use Rattle.nb_runner.specs.declared.errand.Onward.TheVariants as onward
 use Rattle.nb_runner.specs.declared.query.Query.TheVariants as query
 use Rattle.nb_chains.specs.declared.kind.ChainKind.{ChainKind}
 use Rattle.nb_chains.specs.declared.kind.ChainKind.TheVariants as chain
-use Rattle.nb_traced.specs.Holdings.{Piece}
+use Rattle.nb_traced.specs.Holdings.{GraphObject}
 use Rattle.nb_open.specs.Begins.{waiting_pieces}
 use Rattle.nb_client.specs.declared.asked.Asked.{Asked}
 use Rattle.nb_client.specs.declared.asked.Asked.TheVariants.{File, Query as Exchange}
@@ -55,6 +55,6 @@ beside_kind (Exchange (query.Address setting name by)) = chain.File
 beside_kind (Exchange (query.Host e name by)) = errand_kind e
 
 -- the objects that wait
-abbrev pub pieces_beside : Expected → List Piece
+abbrev pub pieces_beside : Expected → List GraphObject
 pieces_beside (Open p) = waiting_pieces (beside_kind p.asked) p.waits
 pieces_beside (Moment time) = []

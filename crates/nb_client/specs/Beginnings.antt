@@ -11,7 +11,7 @@ use Rattle.nb_machine.specs.States.{State}
 use Rattle.nb_stack.specs.Client.{Client}
 use Rattle.nb_runner.specs.declared.world.World.{World}
 use Rattle.nb_runner.specs.declared.query.Query.TheVariants as query
-use Rattle.nb_runner.specs.World.{IsLinked}
+use Rattle.nb_runner.specs.World.{IsLinkOfState}
 use Rattle.nb_chains.specs.declared.chain.Chain.{Chain}
 use Rattle.nb_chains.specs.declared.kind.ChainKind.{ChainKind}
 use Rattle.nb_chains.specs.declared.kind.ChainKind.TheVariants as chain
@@ -53,18 +53,18 @@ pub record IsLookupBy (w : World) (name : List ℕ) (by : Ip4) (a : LookupAsk) :
   pub named : a.name.now ≡ name
 
 -- The next open was begun, of which this has waited; what waits beside it is of this kind.
-pub record BeginsBy (a : Opening) (kind : ChainKind) (waits : Option Chain) (before after : Site) (o : NewOpen) : Type 0 where
+pub record BeginsNext (a : Opening) (kind : ChainKind) (waits : Option Chain) (before after : Site) (o : NewOpen) : Type 0 where
   pub opens : OpensOne before.opens before.world.net before.world.time before.world.opens a (waiting_pieces (chain_kind a) waits) (waiting_pieces kind o.waits)
       after.opens after.world.net o.ended o.desk.made.value.text o.desk.told.value.text
   pub used : after.used ≡ before.used
   pub world : after.world ≡ world_at before.world after.world.net before.world.time
   pub sound : AreSound after.world.w (after.world.opens + 1) after.world.net after.opens
   pub serials : after.opens.graph.book.made ≤ 3 * before.world.opens + 3
-  pub linked : IsLinked after.world
+  pub linked : IsLinkOfState after.world
   pub waiting : HasWaiting kind o.waits (number_by o.ended before.world.opens) after.opens
 
 -- What waits is let go, if anything does, of a run in which so many opens were made; and then these records are put.
-pub record LetsGo (kind : ChainKind) (waits : Option Chain) (opens : ℕ) (before after : Site) (then_put : List Out) (old new : Logged) : Type 0 where
+pub record DropsWaiting (kind : ChainKind) (waits : Option Chain) (opens : ℕ) (before after : Site) (then_put : List Out) (old new : Logged) : Type 0 where
   pub events : List GraphEvent
   pub puts : Puts old new (out_texts (event_records events ++ then_put))
   pub same_list : after.opens.list ≡ before.opens.list

@@ -8,7 +8,7 @@ use Rattle.nb_machine.specs.CommandRecords.{stopped_cause}
 use Rattle.nb_machine.specs.Courses.{down_cause}
 use Rattle.nb_machine.specs.States.{State}
 use Rattle.nb_runner.specs.World.{with_net}
-use Rattle.nb_traced.specs.Holdings.{Holdings, Piece}
+use Rattle.nb_traced.specs.Holdings.{Holdings, GraphObject}
 use Rattle.nb_traced.specs.Outputs.{Arrived, Traced}
 use Rattle.nb_network.specs.Closings.{closes_with}
 use Rattle.nb_network.specs.Many.{AreSound, FitsHoldings, IsStateOf}
@@ -21,7 +21,7 @@ use Rattle.nb_client.specs.declared.stage.Stage.{Stage}
 use Rattle.nb_client.specs.declared.stage.Stage.TheVariants as stage
 
 -- Each open was closed with this cause after these records, and none lives afterwards; what waits is gone too.
-pub record ClosesBy (cause : Cause) (first : List Piece) (front : List Out) (before after : Site) (old new : Logged) : Type 0 where
+pub record ClosesBy (cause : Cause) (first : List GraphObject) (front : List Out) (before after : Site) (old new : Logged) : Type 0 where
   pub records : List Out
   pub puts : Puts old new (out_texts (front ++ records))
   pub none : after.opens.list ≡ []
@@ -34,7 +34,7 @@ pub record ClosesBy (cause : Cause) (first : List Piece) (front : List Out) (bef
   pub sound : AreSound before.world.w before.world.opens after.world.net after.opens
   pub serials : after.opens.graph.book.made ≡ before.opens.graph.book.made
 
-abbrev pub ShutsAll : List Piece → List Out → Site → Site → Logged → Logged → Type 0
+abbrev pub ShutsAll : List GraphObject → List Out → Site → Site → Logged → Logged → Type 0
 ShutsAll first front before after old new = ClosesBy stopped_cause first front before after old new
 
 abbrev pub ClosesDown : Site → Site → Logged → Logged → Type 0

@@ -8,12 +8,12 @@ use Rattle.nb_wire.specs.declared.address.Ip4.{Ip4}
 use Rattle.nb_image.specs.Images.{ImageList}
 use Rattle.nb_imagecmd.specs.declared.arriving.Arrival.{Arrival}
 use Rattle.nb_imagecmd.specs.declared.arriving.Arrival.TheVariants as arrival
-use Rattle.nb_runner.specs.Handings.{AreShort}
+use Rattle.nb_runner.specs.Handings.{AreShortImages}
 use Rattle.nb_settings.specs.Tables.{TableLists}
 use Rattle.nb_command.specs.Settings.{Change}
 use Rattle.nb_command.specs.Addresses.{address_table}
 use Rattle.nb_machine.specs.Errands.{Errand, Onward, onward}
-use Rattle.nb_machine.specs.Findings.{Settled, lease_change, settled_by}
+use Rattle.nb_machine.specs.Findings.{Settlement, lease_change, settled_by}
 use Rattle.nb_machine.specs.Queries.{Query, for_lease, for_echo, for_host, for_address}
 use Rattle.nb_machine.specs.Running.{Running, with_result}
 use Rattle.nb_runner.specs.CommandWords.{FitsOnward, onward_of}
@@ -24,7 +24,7 @@ use Rattle.nb_runner.specs.declared.query.Query.{Query as Asking}
 use Rattle.nb_chains.specs.declared.chain.Chain.{Chain}
 use Rattle.nb_chains.specs.declared.kind.ChainKind.{ChainKind}
 use Rattle.nb_network.specs.declared.over.HasEnded.{HasEnded}
-use Rattle.nb_client.specs.Beginnings.{LetsGo}
+use Rattle.nb_client.specs.Beginnings.{DropsWaiting}
 use Rattle.nb_client.specs.declared.pending.Next.{Next}
 use Rattle.nb_client.specs.declared.site.Site.{Site}
 use Rattle.nb_client.specs.declared.stage.Stage.{Stage}
@@ -33,9 +33,9 @@ use Rattle.nb_client.specs.declared.stage.Stage.TheVariants as stage
 -- What holds of a file's arrival for a script of this depth, which leaves this list: all texts are short, a script that runs within
 -- isn't the ninth, and what boots is selected.
 abbrev pub ArrivesWell : ℕ → Arrival → ImageList → Type 0
-ArrivesWell depth arrival.Kept left = AreShort left.images
-ArrivesWell depth (arrival.Run script replace) left = AreShort left.images × (replace ≡ false → depth < 8)
-ArrivesWell depth arrival.Boot left = AreShort left.images × (i : ℕ) × (left.selected ≡ Some i)
+ArrivesWell depth arrival.Kept left = AreShortImages left.images
+ArrivesWell depth (arrival.Run script replace) left = AreShortImages left.images × (replace ≡ false → depth < 8)
+ArrivesWell depth arrival.Boot left = AreShortImages left.images × (i : ℕ) × (left.selected ≡ Some i)
 
 -- the hand-off of the image at this place, of which nothing was put
 abbrev pub handing_of : ℕ → Handing
@@ -71,7 +71,7 @@ change_by (for_host errand name by) e table = Ok table
 change_by (for_address setting name by) e table = option_map_or (λ address. address_table setting address.0 table) e.address (Ok table)
 
 -- what a command comes to whose open has ended so
-abbrev pub settled_so : HasEnded → Query → TableLists → Settled
+abbrev pub settled_so : HasEnded → Query → TableLists → Settlement
 settled_so e q table = if is_ok_cause e.cause then settled_by table (change_by q e table) else record { cause = e.cause; table = table }
 
 -- The server's own open is next, of which this has waited.
@@ -83,7 +83,7 @@ pub record ReachesAt (s : Running) (q : Asking) (server : Ip4) (c : Chain) (st :
   pub fits : FitsOnward next.onward
 
 -- The command was settled so, and the device follows its settings; what has waited was let go.
-pub record SettlesAt (s : Running) (kind : ChainKind) (waits : Option Chain) (x : Settled) (before after : Site) (st : Stage) (old new : Logged) : Type 0 where
+pub record SettlesAt (s : Running) (kind : ChainKind) (waits : Option Chain) (x : Settlement) (before after : Site) (st : Stage) (old new : Logged) : Type 0 where
   pub between : Site
   pub same_used : between.used ≡ before.used
   pub same_opens : between.opens ≡ before.opens
@@ -91,4 +91,4 @@ pub record SettlesAt (s : Running) (kind : ChainKind) (waits : Option Chain) (x 
   pub used : after.used ≡ before.used
   pub same_world : after.world ≡ between.world
   pub there : st ≡ stage.Running (with_result s x.cause)
-  pub lets : LetsGo kind waits before.world.opens between after (result x.cause ∷ []) old new
+  pub lets : DropsWaiting kind waits before.world.opens between after (result x.cause ∷ []) old new

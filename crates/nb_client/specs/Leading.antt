@@ -27,21 +27,21 @@ use Rattle.nb_traced.specs.Outputs.{Arrived, Traced}
 use Rattle.nb_network.specs.Many.{AreOpensOf, FitsHoldings}
 use Rattle.nb_client.specs.Progressing.{IsAtWork, TracesTo, most_moves}
 use Rattle.nb_client.specs.Snapshots.{Snapshot, StandsForProgress, state_of_world}
-use Rattle.nb_client.specs.Soundness.{IsSound, IsUnderWay}
+use Rattle.nb_client.specs.Soundness.{IsSound, WasStarted}
 use Rattle.nb_client.specs.Turning.{IsLeftAt, found_by_script}
 use Rattle.nb_client.specs.declared.site.Site.{Site}
 use Rattle.nb_client.specs.declared.stage.Stage.{Stage}
 use Rattle.nb_client.specs.declared.stage.Stage.TheVariants as stage
 
 -- The scripts outside are these, and all else stayed.
-pub record IsWithin (outer : List Running) (before after : Site) : Type 0 where
+pub record IsWithinScripts (outer : List Running) (before after : Site) : Type 0 where
   pub used : after.used ≡ before.used
   pub opens : after.opens ≡ before.opens
   pub world : after.world ≡ world_within before.world outer
 
 -- A text that was read runs within this script, or the script's command has the cause.
 abbrev pub RunsTextWithin : Running → TextRead → List ℕ → Site → Site → Stage → Logged → Logged → Type 0
-RunsTextWithin s (read.Runs code) uri before after st old new = (st ≡ stage.Running (script_within s uri code)) × (length code ≤ 1048576) × IsWithin (s ∷ before.world.outer) before after
+RunsTextWithin s (read.Runs code) uri before after st old new = (st ≡ stage.Running (script_within s uri code)) × (length code ≤ 1048576) × IsWithinScripts (s ∷ before.world.outer) before after
     × Puts old new (out_texts (enter (s.depth + 1) ∷ []))
 RunsTextWithin s (read.Refused cause) uri before after st old new = (st ≡ stage.Returning s cause) × (after ≡ before)
     × Puts old new (out_texts (enter (s.depth + 1) ∷ leave (s.depth + 1) cause ∷ []))
@@ -79,7 +79,7 @@ pub record LeadsThere (s : State) (inner : Running) (outer : List Running) (c : 
   pub stands_so : StandsForProgress after (stands n to)
 
 -- A conclusion of a command of this script was carried on, in a world that has its images already, from one in which a script ran.
-pub record LeadsBy (inner : Running) (c : Conclusion) (before : Site) (after : Snapshot) (old new : Logged) : Type 0 where
+pub record LeadsOnBy (inner : Running) (c : Conclusion) (before : Site) (after : Snapshot) (old new : Logged) : Type 0 where
   pub rest : List Out
   pub puts : Puts old new (out_texts rest)
   pub comes : (live : List Live) → AreOpensOf before.opens.graph before.opens.list live →
@@ -87,7 +87,7 @@ pub record LeadsBy (inner : Running) (c : Conclusion) (before : Site) (after : S
   pub traces : (outs : List Out) (h : Holdings) (so_far : List Arrived) → Traced outs h so_far → FitsHoldings before.opens before.world.opens [] h →
       TracesTo after (outs ++ rest) so_far
   pub sound : IsSound after.used after.world after.many after.stage
-  pub under_way : IsUnderWay after.stage
+  pub under_way : WasStarted after.stage
   pub nearer : IsAtWork after.stage → most_moves after.stage after < moves_in inner + moves_between + moves_outside before.world.outer
 
 -- A command on images whose words are expanded comes to this at once, in this world, and leaves that one.

@@ -5,7 +5,7 @@ use Rattle.nb_defs.specs.Records.{Out, out_texts, result}
 use Rattle.nb_record.specs.Logged.{Logged, Puts}
 use Rattle.nb_traced.specs.Plain.{without_graph}
 use Rattle.nb_runner.specs.declared.world.World.{World}
-use Rattle.nb_runner.specs.World.{IsLinked}
+use Rattle.nb_runner.specs.World.{IsLinkOfState}
 use Rattle.nb_stack.specs.Client.{Client}
 use Rattle.nb_machine.specs.CommandRecords.{command_record, no_route}
 use Rattle.nb_machine.specs.Courses.{running, stands, waiting}
@@ -22,15 +22,15 @@ use Rattle.nb_runner.specs.declared.query.Query.TheVariants as query
 use Rattle.nb_runner.specs.Intents.{intent_effect, query_of}
 use Rattle.nb_runner.specs.declared.intent.Intent.{Intent}
 use Rattle.nb_runner.specs.NextCommand.{IsReady}
-use Rattle.nb_traced.specs.Holdings.{Holdings, Piece}
+use Rattle.nb_traced.specs.Holdings.{Holdings, GraphObject}
 use Rattle.nb_traced.specs.Outputs.{Arrived, Traced}
 use Rattle.nb_open.specs.Open.{pieces_of}
 use Rattle.nb_network.specs.Many.{AreOpensOf, FitsHoldings}
 use Rattle.nb_client.specs.Asked.{job_asked, live_asked, onward_kind}
-use Rattle.nb_client.specs.Beginnings.{LetsGo}
+use Rattle.nb_client.specs.Beginnings.{DropsWaiting}
 use Rattle.nb_client.specs.Progressing.{IsAtWork, TracesTo}
 use Rattle.nb_client.specs.Snapshots.{Snapshot, StandsForProgress, state_of_world}
-use Rattle.nb_client.specs.Soundness.{IsSound, IsUnderWay, snapshot_at}
+use Rattle.nb_client.specs.Soundness.{IsSound, WasStarted, snapshot_at}
 use Rattle.nb_client.specs.Turning.{found_by_script, left_by}
 use Rattle.nb_client.specs.declared.asked.Asked.{Asked}
 use Rattle.nb_client.specs.declared.asked.Asked.TheVariants.{File, Query as Exchange}
@@ -56,7 +56,7 @@ pub record AsksFor (w : World) (a : Asked) (s : Running) (ws : List (List ℕ)) 
   pub asks_so : effect_in (found_by_script w s) (name ∷ args) ≡ asked_effect a
   pub shows : shown_words w.state.table (name ∷ args) ≡ shown_as true ws
   pub world_is : now ≡ left_by w (name ∷ args)
-  pub was_linked : IsLinked w
+  pub was_linked : IsLinkOfState w
 
 -- the script once COMMAND is put, where it is put, and that record
 abbrev pub begun_script : Option (List (List ℕ)) → Running → Running
@@ -82,7 +82,7 @@ pub data IsOpenedIn (s : State) (l : Live) (job : Job) (inner : Running) (outer 
       IsOpenedIn s l job inner outer n (open_record l ∷ end_record l (no_route l.server) ∷ result (no_route l.server) ∷ []) after
 
 -- What was asked for was opened, of which this has waited: COMMAND was put before, where these words are shown.
-pub record Opened (a : Asked) (first : List Piece) (shown : Option (List (List ℕ))) (script : Running) (before : Site) (after : Snapshot) (old new : Logged) : Type 0 where
+pub record Opened (a : Asked) (first : List GraphObject) (shown : Option (List (List ℕ))) (script : Running) (before : Site) (after : Snapshot) (old new : Logged) : Type 0 where
   pub rest : List Out
   pub puts : Puts old new (out_texts (front_records shown script ++ rest))
   pub opens : (live : List Live) → AreOpensOf before.opens.graph before.opens.list live →
@@ -90,14 +90,14 @@ pub record Opened (a : Asked) (first : List Piece) (shown : Option (List (List �
   pub traces : (outs : List Out) (h : Holdings) (so_far : List Arrived) → Traced outs h so_far → FitsHoldings before.opens before.world.opens first h →
       TracesTo after (outs ++ rest) so_far
   pub sound : IsSound after.used after.world after.many after.stage
-  pub under_way : IsUnderWay after.stage
+  pub under_way : WasStarted after.stage
   pub same_script : IsAtWork after.stage → (cause : Cause) × (after.stage ≡ stage.Running (with_result (begun_script shown script) cause)) × (after.world.outer ≡ before.world.outer)
 
 -- The open that is next was begun, or no more may be made, and what has waited was let go.
 pub data OpensNext (s : Running) (k : Next) (before : Site) (after : Snapshot) (old new : Logged) : Type 0 where
   opens_it : before.world.opens < 16384 → Opened (asked_onward k.onward) (pieces_of (onward_kind k.onward) k.waits) None s before after old new → OpensNext s k before after old new
   opens_none : (now : Site) → before.world.opens ≡ 16384 → now.used ≡ before.used → now.world ≡ before.world → after ≡ snapshot_at now (stage.Running (with_result s full_opens)) →
-      LetsGo (onward_kind k.onward) (Some k.waits) before.world.opens before now (result full_opens ∷ []) old new → OpensNext s k before after old new
+      DropsWaiting (onward_kind k.onward) (Some k.waits) before.world.opens before now (result full_opens ∷ []) old new → OpensNext s k before after old new
 
 -- A command whose words are expanded intends this, in the world that it leaves.
 pub record Intends (w : World) (i : Intent) (s : Running) (ws : List (List ℕ)) (now : World) : Type 0 where
@@ -107,4 +107,4 @@ pub record Intends (w : World) (i : Intent) (s : Running) (ws : List (List ℕ))
   pub intends_so : effect_in (found_by_script w s) (name ∷ args) ≡ intent_effect i
   pub shows : shown_words w.state.table (name ∷ args) ≡ shown_as true ws
   pub world_is : now ≡ left_by w (name ∷ args)
-  pub was_linked : IsLinked w
+  pub was_linked : IsLinkOfState w

@@ -107,15 +107,15 @@ pub data ProceedsTo : Progress → List Out → Progress → Type 0 where
   one_further : (p q r : Progress) (put more : List Out) → Proceeds p put q → ProceedsTo q more r → ProceedsTo p (put ++ more) r
 
 -- a record is used, or the machine makes moves
-abbrev pub StepsBy : List In → Progress → List Out → Progress → Type 0
-StepsBy [] p added q = ProceedsTo p added q
-StepsBy (r ∷ []) p added q = StepBegins p r added q
-StepsBy (r ∷ q ∷ rs) p added p' = ⊥
+abbrev pub UsesOrMoves : List In → Progress → List Out → Progress → Type 0
+UsesOrMoves [] p added q = ProceedsTo p added q
+UsesOrMoves (r ∷ []) p added q = StepBegins p r added q
+UsesOrMoves (r ∷ q ∷ rs) p added p' = ⊥
 
 -- the progress after a step, for which the client stands
-pub record LeadsTo (used : List In) (before : Progress) (added : List Out) (after : Snapshot) : Type 0 where
+pub record LeadsToSnapshot (used : List In) (before : Progress) (added : List Out) (after : Snapshot) : Type 0 where
   pub progress : Progress
-  pub steps : StepsBy used before added progress
+  pub steps : UsesOrMoves used before added progress
   pub stands : StandsForProgress after progress
 
 -- what a record brings to the opens that live
@@ -179,7 +179,7 @@ pub record AdvancesFrom (used : List In) (p : Progress) (before after : Snapshot
   pub added : List Out
   pub came : List Arrived
   pub puts : Puts old new (out_texts added)
-  pub leads : LeadsTo used p (without_graph added) after
+  pub leads : LeadsToSnapshot used p (without_graph added) after
   pub begins : BeginsStep used p added came
   pub traces : (outs : List Out) (h : Holdings) (so_far : List Arrived) → Traced outs h so_far → FitsOutput before h → TracesTo after (outs ++ added) (so_far ++ came)
 

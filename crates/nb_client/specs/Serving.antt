@@ -5,7 +5,7 @@ use Rattle.nb_defs.specs.Records.{In, Out, out_texts, result}
 use Rattle.nb_record.specs.Logged.{Logged, Puts}
 use Rattle.nb_traced.specs.Plain.{without_graph}
 use Rattle.nb_runner.specs.declared.world.World.{World}
-use Rattle.nb_runner.specs.World.{IsLinked}
+use Rattle.nb_runner.specs.World.{IsLinkOfState}
 use Rattle.nb_stack.specs.Client.{Client}
 use Rattle.nb_machine.specs.Courses.{LeadsTo, Standing, stands}
 use Rattle.nb_machine.specs.Lives.{Live}
@@ -22,7 +22,7 @@ use Rattle.nb_network.specs.declared.over.HasEnded.{HasEnded}
 use Rattle.nb_client.specs.Asked.{job_asked, pieces_beside}
 use Rattle.nb_client.specs.Progressing.{TracesTo}
 use Rattle.nb_client.specs.Snapshots.{Snapshot, StandsForProgress, state_of_world}
-use Rattle.nb_client.specs.Soundness.{IsPendingWell, IsSound, IsUnderWay, snapshot_at}
+use Rattle.nb_client.specs.Soundness.{IsPendingWell, IsSound, WasStarted, snapshot_at}
 use Rattle.nb_client.specs.declared.pending.Pending.{Pending}
 use Rattle.nb_client.specs.declared.pending.Expected.TheVariants.{Open, Moment}
 use Rattle.nb_client.specs.declared.site.Site.{Site}
@@ -41,7 +41,7 @@ pub record Serves (r : In) (awaited : Option ℕ) (answer : Option HasEnded) (be
   pub world : after.world ≡ world_at before.world after.world.net after.world.time
   pub time : after.world.time ≤ 60000 * after.used
   pub opens : AreSound after.world.w after.world.opens after.world.net after.opens
-  pub linked : IsLinked after.world
+  pub linked : IsLinkOfState after.world
 
 -- A command waited for an open that has ended: what comes of it in this state, the records put for that, and where the run stands then.
 pub record EndsIn (s : State) (inner : Running) (outer : List Running) (job : Job) (o : Over) (put : List Out) (n : ℕ) (after : Snapshot) : Type 0 where
@@ -60,7 +60,7 @@ pub record Concludes (p : Pending) (e : HasEnded) (inner : Running) (before : Si
   pub traces : (outs : List Out) (h : Holdings) (so_far : List Arrived) → Traced outs h so_far → FitsHoldings before.opens before.world.opens (pieces_beside (Open p)) h →
       TracesTo after (outs ++ rest) so_far
   pub sound : IsSound after.used after.world after.many after.stage
-  pub under_way : IsUnderWay after.stage
+  pub under_way : WasStarted after.stage
 
 -- it is sound, where the open that a command waited for lives on, or where that has ended
 abbrev pub IsSoundAfter : Option HasEnded → Site → Running → Pending → Type 0

@@ -12,7 +12,7 @@ use Rattle.nb_machine.specs.Running.{Running}
 use Rattle.nb_machine.specs.Scripts.{Waiting}
 use Rattle.nb_machine.specs.States.{State, bare}
 use Rattle.nb_machine.specs.Courses.{Progress, stands, ready, running, waiting, reaching, yielded, handing, left, handed_off, stopped}
-use Rattle.nb_traced.specs.Holdings.{Holdings, Piece}
+use Rattle.nb_traced.specs.Holdings.{Holdings, GraphObject}
 use Rattle.nb_open.specs.Open.{pieces_of}
 use Rattle.nb_network.specs.Many.{AreOpensOf, FitsHoldings, Many}
 use Rattle.nb_client.specs.Asked.{awaited_by, job_of, onward_kind, pieces_beside}
@@ -66,7 +66,7 @@ pub data StandsForProgress : Snapshot → Progress → Type 0 where
   at_stopped : (n : ℕ) (w : World) (m : Many) (s : State) → s.live ≡ [] → m.list ≡ [] → StandsForProgress (snapshot n w m stage.Stopped) (stands n (stopped s))
 
 -- the objects that wait for the next open
-abbrev pub pieces_waiting : Stage → List Piece
+abbrev pub pieces_waiting : Stage → List GraphObject
 pieces_waiting stage.Ready = []
 pieces_waiting (stage.Running s) = []
 pieces_waiting (stage.Waiting s e) = pieces_beside e

@@ -5,9 +5,9 @@ use Rattle.nb_imagecmd.specs.Promises.{HasShortNames}
 use Rattle.nb_runner.specs.declared.world.World.{World}
 use Rattle.nb_runner.specs.declared.query.Query.TheVariants as query
 use Rattle.nb_runner.specs.CommandWords.{FitsFile, FitsOnward}
-use Rattle.nb_runner.specs.Handings.{AreShort, IsAt}
+use Rattle.nb_runner.specs.Handings.{AreShortImages, IsAtPiece}
 use Rattle.nb_runner.specs.Intents.{CanAsk}
-use Rattle.nb_runner.specs.World.{IsLinked}
+use Rattle.nb_runner.specs.World.{IsLinkOfState}
 use Rattle.nb_chains.specs.declared.chain.Chain.{Chain}
 use Rattle.nb_chains.specs.declared.kind.ChainKind.{ChainKind}
 use Rattle.nb_network.specs.Many.{AreSound, HasLeaseOnlyOf, IsNewestBut, Many, WaitsBeside}
@@ -72,7 +72,7 @@ StandsWell (stage.Waiting s (Moment time)) w m = Unit {0}
 StandsWell (stage.Reaching s k) w m = FitsOnward k.onward × HasWaiting (onward_kind k.onward) (Some k.waits) None m
 StandsWell (stage.Yielded s) w m = Unit {0}
 StandsWell (stage.Returning s cause) w m = Unit {0}
-StandsWell (stage.HandingOff h) w m = IsAt w.state.images h × (m.list ≡ [])
+StandsWell (stage.HandingOff h) w m = IsAtPiece w.state.images h × (m.list ≡ [])
 StandsWell (stage.Left cause) w m = Unit {0}
 StandsWell stage.HandedOff w m = m.list ≡ []
 StandsWell stage.Stopped w m = m.list ≡ []
@@ -84,9 +84,9 @@ pub record IsSound (used : ℕ) (w : World) (m : Many) (st : Stage) : Type 0 whe
   pub serials : m.graph.book.made ≤ 3 * w.opens
   pub leases : HasLeaseOnlyOf (awaited_at st) m
   pub well : StandsWell st w m
-  pub short : AreShort w.state.images.images
+  pub short : AreShortImages w.state.images.images
   pub named : HasShortNames w.state.images
-  pub linked : IsLinked w
+  pub linked : IsLinkOfState w
 
 -- or it has, and does nothing more
 abbrev pub IsUsable : (lost : Bool) → Snapshot → Type 0
@@ -94,17 +94,17 @@ IsUsable true c = c.stage ≡ stage.Stopped
 IsUsable false c = IsSound c.used c.world c.many c.stage
 
 -- START was used
-abbrev pub IsUnderWay : Stage → Type 0
-IsUnderWay stage.Ready = ⊥
-IsUnderWay (stage.Running s) = Unit {0}
-IsUnderWay (stage.Waiting s e) = Unit {0}
-IsUnderWay (stage.Reaching s k) = Unit {0}
-IsUnderWay (stage.Yielded s) = Unit {0}
-IsUnderWay (stage.Returning s cause) = Unit {0}
-IsUnderWay (stage.HandingOff h) = Unit {0}
-IsUnderWay (stage.Left cause) = Unit {0}
-IsUnderWay stage.HandedOff = Unit {0}
-IsUnderWay stage.Stopped = Unit {0}
+abbrev pub WasStarted : Stage → Type 0
+WasStarted stage.Ready = ⊥
+WasStarted (stage.Running s) = Unit {0}
+WasStarted (stage.Waiting s e) = Unit {0}
+WasStarted (stage.Reaching s k) = Unit {0}
+WasStarted (stage.Yielded s) = Unit {0}
+WasStarted (stage.Returning s cause) = Unit {0}
+WasStarted (stage.HandingOff h) = Unit {0}
+WasStarted (stage.Left cause) = Unit {0}
+WasStarted stage.HandedOff = Unit {0}
+WasStarted stage.Stopped = Unit {0}
 
 -- a log without records, which has not run short
 pub record IsClean (l : Logged) : Type 0 where

@@ -7,13 +7,13 @@ use Rattle.nb_record.specs.Logged.{Logged}
 use Rattle.nb_machine.specs.Effects.{ShownWords, Surroundings, effect_in, says, shown_as, shown_words, table_after, up_after}
 use Rattle.nb_machine.specs.Running.{Running, coming, beginning}
 use Rattle.nb_runner.specs.CommandWords.{deed_effect}
-use Rattle.nb_runner.specs.Steps.{Does, GoesTo}
-use Rattle.nb_runner.specs.World.{IsLinked, surroundings_in, world_with, world_within}
+use Rattle.nb_runner.specs.Steps.{Does, GoesToLabel}
+use Rattle.nb_runner.specs.World.{IsLinkOfState, surroundings_in, world_with, world_within}
 use Rattle.nb_runner.specs.declared.command.Deed.{Deed}
 use Rattle.nb_runner.specs.declared.world.World.{World}
 use Rattle.nb_client.specs.Progressing.{Advances, CommandRests, IsAtWork, IsFinal, RunEndsWith, ScriptRests, most_moves}
 use Rattle.nb_client.specs.Snapshots.{Snapshot}
-use Rattle.nb_client.specs.Soundness.{IsSound, IsUnderWay}
+use Rattle.nb_client.specs.Soundness.{IsSound, WasStarted}
 use Rattle.nb_client.specs.declared.client.Turn.{Turn}
 use Rattle.nb_client.specs.declared.site.Site.{Site}
 use Rattle.nb_client.specs.declared.client.Turn.TheVariants as turn
@@ -31,7 +31,7 @@ IsTurnOf (turn.Over s) st = IsFinal s × RunEndsWith st s
 pub record GoesOnBy (used : List In) (before after : Snapshot) (old new : Logged) : Type 0 where
   pub advances : Advances used before after old new
   pub sound : IsSound after.used after.world after.many after.stage
-  pub under_way : IsUnderWay after.stage
+  pub under_way : WasStarted after.stage
 
 -- It did, and the end of the step is nearer, if it isn't over.
 pub record MovesOn (before after : Snapshot) (old new : Logged) : Type 0 where
@@ -70,7 +70,7 @@ pub record IsCarriedOutBy (w : World) (d : Deed) (s : Running) (ws : List (List 
   pub deed_is : effect_in (found_by_script w s) (name ∷ args) ≡ deed_effect d
   pub shows : shown_words w.state.table (name ∷ args) ≡ shown_as true ws
   pub world_is : now ≡ left_by w (name ∷ args)
-  pub was_linked : IsLinked w
+  pub was_linked : IsLinkOfState w
 
 -- where a run stands once a script was left with this cause, in which so many commands began: the innermost of those outside
 -- has the cause; where none is outside, the run is over
@@ -100,5 +100,5 @@ pub record EndsCommand (shown : ShownWords) (o : CommandOutcome) (s : Running) (
 -- `goto` was put, and the script goes on there
 pub record GoesAt (shown : ShownWords) (place : Option ℕ) (s : Running) (st : Stage) (old new : Logged) : Type 0 where
   pub after : Running
-  pub goes : GoesTo shown place s after old new
+  pub goes : GoesToLabel shown place s after old new
   pub there : st ≡ stage.Running after

@@ -4,11 +4,11 @@ ghost use Rattle.nb_defs.specs.Records as defs;
 ghost use Rattle.nb_machine.specs.Running.{with_result};
 ghost use Rattle.nb_machine.specs.Effects.{full_opens};
 ghost use Rattle.nb_runner.specs.CommandWords.{IsForInquiry};
-ghost use Rattle.nb_runner.specs.Intents.{MayAsk};
+ghost use Rattle.nb_runner.specs.Intents.{IsAskable};
 ghost use Rattle.nb_runner.specs.NextCommand.{HasCommand, IsReady};
 ghost use Rattle.nb_runner.specs.declared.world.World.{World as TheWorld};
 ghost use Rattle.nb_client.specs.Asked.{onward_kind};
-ghost use Rattle.nb_client.specs.Beginnings.{LetsGo};
+ghost use Rattle.nb_client.specs.Beginnings.{DropsWaiting};
 ghost use Rattle.nb_client.specs.Openings.{AsksFor, Intends, OpensNext, asked_onward};
 ghost use Rattle.nb_client.specs.Snapshots.{snapshot};
 ghost use Rattle.nb_client.specs.Soundness.{FitsAsked, IsSound, snapshot_at};
@@ -54,7 +54,7 @@ impl Site {
     ) -> Result<Stage, NoMemory>
         requires sound { IsSound self.old.used self.old.world self.old.opens (stage.Running script) }
         requires words { IsReady script words.now }
-        requires may { MayAsk self.old.world.opens intent }
+        requires may { IsAskable self.old.world.opens intent }
         ensures moves { IfOk result (λ st. (w : TheWorld) → Intends w intent script words.now self.old.world
             → MovesOn (snapshot self.old.used w self.old.opens (stage.Running script)) (snapshot_at self.new st) log.old log.new) }
         ensures nothing { OnErr result (log.new ≡ log.old) }
@@ -133,7 +133,7 @@ impl Site {
         ensures stage { IfOk result (λ st. st ≡ stage.Running (with_result script full_opens)) }
         ensures used { OnOk result (self.new.used ≡ self.old.used) }
         ensures world { OnOk result (self.new.world ≡ self.old.world) }
-        ensures lets { OnOk result (LetsGo (onward_kind next.now.onward) (Some next.now.waits) self.old.world.opens self.old self.new
+        ensures lets { OnOk result (DropsWaiting (onward_kind next.now.onward) (Some next.now.waits) self.old.world.opens self.old self.new
             (defs.result full_opens ∷ []) out.old out.new) }
     {
         let desk = lent(self.alloc, self.desk.take())?;

@@ -12,7 +12,7 @@ ghost use Rattle.nb_runner.specs.CommandWords.{FitsFile};
 ghost use Rattle.nb_runner.specs.ImageDeeds.{IsConcludedWell, MayFollow, conclusion_of};
 ghost use Rattle.nb_client.specs.Closings.{ShutsAll};
 ghost use Rattle.nb_client.specs.Concluding.{ArrivesWell, handing_of};
-ghost use Rattle.nb_client.specs.Leading.{LeadsBy};
+ghost use Rattle.nb_client.specs.Leading.{LeadsOnBy};
 ghost use Rattle.nb_client.specs.Serving.{Concludes};
 ghost use Rattle.nb_open.specs.Exchanges.{IsLeaseMessage};
 ghost use Rattle.nb_client.specs.Soundness.{IsPendingWell, IsSound, snapshot_at};
@@ -158,7 +158,7 @@ impl Site {
     ) -> Result<Stage, NoMemory>
         requires sound { IsSound self.old.used self.old.world self.old.opens (stage.Running script) }
         requires well { (before : ImageList) × IsConcludedWell conclusion script.depth before self.old.world.state.images }
-        ensures { IfOk result (λ st. LeadsBy script conclusion self.old (snapshot_at self.new st) out.old out.new) }
+        ensures { IfOk result (λ st. LeadsOnBy script conclusion self.old (snapshot_at self.new st) out.old out.new) }
     {
         match conclusion {
             Conclusion::Keeps => Ok(go_on_with(script, Plain::Ok.cause(), out)),

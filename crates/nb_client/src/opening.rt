@@ -10,14 +10,14 @@ ghost use Rattle.nb_machine.specs.Findings.{asker_at, first_word, query_id};
 ghost use Rattle.nb_machine.specs.Lives.{Live};
 ghost use Rattle.nb_nodes.specs.LeaseExchanges.{asker_of};
 ghost use Rattle.nb_record.specs.Logged.{Puts};
-ghost use Rattle.nb_runner.specs.World.{IsLinked, with_ended_open};
+ghost use Rattle.nb_runner.specs.World.{IsLinkOfState, with_ended_open};
 ghost use Rattle.nb_machine.specs.Running.{with_result};
 ghost use Rattle.nb_network.specs.Many.{AreSound, HasNoLease, WaitsBeside, port_for};
 ghost use Rattle.nb_network.specs.Openings.{begun_records};
 ghost use Rattle.nb_open.specs.Begins.{waiting_pieces};
 ghost use Rattle.nb_open.specs.Opening.{CanOpen, chain_kind, live_by, own_by};
 ghost use Rattle.nb_client.specs.Asked.{beside_kind, errand_kind, live_asked};
-ghost use Rattle.nb_client.specs.Beginnings.{BeginsBy, IsKindBeside, IsLookupBy, LetsGo, asked_kind};
+ghost use Rattle.nb_client.specs.Beginnings.{BeginsNext, IsKindBeside, IsLookupBy, DropsWaiting, asked_kind};
 ghost use Rattle.nb_client.specs.Openings.{IsShownWell, Opened, begun_script, front_records};
 ghost use Rattle.nb_client.specs.Snapshots.{state_of_world};
 ghost use Rattle.nb_client.specs.Soundness.{FitsAsked, HasWaiting, IsBacked, IsSound, snapshot_at};
@@ -238,10 +238,10 @@ impl Site {
         requires sound { AreSound self.old.world.w self.old.world.opens self.old.world.net self.old.opens }
         requires serials { self.old.opens.graph.book.made ≤ 3 * self.old.world.opens }
         requires leases { HasNoLease self.old.opens }
-        requires linked { IsLinked self.old.world }
+        requires linked { IsLinkOfState self.old.world }
         requires waiting { HasWaiting (chain_kind opening.now) waits None self.old.opens }
         requires lone { (c : TheChain) → IsBacked asked.now (Some c) → waits ≡ None }
-        ensures begins { IfOk result (λ o. BeginsBy opening.now (beside_kind asked.now) waits self.old self.new o) }
+        ensures begins { IfOk result (λ o. BeginsNext opening.now (beside_kind asked.now) waits self.old self.new o) }
         ensures backed { IfOk result (λ o. IsBacked asked.now o.waits) }
     {
         let desk = lent(self.alloc, self.desk.take())?;
@@ -264,9 +264,9 @@ impl Site {
         requires sound { AreSound self.old.world.w self.old.world.opens self.old.world.net self.old.opens }
         requires serials { self.old.opens.graph.book.made ≤ 3 * self.old.world.opens }
         requires leases { HasNoLease self.old.opens }
-        requires linked { IsLinked self.old.world }
+        requires linked { IsLinkOfState self.old.world }
         requires waiting { HasWaiting (chain_kind opening.now) waits None self.old.opens }
-        ensures begins { IfOk result (λ o. (kind : TheKind) → BeginsBy opening.now kind waits self.old self.new o) }
+        ensures begins { IfOk result (λ o. (kind : TheKind) → BeginsNext opening.now kind waits self.old self.new o) }
         ensures waits { IfOk result (λ o. o.waits ≡ None) }
     {
         let (alloc, number, rec, now) = (self.alloc, self.world.opens, self.used, self.world.time);
@@ -294,8 +294,8 @@ impl Site {
         requires sound { AreSound self.old.world.w self.old.world.opens self.old.world.net self.old.opens }
         requires serials { self.old.opens.graph.book.made ≤ 3 * self.old.world.opens }
         requires leases { HasNoLease self.old.opens }
-        requires linked { IsLinked self.old.world }
-        ensures begins { IfOk result (λ o. BeginsBy opening.now kind None self.old self.new o) }
+        requires linked { IsLinkOfState self.old.world }
+        ensures begins { IfOk result (λ o. BeginsNext opening.now kind None self.old self.new o) }
         ensures waits { IfOk result (λ o. (c : TheChain) × (o.waits ≡ Some c)) }
     {
         let (alloc, number, rec, now) = (self.alloc, self.world.opens, self.used, self.world.time);
@@ -339,7 +339,7 @@ impl Site {
         ensures stage { IfOk result (λ st. st ≡ stage.Running (with_result script cause)) }
         ensures used { OnOk result (self.new.used ≡ self.old.used) }
         ensures world { OnOk result (self.new.world ≡ with_ended_open self.old.world) }
-        ensures lets { OnOk result (LetsGo kind made.waits (self.old.world.opens + 1) self.old self.new (defs.result cause ∷ []) out.old out.new) }
+        ensures lets { OnOk result (DropsWaiting kind made.waits (self.old.world.opens + 1) self.old self.new (defs.result cause ∷ []) out.old out.new) }
     {
         self.world.opens += 1;
         self.let_go(kind, made.waits, made.desk, out)?;
@@ -360,7 +360,7 @@ impl Site {
         requires waits { (c : TheChain) → waits ≡ Some c → WaitsBeside kind c self.old.opens }
         ensures used { OnOk result (self.new.used ≡ self.old.used) }
         ensures world { OnOk result (self.new.world ≡ self.old.world) }
-        ensures lets { OnOk result (LetsGo kind waits self.old.world.opens self.old self.new [] out.old out.new) }
+        ensures lets { OnOk result (DropsWaiting kind waits self.old.world.opens self.old self.new [] out.old out.new) }
     {
         let Some(chain) = waits else {
             self.desk = Some(desk);

@@ -1,4 +1,4 @@
-ghost use Rattle.nb_client.specs.Soundness.{IsUnderWay};
+ghost use Rattle.nb_client.specs.Soundness.{WasStarted};
 ghost use Rattle.nb_client.specs.Turning.{IsTurnOf};
 
 use crate::{Expected, KeptNext, Turn};
@@ -32,7 +32,7 @@ pub enum Stage {
 
 /// How a call ended after which the run stands so.
 pub(crate) fn turn_of(stage: &Stage) -> Turn
-    requires { IsUnderWay stage.now }
+    requires { WasStarted stage.now }
     ensures { IsTurnOf result stage.now }
 {
     match stage {

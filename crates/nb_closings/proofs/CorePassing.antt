@@ -15,7 +15,7 @@ use Rattle.nb_nodes.specs.declared.tftp.Tftp.{Tftp}
 use Rattle.nb_nodes.specs.declared.stage.Stage.{Stage}
 use Rattle.nb_nodes.specs.Carried.{end_closes}
 use Rattle.nb_nodes.specs.Conversations.{Conversation, unbegun, under_way, over, cancelled, talk_has_ended, talk_went_on, is_under_way, is_unbegun, is_datagram, is_begin, Continues, begins, receives, ticks, ends, rests, RunsTo, TftpStands}
-use Rattle.nb_nodes.specs.Exchanges.{Service, Exchange, not_begun, asking, finished, called_off, exchange_has_ended, after_calls, is_asking, is_not_begun, begins_service, Exchanges, is_begun, takes_message, takes_time, is_ended, stays_idle, LeadsTo, StandsBy}
+use Rattle.nb_nodes.specs.Exchanges.{Service, AskerState, not_begun, asking, finished, called_off, exchange_has_ended, after_calls, is_asking, is_not_begun, begins_service, AskerTakes, is_begun, takes_message, takes_time, is_ended, stays_idle, AskerLeadsTo, StandsBy}
 use Rattle.nb_closings.specs.Passing.{ends_object, has_ended, ClosesBothOrNone, PassesOn}
 use Rattle.nb_closings.proofs.TraceLemmas.{none_ended}
 
@@ -109,7 +109,7 @@ module _ {S B C : Type 0} (s : Service S B C) (opens : (b : B) → (s.opening b)
   called_on : (b : B) (start : ℕ) (calls : List C) (acts : Acts) → is_some acts.over ≡ false → exchange_has_ended (after_calls b start calls acts) ≡ false
   called_on b start calls acts h = ap (λ z. exchange_has_ended (if z then finished b start calls else asking b start calls)) h
 
-  asker_step : (v w : Exchange B C) (e : NodeEntry Obj Load) → Exchanges s v e w → exchange_has_ended v ≡ false → Step e (exchange_has_ended w)
+  asker_step : (v w : AskerState B C) (e : NodeEntry Obj Load) → AskerTakes s v e w → exchange_has_ended v ≡ false → Step e (exchange_has_ended w)
   asker_step _ _ _ (is_begun b m now fx tag ask effects) live = record { passes = λ d. inl (effects.closes ∙ ap end_closes (opens b)); goes_on = λ _. refl }
   asker_step _ _ _ (takes_message b start past slot m now fx acts given takes effects whole gives) live =
       record { passes = λ d. at_end acts.over fx.closes.items effects.closes; goes_on = λ h. called_on b start _ acts (not_over acts.over fx.closes.items effects.closes h) }
@@ -129,7 +129,7 @@ module _ {S B C : Type 0} (s : Service S B C) (opens : (b : B) → (s.opening b)
   asker_step _ _ _ (stays_idle v (time now done fx) idle asks) live = record { passes = λ d. inl asks.1; goes_on = λ h. live }
   asker_step _ _ _ (stays_idle v (regain l) idle asks) live = record { passes = tt; goes_on = λ h. live }
 
-  asker_last : (t : List (NodeEntry Obj Load)) (e : NodeEntry Obj Load) (v w : Exchange B C) → LeadsTo s v (t ++ e ∷ []) w → exchange_has_ended v ≡ false → has_ended t ≡ false → PassesOn e
+  asker_last : (t : List (NodeEntry Obj Load)) (e : NodeEntry Obj Load) (v w : AskerState B C) → AskerLeadsTo s v (t ++ e ∷ []) w → exchange_has_ended v ≡ false → has_ended t ≡ false → PassesOn e
   asker_last [] e v w (u, goes, run) live h = (asker_step v u e goes live).passes
   asker_last (d ∷ t) e v w (u, goes, run) live h = let z = none_ended d t h in asker_last t e u w run ((asker_step v u d goes live).goes_on z.0) z.1
 

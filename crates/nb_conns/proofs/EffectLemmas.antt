@@ -13,7 +13,7 @@ use Rattle.nb_graph.specs.Trace.{Said, silence, loads, in_list, carried}
 use Rattle.nb_graph.specs.Effects.{AreUps, AreCloses, IsUp}
 use Rattle.nb_conns.specs.declared.conn_load.Lent.{Lent}
 use Rattle.nb_conns.specs.ConnLoads.{Carrier, window_of_conn, windows_in}
-use Rattle.nb_conns.specs.ConnEffects.{SendsDown, GivesUp, ConnEffects, ConnWithin, few_say, emit_says, emits_of, ups_for, closes_for, GoesAbove}
+use Rattle.nb_conns.specs.ConnEffects.{SendsDown, GivesBack, ConnEffects, ConnWithin, few_say, emit_says, emits_of, ups_for, closes_for, GoesAbove}
 
 both_within : (cause : Cause) → AreCloses ((0, cause) ∷ (1, cause) ∷ [])
 both_within cause zero d h = omega arith
@@ -28,7 +28,7 @@ below_within : (cause : Cause) → AreCloses ((1, cause) ∷ [])
 below_within cause zero d h = omega arith
 below_within cause (suc k) d h = absurd (omega arith)
 
-pub effects_within : {N L : Type 0} (k : Carrier L) (acts : Acts) (window : Option Lent) (ends : Bool) (over : Option Cause) (fx : Fx N L) (len : ℕ) → fx.makes ≡ None → SendsDown k acts fx.downs → GivesUp k window ends fx.ups → fx.closes.items ≡ closes_for over → ConnWithin len fx
+pub effects_within : {N L : Type 0} (k : Carrier L) (acts : Acts) (window : Option Lent) (ends : Bool) (over : Option Cause) (fx : Fx N L) (len : ℕ) → fx.makes ≡ None → SendsDown k acts fx.downs → GivesBack k window ends fx.ups → fx.closes.items ≡ closes_for over → ConnWithin len fx
 effects_within k acts window ends over fx len no_make downs ups closes =
     record { no_make = no_make; downs = downs.within len; ups = ups.within len; closes = subst (λ (z : List (ℕ × Cause)). AreCloses z) (sym closes) (end_within over) }
 
@@ -63,7 +63,7 @@ shut_effects k m acts cause fx no_make downs one two closes =
     }
 
 -- nothing goes up
-pub no_ups_for : {L : Type 0} (k : Carrier L) (window : Option Lent) (ends : Bool) (f : Few (Emit L)) → GivesUp k window ends f → window ≡ None → ends ≡ false → (f.first ≡ None) × (f.second ≡ None)
+pub no_ups_for : {L : Type 0} (k : Carrier L) (window : Option Lent) (ends : Bool) (f : Few (Emit L)) → GivesBack k window ends f → window ≡ None → ends ≡ false → (f.first ≡ None) × (f.second ≡ None)
 no_ups_for {L} k window ends f gives w e = none f (gives.says silence ∙ ap (λ z. ups_for 0 z ends) w ∙ ap (λ z. ups_for 0 None z) e)
   where
     empty : (o p : Option (Emit L)) → map (emit_says k silence) (in_list o ++ in_list p) ≡ [] → (o ≡ None) × (p ≡ None)

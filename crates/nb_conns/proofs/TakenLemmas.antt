@@ -25,7 +25,7 @@ use Rattle.nb_conns.specs.declared.conn_load.Lent.{Lent}
 use Rattle.nb_conns.specs.declared.stage.Running.{Running as Connected}
 use Rattle.nb_conns.specs.ConnAsks.{link_of}
 use Rattle.nb_conns.specs.ConnLoads.{lent_bytes}
-use Rattle.nb_conns.specs.Dialogues.{arriving, with_segment_call, with_lending, LendsSo, comes_to_end, IsOut, TalksSo, TookSegment, LentFrom, lent_out, lent_out_of}
+use Rattle.nb_conns.specs.Dialogues.{arriving, with_segment_call, with_lending, LendsSo, comes_to_end, IsLentOut, TalksSo, TookSegment, LentFrom, lent_out, lent_out_of}
 
 bytes_from-take : (w : HeldWindow) (p n k : ℕ) → k ≤ n → take k (bytes_from w p n) ≡ bytes_from w p k
 bytes_from-take w p n zero l = refl
@@ -126,7 +126,7 @@ took old mid new a start calls acts l rec s now had has t same stands waits ther
           stands = subst (λ z. ConnStands (link_of a) start new.conn (with_lending after z)) (sym none) is;
           none_waits = subst (λ z. is_waiting_after (with_lending after z) ≡ false) (sym none) (waiting-append calls entry ∙ ready);
           over = subst (λ z. has_ended_after (with_lending after z) ≡ is_some acts.over) (sym none) over;
-          lends = subst (λ z. IsOut a (with_lending after z) new.conn z) (sym none) (delivered, lent-append calls entry ∙ t.lends.1);
+          lends = subst (λ z. IsLentOut a (with_lending after z) new.conn z) (sym none) (delivered, lent-append calls entry ∙ t.lends.1);
           to_end = ends_as after is refl;
         }
 
@@ -148,7 +148,7 @@ took old mid new a start calls acts l rec s now had has t same stands waits ther
           stands = subst (λ z. ConnStands (link_of a) start new.conn (with_lending after z)) (sym some) whole;
           none_waits = subst (λ z. is_waiting_after (with_lending after z) ≡ false) (sym some) (waiting-append after lending);
           over = subst (λ z. has_ended_after (with_lending after z) ≡ is_some acts.over) (sym some) (ended-append after lending ∙ or_nothing (has_ended_after after) ∙ over);
-          lends = subst (λ z. IsOut a (with_lending after z) new.conn z) (sym some) (lent-append after lending, (w, out.1, subst (λ z. WindowStands (window w) z) (sym held) is.window_is));
+          lends = subst (λ z. IsLentOut a (with_lending after z) new.conn z) (sym some) (lent-append after lending, (w, out.1, subst (λ z. WindowStands (window w) z) (sym held) is.window_is));
           to_end = ends_as (after ++ lending ∷ []) whole held;
         }
 

@@ -33,7 +33,7 @@ use Rattle.nb_conns.specs.StreamTags.{stream_tag_number}
 use Rattle.nb_conns.specs.ConnAsks.{conn_ask_in, link_of}
 use Rattle.nb_conns.specs.ConnLoads.{Carrier, window_of_conn}
 use Rattle.nb_conns.specs.ConnEffects.{ConnEffects, SaysNothing, TookAll, ups_for, closes_for}
-use Rattle.nb_conns.specs.Dialogues.{Dialogue, unopened, talking, closed_off, given_up, is_home, talked_on, comes_from, with_segment_call, with_lending, Converses, is_asked, takes_segment, takes_none, takes_text, takes_tick, has_back, is_closed, rests_still, ConversesTo, IsOut, TalksSo, IsConnAt, before_asked, while_talking, once_closed, never_asked, TcpStands, CarriesOn, CarriesOnHome, TakesHere, TakesBack, ReturnsTo, CallsConn, TookSegment, lent_out, stage_asks}
+use Rattle.nb_conns.specs.Dialogues.{Dialogue, unopened, talking, closed_off, given_up, is_home, talked_on, comes_from, with_segment_call, with_lending, Converses, is_asked, takes_segment, takes_none, takes_text, takes_tick, has_back, is_closed, rests_still, ConversesTo, IsLentOut, TalksSo, IsConnAt, before_asked, while_talking, once_closed, never_asked, TcpStands, CarriesOn, CarriesOnHome, TakesHere, TakesBack, ReturnsTo, CallsConn, TookSegment, lent_out, stage_asks}
 use Rattle.nb_conns.proofs.WindowLemmas.{lent_one}
 use Rattle.nb_conns.proofs.TakenLemmas.{ended_then}
 use Rattle.nb_conns.proofs.DialogueLemmas.{rests_on, stands_on, runs_more, quiet_other}
@@ -53,7 +53,7 @@ at_then : (new : ConnStage) (r : Connected) (a : ConnAsk) (start : ℕ) (calls :
 at_then new r a start calls out over e stands talks = subst (λ (z : ConnStage). IsConnAt z (talked_on a start calls out over)) (sym e) (at_talked r a start calls out over stands talks)
 
 -- a call that brings nothing of the stream leaves what is lent as it was
-out_still : (a : ConnAsk) (calls : List ConnEntry) (old new : Conn) (c : TcpCall) (acts : Acts) (out : Option Lent) → ((m : Arrival) (now : ℕ) → calls_in c ≡ calls_in (segment_came m now) → ⊥) → KeepsWindow old new → IsOut a calls old out → IsOut a (calls ++ conn_entry (calls_in c) acts ∷ []) new out
+out_still : (a : ConnAsk) (calls : List ConnEntry) (old new : Conn) (c : TcpCall) (acts : Acts) (out : Option Lent) → ((m : Arrival) (now : ℕ) → calls_in c ≡ calls_in (segment_came m now) → ⊥) → KeepsWindow old new → IsLentOut a calls old out → IsLentOut a (calls ++ conn_entry (calls_in c) acts ∷ []) new out
 out_still a calls old new c acts None other keeps is = (keeps.delivered is.0, lent-append calls (conn_entry (calls_in c) acts) ∙ is.1)
 out_still a calls old new c acts (Some l) other keeps is =
     (lent-append calls (conn_entry (calls_in c) acts) ∙ is.0, (is.1.0, is.1.1, subst (λ z. WindowStands (window is.1.0) z) (sym (held_stays (link_of a) calls (calls_in c) acts other)) is.1.2))

@@ -91,7 +91,7 @@ pub record SendsDown {L : Type 0} (k : Carrier L) (acts : Acts) (f : Few (Emit L
   pub windows : windows_in k (loads f) ≡ []
 
 -- the ups are what was lent, and the end
-pub record GivesUp {L : Type 0} (k : Carrier L) (window : Option Lent) (ends : Bool) (f : Few (Emit L)) : Type 0 where
+pub record GivesBack {L : Type 0} (k : Carrier L) (window : Option Lent) (ends : Bool) (f : Few (Emit L)) : Type 0 where
   pub says : (m : Said) → few_say k m f ≡ ups_for m.rec window ends
   pub above : AllByRecursion GoesAbove (emits_of f)
   pub within : (len : ℕ) → AreUps len f

@@ -193,9 +193,9 @@ ConversesTo k d [] f = d ≡ f
 ConversesTo k d (e ∷ t) f = (g : Dialogue) × Converses k d e g × ConversesTo k g t f
 
 -- of a connection with these calls this is lent, as its core has it
-abbrev pub IsOut : ConnAsk → List ConnEntry → Conn → Option Lent → Type 0
-IsOut a calls c None = HasDelivered c × (is_lent_after calls ≡ false)
-IsOut a calls c (Some l) = (is_lent_after calls ≡ true) × ((w : Held) × (l.held ≡ Some w) × WindowStands (window w) (held_after a.isn (tcp_calls calls)))
+abbrev pub IsLentOut : ConnAsk → List ConnEntry → Conn → Option Lent → Type 0
+IsLentOut a calls c None = HasDelivered c × (is_lent_after calls ≡ false)
+IsLentOut a calls c (Some l) = (is_lent_after calls ≡ true) × ((w : Held) × (l.held ≡ Some w) × WindowStands (window w) (held_after a.isn (tcp_calls calls)))
 
 -- the core stands for the calls that were made of it
 pub record TalksSo (r : Connected) (a : ConnAsk) (start : ℕ) (calls : List ConnEntry) (out : Option Lent) : Type 0 where
@@ -203,7 +203,7 @@ pub record TalksSo (r : Connected) (a : ConnAsk) (start : ℕ) (calls : List Con
   pub stands : ConnStands (link_of a) start r.conn calls
   pub goes_on : has_ended_after calls ≡ false
   pub none_waits : is_waiting_after calls ≡ false
-  pub lends : IsOut a calls r.conn out
+  pub lends : IsLentOut a calls r.conn out
 
 -- what the object is meanwhile
 pub data IsConnAt : ConnStage → Dialogue → Type 0 where
@@ -294,5 +294,5 @@ pub record TookSegment (a : ConnAsk) (start : ℕ) (before after : List ConnEntr
   pub stands : ConnStands (link_of a) start r.conn (with_lending after (lent_out l))
   pub none_waits : is_waiting_after (with_lending after (lent_out l)) ≡ false
   pub over : has_ended_after (with_lending after (lent_out l)) ≡ is_some acts.over
-  pub lends : IsOut a (with_lending after (lent_out l)) r.conn (lent_out l)
+  pub lends : IsLentOut a (with_lending after (lent_out l)) r.conn (lent_out l)
   pub to_end : ends ≡ comes_to_end a before after

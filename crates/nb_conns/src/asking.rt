@@ -4,7 +4,7 @@ ghost use Rattle.std.specs.Prelude.{◌≡◌, ◌+◌, ◌++◌, ◌<◌, ℕ, 
 ghost use Rattle.std.specs.Option.{option_map};
 ghost use Rattle.nb_graph.specs.Trace.{Said};
 ghost use Rattle.nb_conns.specs.StreamTags.{stream_tag_number};
-ghost use Rattle.nb_conns.specs.ConnEffects.{SendsDown, GivesUp, ConnEffects, ConnWithin, SaysNothing, closes_for};
+ghost use Rattle.nb_conns.specs.ConnEffects.{SendsDown, GivesBack, ConnEffects, ConnWithin, SaysNothing, closes_for};
 ghost use Rattle.nb_conns.specs.ConnEffects.{place_emit, segments_emit, received_emit, end_emit, heading_of, segments_tag, boxed};
 
 use crate::conn_load::{CarriesConn, ConnLoad, Lent};
@@ -166,7 +166,7 @@ fn end_up<L>() -> Emit<L>
 /// Asks for what goes up: what is lent, and then the end.
 pub(crate) fn ask_up<L: CarriesConn>(window: Option<Box<Lent>>, ends: bool, ups: &mut Few<Emit<L>>)
     requires blank { (ups.old.first ≡ None) × (ups.old.second ≡ None) }
-    ensures { GivesUp L.carrier (boxed window) ends ups.new }
+    ensures { GivesBack L.carrier (boxed window) ends ups.new }
 {
     match window {
         Some(lent) => {

@@ -12,12 +12,12 @@ use Rattle.nb_iscsipdu.specs.declared.answer.ScsiResponse.{ScsiResponse}
 use Rattle.nb_iscsipdu.specs.Commands.{asked_len}
 use Rattle.nb_iscsipdu.specs.Answers.{AnswerParts, DataInParts}
 use Rattle.nb_iscsipdu.proofs.KeyLemmas.{either_way}
-use Rattle.nb_disk.specs.Histories.{DiskReading, Opened, tag_at_work, with_status, at_work, capacity_of}
+use Rattle.nb_disk.specs.Histories.{DiskReading, SessionNumbers, tag_at_work, with_status, at_work, capacity_of}
 use Rattle.nb_disk.specs.DiskAnswers.{DiskAnswer, no_answer, ends, broken, refused, tested, answered, data_answer, response_answer, pdu_answer}
 use Rattle.nb_disk.specs.DiskEndings.{EndsTask, by_response, by_data, IsUnsound, IsPatient, DiskEnding, by_login, by_other, by_idle_response, by_idle_data, by_tag_of_response, by_failed_response, by_tag_of_data, by_offset, by_excess, by_unsound, by_status}
 
 -- the status of the command at work is answered as that
-task-comes : (o : Opened) (r : DiskReading) (rec : ℕ) (command : Command) (a : AnswerParts) (bytes : List ℕ) (s : TaskStatus) → at_work r ≡ Some command → EndsTask o r command a bytes s
+task-comes : (o : SessionNumbers) (r : DiskReading) (rec : ℕ) (command : Command) (a : AnswerParts) (bytes : List ℕ) (s : TaskStatus) → at_work r ≡ Some command → EndsTask o r command a bytes s
     → pdu_answer o r rec a ≡ answered o r rec command bytes s
 task-comes o r rec command a bytes s here (by_response p tag done) =
     let both : (eqb p.task_tag (tag_at_work o r) && eqb p.response 0) ≡ true = and_from _ _ (eq-eqb p.task_tag (tag_at_work o r) tag) (eq-eqb p.response 0 done) in
@@ -31,7 +31,7 @@ unsized : (rec : ℕ) (found : Option ℕ) → found ≡ None → (if is_some fo
 unsized rec None is = refl
 unsized rec (Some capacity) is = absurd cc
 
-unsound-ends : (o : Opened) (r : DiskReading) (rec : ℕ) (command : Command) (bytes : List ℕ) (s : TaskStatus) → s.status ≡ 0 → IsUnsound command (r.bytes ++ bytes)
+unsound-ends : (o : SessionNumbers) (r : DiskReading) (rec : ℕ) (command : Command) (bytes : List ℕ) (s : TaskStatus) → s.status ≡ 0 → IsUnsound command (r.bytes ++ bytes)
     → (answered o r rec command bytes s).over ≡ Some (broken rec)
 unsound-ends o r rec TestUnitReady bytes s good unsound = absurd unsound
 unsound-ends o r rec ReadCapacity bytes s good unsound =
@@ -44,7 +44,7 @@ unsound-ends o r rec (Read lba blocks) bytes s good unsound =
     rw (zero, short) refl
 
 -- the first three check conditions alone are answered
-untested : (o : Opened) (r after : DiskReading) (rec : ℕ) (s : TaskStatus) → eqb s.status 0 ≡ false → (IsPatient r TestUnitReady s.status → ⊥)
+untested : (o : SessionNumbers) (r after : DiskReading) (rec : ℕ) (s : TaskStatus) → eqb s.status 0 ≡ false → (IsPatient r TestUnitReady s.status → ⊥)
     → (tested o after rec (length r.results) s.status).over ≡ Some (refused rec s.status)
 untested o r after rec s off last =
     either_way (eqb s.status 2 && ltb (length r.results) 3)
@@ -53,7 +53,7 @@ untested o r after rec s off last =
     absurd (last (eqb-true s.status 2 both.0, ltb-true (length r.results) 3 both.1)))
     (λ none. rw (off, none) refl)
 
-status-ends : (o : Opened) (r : DiskReading) (rec : ℕ) (command : Command) (bytes : List ℕ) (s : TaskStatus) → 0 < s.status → (IsPatient r command s.status → ⊥)
+status-ends : (o : SessionNumbers) (r : DiskReading) (rec : ℕ) (command : Command) (bytes : List ℕ) (s : TaskStatus) → 0 < s.status → (IsPatient r command s.status → ⊥)
     → (answered o r rec command bytes s).over ≡ Some (refused rec s.status)
 status-ends o r rec TestUnitReady bytes s some last = untested o r (with_status r bytes s) rec s (ne_eqb s.status 0 (λ e. omega (arith, e))) last
 status-ends o r rec ReadCapacity bytes s some last =
@@ -63,12 +63,12 @@ status-ends o r rec (Read lba blocks) bytes s some last =
     let off : eqb s.status 0 ≡ false = ne_eqb s.status 0 (λ e. omega (arith, e)) in
     rw off refl
 
-stray-response : (o : Opened) (r : DiskReading) (rec : ℕ) (work : Option Command) (s : ScsiResponse) → (eqb s.task_tag (tag_at_work o r) && eqb s.response 0) ≡ false
+stray-response : (o : SessionNumbers) (r : DiskReading) (rec : ℕ) (work : Option Command) (s : ScsiResponse) → (eqb s.task_tag (tag_at_work o r) && eqb s.response 0) ≡ false
     → (response_answer o r rec work s).over ≡ Some (broken rec)
 stray-response o r rec None s off = refl
 stray-response o r rec (Some command) s off = rw off refl
 
-stray-data : (o : Opened) (r : DiskReading) (rec : ℕ) (work : Option Command) (d : DataInParts)
+stray-data : (o : SessionNumbers) (r : DiskReading) (rec : ℕ) (work : Option Command) (d : DataInParts)
     → ((command : Command) → work ≡ Some command → (eqb d.task_tag (tag_at_work o r) && (eqb d.offset (length r.bytes) && leb (length r.bytes + length d.bytes) (asked_len command))) ≡ false)
     → (data_answer o r rec work d).over ≡ Some (broken rec)
 stray-data o r rec None d off = refl
@@ -80,7 +80,7 @@ much : (asked : ℕ) (here command : Command) → Some here ≡ Some command →
 much asked here command same more = subst (λ (x : Command). asked_len x < asked) (same_Some here command same) more
 
 -- each cause ends it so
-pub causes-end : (o : Opened) (r : DiskReading) (rec : ℕ) (a : AnswerParts) (cause : Cause) → DiskEnding o r rec a cause → (pdu_answer o r rec a).over ≡ Some cause
+pub causes-end : (o : SessionNumbers) (r : DiskReading) (rec : ℕ) (a : AnswerParts) (cause : Cause) → DiskEnding o r rec a cause → (pdu_answer o r rec a).over ≡ Some cause
 causes-end o r rec a cause (by_login l is same) = rw (is, same) refl
 causes-end o r rec a cause (by_other is same) = rw (is, same) refl
 causes-end o r rec a cause (by_idle_response s is idle same) = rw (is, same, idle) refl

@@ -12,20 +12,20 @@ use Rattle.nb_iscsipdu.specs.Requests.{command_pdu}
 use Rattle.nb_iscsipdu.proofs.KeyLemmas.{either_way}
 use Rattle.nb_disk.specs.declared.work.Work.{Work}
 use Rattle.nb_disk.specs.declared.work.Work.TheVariants.{Testing, Sizing}
-use Rattle.nb_disk.specs.Histories.{TaskResult, DiskReading, Opened, counted, with_status, at_work, capacity_of, first_capacity, capacity_read}
+use Rattle.nb_disk.specs.Histories.{TaskResult, DiskReading, SessionNumbers, counted, with_status, at_work, capacity_of, first_capacity, capacity_read}
 use Rattle.nb_disk.specs.DiskAnswers.{DiskAnswer, no_answer, puts, ends, broken, refused, commands_put, expected, command_after, tested, sized, have_read}
-use Rattle.nb_disk.specs.Steps.{Kept, DiskStep, work_is_over, work_capacity, next_command, step_ends, kept_putting, step_puts, step_tested, kept_idle, kept_sized, step_capacity, step_sized, step_read}
-use Rattle.nb_disk.specs.DiskStands.{IsTesting, IsReady, IsSizing, IsSized, IsIdle, IsReading, IsAt, IsKept}
+use Rattle.nb_disk.specs.Steps.{KeptNumbers, DiskStep, work_is_over, work_capacity, next_command, step_ends, kept_putting, step_puts, step_tested, kept_idle, kept_sized, step_capacity, step_sized, step_read}
+use Rattle.nb_disk.specs.DiskStands.{IsTesting, IsAnsweredWell, IsSizing, IsSized, IsIdleDisk, IsReadingDisk, IsWorking, KeepsNumbers}
 use Rattle.nb_disk.proofs.WorkLemmas.{counted-more, checks-added, at-testing, size-testing, size-refused, size-ready, at-sizing, at-idle, at-reading, size-sized, put-busy, put-idle, ready-added}
 
 -- a step makes this answer, and stands for what is read after it
-pub record StepStands (o : Opened) (after : DiskReading) (s : DiskStep) (a : DiskAnswer) : Type 0 where
+pub record StepStands (o : SessionNumbers) (after : DiskReading) (s : DiskStep) (a : DiskAnswer) : Type 0 where
   pub answer : s.answer ≡ a
   pub over : work_is_over s.kept.work ≡ is_some a.over
   pub capacity : work_capacity s.kept.work ≡ capacity_read after
-  pub live : is_some a.over ≡ false → IsKept o after s.kept
+  pub live : is_some a.over ≡ false → KeepsNumbers o after s.kept
 
-pub ends-stands : (o : Opened) (after : DiskReading) (k : Kept) (cause : Cause) → work_capacity k.work ≡ capacity_read after → StepStands o after (step_ends k cause) (ends cause)
+pub ends-stands : (o : SessionNumbers) (after : DiskReading) (k : KeptNumbers) (cause : Cause) → work_capacity k.work ≡ capacity_read after → StepStands o after (step_ends k cause) (ends cause)
 ends-stands o after k cause capacity = record {
   answer = refl;
   over = refl;
@@ -34,8 +34,8 @@ ends-stands o after k cause capacity = record {
 }
 
 -- the next command
-pub putting-kept : (o : Opened) (r after : DiskReading) (k : Kept) (exp : ℕ) (work : Work) → IsKept o r k → 0 < commands_put r → commands_put after ≡ commands_put r + 1
-    → exp ≡ expected o after → IsAt work after k.sized → IsKept o after (kept_putting k exp work)
+pub putting-kept : (o : SessionNumbers) (r after : DiskReading) (k : KeptNumbers) (exp : ℕ) (work : Work) → KeepsNumbers o r k → 0 < commands_put r → commands_put after ≡ commands_put r + 1
+    → exp ≡ expected o after → IsWorking work after k.sized → KeepsNumbers o after (kept_putting k exp work)
 putting-kept o r after k exp work kept some count exp_is at =
     let before : commands_put r - 1 + 1 ≡ commands_put r = omega arith in
     let last : commands_put after - 1 ≡ commands_put r = omega arith in
@@ -47,7 +47,7 @@ putting-kept o r after k exp work kept some count exp_is at =
       work = at;
     }
 
-pub putting-answer : (o : Opened) (r after : DiskReading) (k : Kept) (exp : ℕ) (command : Command) → IsKept o r k → 0 < commands_put r → exp ≡ expected o after
+pub putting-answer : (o : SessionNumbers) (r after : DiskReading) (k : KeptNumbers) (exp : ℕ) (command : Command) → KeepsNumbers o r k → 0 < commands_put r → exp ≡ expected o after
     → next_command k exp command ≡ command_after o after (commands_put r) command
 putting-answer o r after k exp command kept some exp_is =
     let before : commands_put r - 1 + 1 ≡ commands_put r = omega arith in
@@ -62,13 +62,13 @@ putting-answer o r after k exp command kept some exp_is =
 abbrev result_of : DiskReading → List ℕ → TaskStatus → TaskResult
 result_of r bytes s = record { bytes = r.bytes ++ bytes; status = s.status }
 
-tested-good : (o : Opened) (r : DiskReading) (k : Kept) (rec checks : ℕ) (bytes : List ℕ) (s : TaskStatus) → IsKept o r k → k.sized ≡ [] → IsTesting r checks → s.status ≡ 0
+tested-good : (o : SessionNumbers) (r : DiskReading) (k : KeptNumbers) (rec checks : ℕ) (bytes : List ℕ) (s : TaskStatus) → KeepsNumbers o r k → k.sized ≡ [] → IsTesting r checks → s.status ≡ 0
     → StepStands o (with_status r bytes s) (step_puts k (counted s.stat_sn 1) ReadCapacity Sizing) (puts (command_after o (with_status r bytes s) (checks + 1) ReadCapacity))
 tested-good o r k rec checks bytes s kept none is good =
     let after = with_status r bytes s in
     let result = result_of r bytes s in
     let put : commands_put r ≡ checks + 1 = put-busy r TestUnitReady (at-testing r checks is) ∙ ap (λ (n : ℕ). n + 1) is.count in
-    let ready : IsReady after [] = record { checks = r.results; good = result; all = is.all; is_good = good; results = refl } in
+    let ready : IsAnsweredWell after [] = record { checks = r.results; good = result; all = is.all; is_good = good; results = refl } in
     let sizing : IsSizing after k.sized = record { ready = ready; came = sym none; unasked = is.unasked } in
     let count : commands_put after ≡ commands_put r + 1 = omega (arith, put-busy after ReadCapacity (at-sizing after k.sized sizing), put, is.count, length-append r.results (result ∷ [])) in
     record {
@@ -78,7 +78,7 @@ tested-good o r k rec checks bytes s kept none is good =
       live = λ off. putting-kept o r after k (counted s.stat_sn 1) Sizing kept (omega arith) count refl sizing;
     }
 
-tested-check : (o : Opened) (r : DiskReading) (k : Kept) (rec checks : ℕ) (bytes : List ℕ) (s : TaskStatus) → IsKept o r k → k.sized ≡ [] → IsTesting r checks → s.status ≡ 2 → checks < 3
+tested-check : (o : SessionNumbers) (r : DiskReading) (k : KeptNumbers) (rec checks : ℕ) (bytes : List ℕ) (s : TaskStatus) → KeepsNumbers o r k → k.sized ≡ [] → IsTesting r checks → s.status ≡ 2 → checks < 3
     → StepStands o (with_status r bytes s) (step_puts k (counted s.stat_sn 1) TestUnitReady (Testing (checks + 1))) (puts (command_after o (with_status r bytes s) (checks + 1) TestUnitReady))
 tested-check o r k rec checks bytes s kept none is check few =
     let after = with_status r bytes s in
@@ -99,7 +99,7 @@ tested-check o r k rec checks bytes s kept none is check few =
       live = λ off. putting-kept o r after k (counted s.stat_sn 1) (Testing (checks + 1)) kept (omega arith) count refl (testing, none);
     }
 
-pub tested-stands : (o : Opened) (r : DiskReading) (k : Kept) (rec checks : ℕ) (bytes : List ℕ) (s : TaskStatus) → IsKept o r k → k.sized ≡ [] → IsTesting r checks → work_capacity k.work ≡ None
+pub tested-stands : (o : SessionNumbers) (r : DiskReading) (k : KeptNumbers) (rec checks : ℕ) (bytes : List ℕ) (s : TaskStatus) → KeepsNumbers o r k → k.sized ≡ [] → IsTesting r checks → work_capacity k.work ≡ None
     → StepStands o (with_status r bytes s) (step_tested k rec checks s) (tested o (with_status r bytes s) rec (length r.results) s.status)
 tested-stands o r k rec checks bytes s kept none is size =
     let after = with_status r bytes s in
@@ -117,8 +117,8 @@ tested-stands o r k rec checks bytes s kept none is size =
     subst (λ (n : ℕ). StepStands o after (step_tested k rec checks s) (tested o after rec n s.status)) (sym is.count) here
 
 -- nothing is at work any more
-idle-kept : (o : Opened) (r : DiskReading) (k : Kept) (command : Command) (bytes : List ℕ) (s : TaskStatus) (capacity : ℕ) (size : List ℕ) → IsKept o r k → at_work r ≡ Some command
-    → IsIdle (with_status r bytes s) capacity → IsKept o (with_status r bytes s) (kept_idle (kept_sized k size) s capacity)
+idle-kept : (o : SessionNumbers) (r : DiskReading) (k : KeptNumbers) (command : Command) (bytes : List ℕ) (s : TaskStatus) (capacity : ℕ) (size : List ℕ) → KeepsNumbers o r k → at_work r ≡ Some command
+    → IsIdleDisk (with_status r bytes s) capacity → KeepsNumbers o (with_status r bytes s) (kept_idle (kept_sized k size) s capacity)
 idle-kept o r k command bytes s capacity size kept at is =
     let after = with_status r bytes s in
     let result = result_of r bytes s in
@@ -132,7 +132,7 @@ idle-kept o r k command bytes s capacity size kept at is =
     }
 
 -- a status of READ CAPACITY
-sized-good : (o : Opened) (r : DiskReading) (k : Kept) (rec : ℕ) (bytes : List ℕ) (s : TaskStatus) (found : Option ℕ) → IsKept o r k → IsSizing r k.sized → work_capacity k.work ≡ None → s.status ≡ 0
+sized-good : (o : SessionNumbers) (r : DiskReading) (k : KeptNumbers) (rec : ℕ) (bytes : List ℕ) (s : TaskStatus) (found : Option ℕ) → KeepsNumbers o r k → IsSizing r k.sized → work_capacity k.work ≡ None → s.status ≡ 0
     → found ≡ capacity_of (k.sized ++ bytes)
     → StepStands o (with_status r bytes s) (step_capacity (kept_sized k (k.sized ++ bytes)) rec s found) (if is_some found then no_answer else ends (broken rec))
 sized-good o r k rec bytes s None kept is size good found =
@@ -148,7 +148,7 @@ sized-good o r k rec bytes s (Some capacity) kept is size good found =
     let same : r.bytes ++ bytes ≡ k.sized ++ bytes = ap (λ (x : List ℕ). x ++ bytes) is.came in
     let first : first_capacity (result ∷ []) ≡ Some capacity = rw (eq-eqb s.status 0 good) (ap capacity_of same ∙ sym found) in
     let known : IsSized after capacity [] = record { first = result; ready = ready-added r after [] result is.ready refl; is = first } in
-    let idle : IsIdle after capacity = record { done = []; sized = known; all = ap length (sym is.unasked); none = refl } in
+    let idle : IsIdleDisk after capacity = record { done = []; sized = known; all = ap length (sym is.unasked); none = refl } in
     record {
       answer = refl;
       over = refl;
@@ -156,7 +156,7 @@ sized-good o r k rec bytes s (Some capacity) kept is size good found =
       live = λ off. idle-kept o r k ReadCapacity bytes s capacity (k.sized ++ bytes) kept (at-sizing r k.sized is) idle;
     }
 
-pub sized-stands : (o : Opened) (r : DiskReading) (k : Kept) (rec : ℕ) (bytes : List ℕ) (s : TaskStatus) → IsKept o r k → IsSizing r k.sized → work_capacity k.work ≡ None
+pub sized-stands : (o : SessionNumbers) (r : DiskReading) (k : KeptNumbers) (rec : ℕ) (bytes : List ℕ) (s : TaskStatus) → KeepsNumbers o r k → IsSizing r k.sized → work_capacity k.work ≡ None
     → StepStands o (with_status r bytes s) (step_sized k rec bytes s) (sized rec (r.bytes ++ bytes) s.status)
 sized-stands o r k rec bytes s kept is size =
     let after = with_status r bytes s in
@@ -175,7 +175,7 @@ sized-stands o r k rec bytes s kept is size =
 sized-added : (r after : DiskReading) (capacity : ℕ) (done : List TaskResult) (result : TaskResult) → IsSized r capacity done → after.results ≡ r.results ++ result ∷ [] → IsSized after capacity (done ++ result ∷ [])
 sized-added r after capacity done result is more = record { first = is.first; ready = ready-added r after (is.first ∷ done) result is.ready more; is = is.is }
 
-pub read-stands : (o : Opened) (r : DiskReading) (k : Kept) (rec capacity wanted got : ℕ) (bytes : List ℕ) (s : TaskStatus) → IsKept o r k → (is : IsReading r capacity wanted got) → work_capacity k.work ≡ Some capacity
+pub read-stands : (o : SessionNumbers) (r : DiskReading) (k : KeptNumbers) (rec capacity wanted got : ℕ) (bytes : List ℕ) (s : TaskStatus) → KeepsNumbers o r k → (is : IsReadingDisk r capacity wanted got) → work_capacity k.work ≡ Some capacity
     → StepStands o (with_status r bytes s) (step_read k rec capacity wanted got bytes s) (have_read rec wanted got bytes s.status)
 read-stands o r k rec capacity wanted got bytes s kept is size =
     let after = with_status r bytes s in
@@ -184,7 +184,7 @@ read-stands o r k rec capacity wanted got bytes s kept is size =
     let same : work_capacity k.work ≡ capacity_read after = size ∙ sym (size-sized after capacity (is.done ++ result ∷ []) known) in
     let count : length (is.done ++ result ∷ []) ≡ length r.reads =
     omega (arith, length-append is.done (result ∷ []), length-append is.before (is.last ∷ []), ap length is.reads, is.all) in
-    let idle : IsIdle after capacity = record { done = is.done ++ result ∷ []; sized = known; all = count; none = refl } in
+    let idle : IsIdleDisk after capacity = record { done = is.done ++ result ∷ []; sized = known; all = count; none = refl } in
     either_way (eqb s.status 0)
     (λ on.
     rw on

@@ -9,7 +9,7 @@ use Rattle.nb_disk.specs.declared.work.Work.TheVariants.{Testing, Sizing, Idle, 
 use Rattle.nb_disk.specs.Histories.{TaskResult, DiskReading, counted, read_at_work, after_ready, command_at_work, at_work, first_capacity, capacity_in, capacity_read}
 use Rattle.nb_disk.specs.DiskAnswers.{commands_put}
 use Rattle.nb_disk.specs.Steps.{work_is_over, work_capacity, HasRoom}
-use Rattle.nb_disk.specs.DiskStands.{IsCheck, IsTesting, IsReady, IsSizing, IsSized, IsIdle, IsReading, IsAt}
+use Rattle.nb_disk.specs.DiskStands.{IsCheck, IsTesting, IsAnsweredWell, IsSizing, IsSized, IsIdleDisk, IsReadingDisk, IsWorking}
 
 -- a number that counts on
 pub counted-more : (first k : ℕ) → counted (counted first k) 1 ≡ counted first (k + 1)
@@ -43,14 +43,14 @@ size-testing r checks is =
 pub size-refused : (rs : List TaskResult) (r : TaskResult) → AllByRecursion IsCheck rs → r.status ≢ 0 → capacity_in (rs ++ r ∷ []) ≡ None
 size-refused rs r all other = sizes-pass rs (r ∷ []) all ∙ rw (ne_eqb r.status 0 other) refl
 
-pub ready-at : (r : DiskReading) (later : List TaskResult) → IsReady r later → at_work r ≡ after_ready later r.reads
+pub ready-at : (r : DiskReading) (later : List TaskResult) → IsAnsweredWell r later → at_work r ≡ after_ready later r.reads
 ready-at r later is =
     let on : eqb is.good.status 0 ≡ true = eq-eqb is.good.status 0 is.is_good in
     ap (λ (x : List TaskResult). command_at_work x r.reads) is.results
     ∙ checks-pass is.checks (is.good ∷ later) r.reads is.all
     ∙ rw on refl
 
-pub size-ready : (r : DiskReading) (later : List TaskResult) → IsReady r later → capacity_read r ≡ first_capacity later
+pub size-ready : (r : DiskReading) (later : List TaskResult) → IsAnsweredWell r later → capacity_read r ≡ first_capacity later
 size-ready r later is =
     let on : eqb is.good.status 0 ≡ true = eq-eqb is.good.status 0 is.is_good in
     ap (λ (x : List TaskResult). capacity_in x) is.results ∙ sizes-pass is.checks (is.good ∷ later) is.all ∙ rw on refl
@@ -70,10 +70,10 @@ reads-left (d ∷ done) (x ∷ before) last same = reads-left done before last (
 pub at-sizing : (r : DiskReading) (size : List ℕ) → IsSizing r size → at_work r ≡ Some ReadCapacity
 at-sizing r size is = ready-at r [] is.ready
 
-pub at-idle : (r : DiskReading) (capacity : ℕ) → IsIdle r capacity → at_work r ≡ None
+pub at-idle : (r : DiskReading) (capacity : ℕ) → IsIdleDisk r capacity → at_work r ≡ None
 at-idle r capacity is = ready-at r (is.sized.first ∷ is.done) is.sized.ready ∙ reads-done is.done r.reads is.all
 
-pub at-reading : (r : DiskReading) (capacity wanted got : ℕ) → (is : IsReading r capacity wanted got) → at_work r ≡ Some (Read is.last.0 is.last.1)
+pub at-reading : (r : DiskReading) (capacity wanted got : ℕ) → (is : IsReadingDisk r capacity wanted got) → at_work r ≡ Some (Read is.last.0 is.last.1)
 at-reading r capacity wanted got is =
     ready-at r (is.sized.first ∷ is.done) is.sized.ready
     ∙ ap (λ (x : List (ℕ × ℕ)). read_at_work is.done x) is.reads
@@ -83,7 +83,7 @@ pub size-sized : (r : DiskReading) (capacity : ℕ) (done : List TaskResult) →
 size-sized r capacity done is = size-ready r (is.first ∷ done) is.ready ∙ is.is
 
 -- the capacity that is kept is the one that was read
-pub size-at : (work : Work) (r : DiskReading) (size : List ℕ) → work_is_over work ≡ false → IsAt work r size → work_capacity work ≡ capacity_read r
+pub size-at : (work : Work) (r : DiskReading) (size : List ℕ) → work_is_over work ≡ false → IsWorking work r size → work_capacity work ≡ capacity_read r
 size-at (Testing checks) r size live is = sym (size-testing r checks is.0)
 size-at Sizing r size live is = sym (size-ready r [] is.ready)
 size-at (Idle capacity) r size live is = sym (size-sized r capacity is.done is.sized)
@@ -98,7 +98,7 @@ pub put-idle : (r : DiskReading) → at_work r ≡ None → commands_put r ≡ l
 put-idle r is = rw is (omega arith)
 
 -- a result more
-pub ready-added : (r after : DiskReading) (later : List TaskResult) (result : TaskResult) → IsReady r later → after.results ≡ r.results ++ result ∷ [] → IsReady after (later ++ result ∷ [])
+pub ready-added : (r after : DiskReading) (later : List TaskResult) (result : TaskResult) → IsAnsweredWell r later → after.results ≡ r.results ++ result ∷ [] → IsAnsweredWell after (later ++ result ∷ [])
 ready-added r after later result is more = record {
   checks = is.checks;
   good = is.good;

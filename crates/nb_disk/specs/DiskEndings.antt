@@ -7,11 +7,11 @@ use Rattle.nb_iscsipdu.specs.declared.answer.TaskStatus.{TaskStatus}
 use Rattle.nb_iscsipdu.specs.declared.answer.ScsiResponse.{ScsiResponse}
 use Rattle.nb_iscsipdu.specs.Commands.{asked_len}
 use Rattle.nb_iscsipdu.specs.Answers.{AnswerParts, DataInParts, LoginResponseParts, login, scsi, data_in, other}
-use Rattle.nb_disk.specs.Histories.{DiskReading, Opened, tag_at_work, at_work, capacity_of}
+use Rattle.nb_disk.specs.Histories.{DiskReading, SessionNumbers, tag_at_work, at_work, capacity_of}
 use Rattle.nb_disk.specs.DiskAnswers.{broken, refused}
 
 -- a status of the command at work comes, with these bytes of data at last
-pub data EndsTask (o : Opened) (r : DiskReading) (command : Command) : AnswerParts → List ℕ → TaskStatus → Type 0 where
+pub data EndsTask (o : SessionNumbers) (r : DiskReading) (command : Command) : AnswerParts → List ℕ → TaskStatus → Type 0 where
   by_response : (a : ScsiResponse) → a.task_tag ≡ tag_at_work o r → a.response ≡ 0 → EndsTask o r command (scsi a) [] a.status
   by_data : (d : DataInParts) (s : TaskStatus) → d.task_tag ≡ tag_at_work o r → d.offset ≡ length r.bytes → length r.bytes + length d.bytes ≤ asked_len command
       → d.status ≡ Some s → EndsTask o r command (data_in d) d.bytes s
@@ -28,7 +28,7 @@ IsPatient r TestUnitReady status = (status ≡ 2) × (length r.results < 3)
 IsPatient r ReadCapacity status = ⊥
 IsPatient r (Read lba blocks) status = ⊥
 
-pub data DiskEnding (o : Opened) (r : DiskReading) (rec : ℕ) (a : AnswerParts) (cause : Cause) : Type 0 where
+pub data DiskEnding (o : SessionNumbers) (r : DiskReading) (rec : ℕ) (a : AnswerParts) (cause : Cause) : Type 0 where
   -- a PDU of another kind
   by_login : (l : LoginResponseParts) → a ≡ login l → cause ≡ broken rec → DiskEnding o r rec a cause
   by_other : a ≡ other → cause ≡ broken rec → DiskEnding o r rec a cause

@@ -8,9 +8,9 @@ use Rattle.nb_disk.specs.declared.blocks.ReadRefusal.{ReadRefusal}
 use Rattle.nb_disk.specs.declared.blocks.ReadRefusal.TheVariants.{OutOfDisk, Busy, NoMemory}
 use Rattle.nb_disk.specs.declared.work.Work.{Work}
 use Rattle.nb_disk.specs.declared.work.Work.TheVariants.{Testing, Sizing, Idle, Reading, Over}
-use Rattle.nb_disk.specs.Histories.{DiskCall, TaskResult, DiskReading, Opened, counted, reading, at_work, first_capacity, capacity_read}
+use Rattle.nb_disk.specs.Histories.{DiskCall, TaskResult, DiskReading, SessionNumbers, counted, reading, at_work, first_capacity, capacity_read}
 use Rattle.nb_disk.specs.DiskAnswers.{DiskAnswer, acts_of, commands_put, expected, has_ended}
-use Rattle.nb_disk.specs.Steps.{Kept, work_is_over, work_capacity}
+use Rattle.nb_disk.specs.Steps.{KeptNumbers, work_is_over, work_capacity}
 
 -- a check condition, which is no good status
 abbrev pub IsCheck : TaskResult → Type 0
@@ -25,7 +25,7 @@ pub record IsTesting (r : DiskReading) (checks : ℕ) : Type 0 where
   pub unasked : r.reads ≡ []
 
 -- it was answered by a good status, and these results came after it
-pub record IsReady (r : DiskReading) (later : List TaskResult) : Type 0 where
+pub record IsAnsweredWell (r : DiskReading) (later : List TaskResult) : Type 0 where
   pub checks : List TaskResult
   pub good : TaskResult
   pub all : AllByRecursion IsCheck checks
@@ -34,23 +34,23 @@ pub record IsReady (r : DiskReading) (later : List TaskResult) : Type 0 where
 
 -- READ CAPACITY is at work
 pub record IsSizing (r : DiskReading) (size : List ℕ) : Type 0 where
-  pub ready : IsReady r []
+  pub ready : IsAnsweredWell r []
   pub came : r.bytes ≡ size
   pub unasked : r.reads ≡ []
 
 -- the capacity was read, and these results of reads came after it
 pub record IsSized (r : DiskReading) (capacity : ℕ) (done : List TaskResult) : Type 0 where
   pub first : TaskResult
-  pub ready : IsReady r (first ∷ done)
+  pub ready : IsAnsweredWell r (first ∷ done)
   pub is : first_capacity (first ∷ done) ≡ Some capacity
 
-pub record IsIdle (r : DiskReading) (capacity : ℕ) : Type 0 where
+pub record IsIdleDisk (r : DiskReading) (capacity : ℕ) : Type 0 where
   pub done : List TaskResult
   pub sized : IsSized r capacity done
   pub all : length done ≡ length r.reads
   pub none : r.bytes ≡ []
 
-pub record IsReading (r : DiskReading) (capacity wanted got : ℕ) : Type 0 where
+pub record IsReadingDisk (r : DiskReading) (capacity wanted got : ℕ) : Type 0 where
   pub done : List TaskResult
   pub before : List (ℕ × ℕ)
   pub last : ℕ × ℕ
@@ -60,27 +60,27 @@ pub record IsReading (r : DiskReading) (capacity wanted got : ℕ) : Type 0 wher
   pub is : wanted ≡ 512 * last.1
   pub came : length r.bytes ≡ got
 
-abbrev pub IsAt : Work → DiskReading → List ℕ → Type 0
-IsAt (Testing checks) r size = IsTesting r checks × (size ≡ [])
-IsAt Sizing r size = IsSizing r size
-IsAt (Idle capacity) r size = IsIdle r capacity
-IsAt (Reading capacity wanted got) r size = IsReading r capacity wanted got
-IsAt (Over capacity) r size = ⊤
+abbrev pub IsWorking : Work → DiskReading → List ℕ → Type 0
+IsWorking (Testing checks) r size = IsTesting r checks × (size ≡ [])
+IsWorking Sizing r size = IsSizing r size
+IsWorking (Idle capacity) r size = IsIdleDisk r capacity
+IsWorking (Reading capacity wanted got) r size = IsReadingDisk r capacity wanted got
+IsWorking (Over capacity) r size = ⊤
 
 -- what is kept, by what was read: the next command has the number after those that were put, and the last one had this tag
-pub record IsKept (o : Opened) (r : DiskReading) (k : Kept) : Type 0 where
+pub record KeepsNumbers (o : SessionNumbers) (r : DiskReading) (k : KeptNumbers) : Type 0 where
   pub lun : k.lun ≡ o.lun
   pub cmd_sn : k.cmd_sn ≡ counted o.cmd_sn (commands_put r)
   pub exp_stat_sn : k.exp_stat_sn ≡ expected o r
   pub task : k.task ≡ counted o.task (commands_put r - 1)
-  pub work : IsAt k.work r k.sized
+  pub work : IsWorking k.work r k.sized
 
 -- A disk that was started with these numbers stands for these calls: it has ended exactly where one of them gave an end, it keeps the
 -- capacity that was read, and as long as it goes on its numbers and its work are those that they leave.
-pub record DiskStands (o : Opened) (calls : List DiskCall) (k : Kept) : Type 0 where
+pub record DiskStands (o : SessionNumbers) (calls : List DiskCall) (k : KeptNumbers) : Type 0 where
   pub over : work_is_over k.work ≡ has_ended o calls
   pub capacity : work_capacity k.work ≡ capacity_read (reading o calls)
-  pub live : work_is_over k.work ≡ false → IsKept o (reading o calls) k
+  pub live : work_is_over k.work ≡ false → KeepsNumbers o (reading o calls) k
 
 -- what a call answers: it puts this text, and asks this of the caller
 pub record IsDiskAnswer (a : DiskAnswer) (text : Option (List ℕ)) (acts : Acts) : Type 0 where

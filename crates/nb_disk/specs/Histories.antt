@@ -61,7 +61,7 @@ abbrev pub at_work : DiskReading → Option Command
 at_work r = command_at_work r.results r.reads
 
 -- the numbers with which the session was opened: the unit, and those of the first command
-pub record Opened : Type 0 where
+pub record SessionNumbers : Type 0 where
   pub lun : List ℕ
   pub cmd_sn : ℕ
   pub exp_stat_sn : ℕ
@@ -72,34 +72,34 @@ abbrev pub counted : ℕ → ℕ → ℕ
 counted first k = (first + k) % 2 ^ 32
 
 -- the tag of the command at work
-abbrev pub tag_at_work : Opened → DiskReading → ℕ
+abbrev pub tag_at_work : SessionNumbers → DiskReading → ℕ
 tag_at_work o r = counted o.task (length r.results)
 
 -- the target completed the command at work
-abbrev pub completes : Opened → DiskReading → Option Command → ScsiResponse → Bool
+abbrev pub completes : SessionNumbers → DiskReading → Option Command → ScsiResponse → Bool
 completes o r None a = false
 completes o r (Some command) a = (a.task_tag == tag_at_work o r) && (a.response == 0)
 
 -- data of the command at work is the next, without a gap, and no more than was asked for
-abbrev pub fits : Opened → DiskReading → Option Command → DataInParts → Bool
+abbrev pub fits : SessionNumbers → DiskReading → Option Command → DataInParts → Bool
 fits o r None d = false
 fits o r (Some command) d = (d.task_tag == tag_at_work o r) && ((d.offset == length r.bytes) && nat_le (length r.bytes + length d.bytes) (asked_len command))
 
 -- data goes on the task at work, and a status ends it
-abbrev pub after_answer : Opened → DiskReading → AnswerParts → DiskReading
+abbrev pub after_answer : SessionNumbers → DiskReading → AnswerParts → DiskReading
 after_answer o r (login a) = r
 after_answer o r (scsi a) = if completes o r (at_work r) a then with_status r [] a.status else r
 after_answer o r (data_in d) = if fits o r (at_work r) d then with_bytes r d.bytes d.status else r
 after_answer o r (nop_in n) = r
 after_answer o r other = r
 
-abbrev pub after_call : Opened → DiskReading → DiskCall → DiskReading
+abbrev pub after_call : SessionNumbers → DiskReading → DiskCall → DiskReading
 after_call o r (came rec p) = after_answer o r (answer_read p)
 after_call o r (asked lba blocks) = record { results = r.results; bytes = r.bytes; stat_sn = r.stat_sn; reads = r.reads ++ (lba, blocks) ∷ [] }
 after_call o r (stream_ended rec) = r
 
 -- all that was read of these calls
-abbrev pub reading : Opened → List DiskCall → DiskReading
+abbrev pub reading : SessionNumbers → List DiskCall → DiskReading
 reading o calls = fold (after_call o) nothing_read calls
 
 -- READ CAPACITY(10): the last block and the block length, which must be 512. FFFFFFFF says that there are more blocks than it can say.

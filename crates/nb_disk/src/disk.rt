@@ -32,9 +32,9 @@ pub struct Disk {
 }
 
 impl Model for Disk {
-    ghost use Rattle.nb_disk.specs.Steps.{Kept, kept_of};
+    ghost use Rattle.nb_disk.specs.Steps.{KeptNumbers, kept_of};
 
-    ghost Value = { Kept };
+    ghost Value = { KeptNumbers };
 
     ghost view = { λ d. kept_of d.state };
 }
@@ -44,7 +44,7 @@ impl Disk {
     ghost use Rattle.std.specs.Option.{is_some};
     ghost use Rattle.nb_iscsipdu.specs.PduTexts.{pdu_parts, pdu_text};
     ghost use Rattle.nb_iscsipdu.specs.declared.command.Command.TheVariants.{TestUnitReady};
-    ghost use Rattle.nb_disk.specs.Histories.{DiskCall, came, asked, stream_ended, nothing_read, Opened, reading, at_work, capacity_read};
+    ghost use Rattle.nb_disk.specs.Histories.{DiskCall, came, asked, stream_ended, nothing_read, SessionNumbers, reading, at_work, capacity_read};
     ghost use Rattle.nb_disk.specs.DiskAnswers.{opened_of, disk_answer, command_after, acts_of, asks_nothing, has_ended};
     ghost use Rattle.nb_disk.specs.DiskStands.{DiskStands, IsDiskAnswer, RefusesRead};
     ghost use Rattle.nb_disk.specs.Steps.{work_is_over, work_capacity, has_work, read_text, kept_asked};
@@ -85,10 +85,10 @@ impl Disk {
         acts: &mut Acts,
     ) -> Result<Option<Text>, NoMemory>
         // With this PDU the disk stands for one call more, and answers it as all of them together call for.
-        ensures stands { IfOk result (λ text. (o : Opened) (calls : List DiskCall) → DiskStands o calls self.old → has_ended o calls ≡ false
+        ensures stands { IfOk result (λ text. (o : SessionNumbers) (calls : List DiskCall) → DiskStands o calls self.old → has_ended o calls ≡ false
             → DiskStands o (calls ++ came rec (pdu_parts p.now) ∷ []) self.new × IsDiskAnswer (disk_answer o (reading o calls) (came rec (pdu_parts p.now))) text acts.new) }
         // After its end it ignores every PDU.
-        ensures ended { (o : Opened) (calls : List DiskCall) → DiskStands o calls self.old → has_ended o calls ≡ true
+        ensures ended { (o : SessionNumbers) (calls : List DiskCall) → DiskStands o calls self.old → has_ended o calls ≡ true
             → (result ≡ Ok None) × (self.new ≡ self.old) × (acts.new ≡ asks_nothing) }
         ensures err { OnErr result ((self.new ≡ self.old) × (acts.new ≡ asks_nothing)) }
     {
@@ -101,10 +101,10 @@ impl Disk {
 
     /// The stream has ended, or can't be read on: it ends, as this record brought it.
     pub fn finish(&mut self, rec: u32, acts: &mut Acts)
-        ensures stands { (o : Opened) (calls : List DiskCall) → DiskStands o calls self.old → has_ended o calls ≡ false
+        ensures stands { (o : SessionNumbers) (calls : List DiskCall) → DiskStands o calls self.old → has_ended o calls ≡ false
             → DiskStands o (calls ++ stream_ended rec ∷ []) self.new × (acts.new ≡ acts_of (disk_answer o (reading o calls) (stream_ended rec))) }
         // After its end it ignores that.
-        ensures ended { (o : Opened) (calls : List DiskCall) → DiskStands o calls self.old → has_ended o calls ≡ true
+        ensures ended { (o : SessionNumbers) (calls : List DiskCall) → DiskStands o calls self.old → has_ended o calls ≡ true
             → (self.new ≡ self.old) × (acts.new ≡ asks_nothing) }
     {
         acts.clear();
@@ -119,10 +119,10 @@ impl Disk {
         requires some { 1 ≤ n }
         requires few { n ≤ 64 }
         requires live { work_is_over self.old.work ≡ false }
-        ensures stands { IfOk result (λ text. (o : Opened) (calls : List DiskCall) → DiskStands o calls self.old
+        ensures stands { IfOk result (λ text. (o : SessionNumbers) (calls : List DiskCall) → DiskStands o calls self.old
             → DiskStands o (calls ++ asked lba n ∷ []) self.new × (Some text ≡ option_map pdu_text (disk_answer o (reading o calls) (asked lba n)).put)) }
         // It is refused where it goes beyond the capacity that was read, and else where a command isn't answered.
-        ensures refused { (o : Opened) (calls : List DiskCall) → DiskStands o calls self.old → RefusesRead (reading o calls) lba n result }
+        ensures refused { (o : SessionNumbers) (calls : List DiskCall) → DiskStands o calls self.old → RefusesRead (reading o calls) lba n result }
         ensures takes { TakesRead (work_capacity self.old.work) (has_work self.old.work) lba n result }
         // Its text and what it keeps are functions of what it kept and of what is asked for.
         ensures text { IfOk result (λ text. text ≡ read_text self.old lba n) }
@@ -159,7 +159,7 @@ impl Disk {
     /// The number of blocks, once READ CAPACITY was answered.
     pub fn capacity(&self) -> Option<u32>
         ensures value { result ≡ work_capacity self.now.work }
-        ensures read { (o : Opened) (calls : List DiskCall) → DiskStands o calls self.now → result ≡ capacity_read (reading o calls) }
+        ensures read { (o : SessionNumbers) (calls : List DiskCall) → DiskStands o calls self.now → result ≡ capacity_read (reading o calls) }
     {
         self.state.work.capacity()
     }
@@ -167,7 +167,7 @@ impl Disk {
     /// Whether a command isn't answered.
     pub fn is_busy(&self) -> bool
         ensures value { result ≡ has_work self.now.work }
-        ensures at_work { (o : Opened) (calls : List DiskCall) → DiskStands o calls self.now → has_ended o calls ≡ false → result ≡ is_some (at_work (reading o calls)) }
+        ensures at_work { (o : SessionNumbers) (calls : List DiskCall) → DiskStands o calls self.now → has_ended o calls ≡ false → result ≡ is_some (at_work (reading o calls)) }
     {
         self.state.work.has_task()
     }
@@ -175,7 +175,7 @@ impl Disk {
     /// Whether it has ended.
     pub fn has_ended(&self) -> bool
         ensures value { result ≡ work_is_over self.now.work }
-        ensures stands { (o : Opened) (calls : List DiskCall) → DiskStands o calls self.now → result ≡ has_ended o calls }
+        ensures stands { (o : SessionNumbers) (calls : List DiskCall) → DiskStands o calls self.now → result ≡ has_ended o calls }
     {
         self.state.work.is_over()
     }

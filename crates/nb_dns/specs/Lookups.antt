@@ -45,7 +45,7 @@ abbrev pub asks_end : Cause → Acts
 asks_end cause = record { sends = record { items = [] }; tried = None; advance = None; give = None; ready = false; over = Some cause }
 
 -- a call asks for at most one message, by UDP (protocol 17), and gives no bytes up
-pub record AsksSimply (acts : Acts) : Type 0 where
+pub record AsksOneQuery (acts : Acts) : Type 0 where
   pub few : length acts.sends.items ≤ 1
   pub udp : AllByRecursion (λ send. send.proto ≡ 17) acts.sends.items
   pub gives : acts.give ≡ None

@@ -29,7 +29,7 @@ impl Dns {
     ghost use Rattle.std.specs.Prelude.{◌≡◌, ◌∷◌, ◌++◌, [], ℕ, List, IsErr, IfOk, OnErr, OnOk, None, true, false};
     ghost use Rattle.nb_dnsmsg.specs.declared.answer.Answer.{Answer};
     ghost use Rattle.nb_dns.specs.WrittenNames.{IsLookupName};
-    ghost use Rattle.nb_dns.specs.Lookups.{AsksSimply, Lookup, lookup, query_to, asks_nothing, asks_try, address_given};
+    ghost use Rattle.nb_dns.specs.Lookups.{AsksOneQuery, Lookup, lookup, query_to, asks_nothing, asks_try, address_given};
     ghost use Rattle.nb_dns.specs.LookupCalls.{LookupEntry, lookup_entry, arrived, clocked, dns_datagram, datagrams, lookup_ended, IsSilentCall, FirstReply};
     ghost use Rattle.nb_dns.specs.LookupReplies.{address_found};
     ghost use Rattle.nb_dns.specs.LookupStands.{LookupStands};
@@ -50,7 +50,7 @@ impl Dns {
         // The query is sent, under a timer, and no call stands after it.
         ensures query { OnOk result (acts.new ≡ asks_try (query_to (lookup server own_port id name.now)) 1) }
         ensures stands { IfOk result (λ d. LookupStands (lookup server own_port id name.now) now d []) }
-        ensures simple { AsksSimply acts.new }
+        ensures simple { AsksOneQuery acts.new }
     {
         acts.clear();
         match wire_name(name) {
@@ -70,7 +70,7 @@ impl Dns {
         // promises of all of them.
         ensures stands { (l : Lookup) (start : ℕ) (h : List LookupEntry) → LookupStands l start self.old h → lookup_ended h ≡ false → LookupStands l start self.new (h ++ lookup_entry (arrived (dns_datagram rec src body.now) now) acts.new ∷ []) }
         // It asks for at most one message, by UDP, and gives no bytes up.
-        ensures simple { AsksSimply acts.new }
+        ensures simple { AsksOneQuery acts.new }
         // After its end it ignores every call.
         ensures ended { (l : Lookup) (start : ℕ) (h : List LookupEntry) → LookupStands l start self.old h → lookup_ended h ≡ true → LookupStands l start self.new h × (acts.new ≡ asks_nothing) }
     {
@@ -81,7 +81,7 @@ impl Dns {
     /// It is this time, in milliseconds since the start of the run.
     pub fn time(&mut self, now: u64, acts: &mut Acts)
         ensures stands { (l : Lookup) (start : ℕ) (h : List LookupEntry) → LookupStands l start self.old h → lookup_ended h ≡ false → LookupStands l start self.new (h ++ lookup_entry (clocked now) acts.new ∷ []) }
-        ensures simple { AsksSimply acts.new }
+        ensures simple { AsksOneQuery acts.new }
         ensures ended { (l : Lookup) (start : ℕ) (h : List LookupEntry) → LookupStands l start self.old h → lookup_ended h ≡ true → LookupStands l start self.new h × (acts.new ≡ asks_nothing) }
     {
         acts.clear();

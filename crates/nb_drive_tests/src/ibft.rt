@@ -1,5 +1,5 @@
 ghost use Rattle.std.specs.Prelude.{◌≡◌, ◌≤◌, [], length, IfOk};
-ghost use Rattle.nb_ibft.specs.Infos.{AreShort, HasShortTexts, target_texts};
+ghost use Rattle.nb_ibft.specs.Infos.{AreShortTexts, HasShortTexts, target_texts};
 ghost use Rattle.nb_ibft.specs.Views.{boot_info, boot_target};
 
 use arrayvec::ArrayVec;
@@ -21,7 +21,7 @@ fn text(alloc: Global, bytes: &[u8]) -> Result<Text, NoMemory>
 fn disk(alloc: Global, name: &[u8], user: &[u8]) -> Result<BootTarget, NoMemory>
     requires name { length name.now ≤ 1088 }
     requires user { length user.now ≤ 1088 }
-    ensures { IfOk result (λ t. AreShort (target_texts (boot_target t))) }
+    ensures { IfOk result (λ t. AreShortTexts (target_texts (boot_target t))) }
 {
     Ok(BootTarget {
         address: Ip4(0x0a000001),
@@ -38,7 +38,7 @@ fn disk(alloc: Global, name: &[u8], user: &[u8]) -> Result<BootTarget, NoMemory>
 
 /// What a machine with the initiator's name iqn.x:i and the host name h says of this disk.
 fn info(alloc: Global, disk: BootTarget) -> Result<BootInfo, NoMemory>
-    requires { AreShort (target_texts (boot_target disk)) }
+    requires { AreShortTexts (target_texts (boot_target disk)) }
     ensures { IfOk result (λ b. HasShortTexts (boot_info b)) }
 {
     let mut targets = ArrayVec::new_in(alloc);

@@ -4,7 +4,7 @@ use Rattle.std.proofs.lemmas.Bool.{false≢true, eqb-true, leb-true, leb-false}
 use Rattle.std.proofs.lemmas.List.{length-append, length-take-le, length-drop, take-append-drop}
 use Rattle.nb_iscsipdu.proofs.StreamLemmas.{refused-kept, more-not_refused}
 use Rattle.nb_iscsipdu.specs.declared.pdus.PduState.TheVariants.{More, One, Broken}
-use Rattle.nb_iscsipdu.specs.Streams.{Cut, cut, is_refused, is_whole, pdu_of, pdu_len, open_of, whole_pdu, state_of, TakesOn, TakesNoMore, TakesAll, StaysOpen}
+use Rattle.nb_iscsipdu.specs.Streams.{Cut, cut, is_refused, is_whole, pdu_of, pdu_len, open_of, whole_pdu, state_of, TakesOn, TakesNoMore, TakesAllOfPdu, StaysOpen}
 use Rattle.nb_drivenodes.specs.StreamCuts.{cuts_none, cuts_one, cuts_off, CutsOn, outcome_gathered, outcome_is_off, FeedsSo}
 
 -- eight bytes with which a PDU may begin are not refused by those after them
@@ -65,7 +65,7 @@ is-off-by g true false = refl
 is-off-by g false true = refl
 is-off-by g false false = refl
 
-pub feeds-so : (old new bytes : List ℕ) (took : ℕ) → (is_refused old ≡ false → new ≡ open_of old ++ take took bytes) → took ≤ length bytes → TakesOn old new (take took bytes) → TakesNoMore old (take took bytes) → TakesAll new bytes took
+pub feeds-so : (old new bytes : List ℕ) (took : ℕ) → (is_refused old ≡ false → new ≡ open_of old ++ take took bytes) → took ≤ length bytes → TakesOn old new (take took bytes) → TakesNoMore old (take took bytes) → TakesAllOfPdu new bytes took
     → FeedsSo old new bytes took (outcome_gathered new)
 feeds-so old new bytes took gathers within on least all = λ stream has.
     let after = on stream has.0 in

@@ -11,10 +11,10 @@ use Rattle.std.specs.Prelude.{IfSome}
 use Rattle.std.proofs.lemmas.Option.{none-some}
 use Rattle.nb_conns.specs.ConnEffects.{ConnWithin, SaysNothing}
 use Rattle.nb_conns.specs.Dialogues.{AsksIdly, HandsOnClose}
-use Rattle.nb_disk.specs.Histories.{Opened, DiskCall}
+use Rattle.nb_disk.specs.Histories.{SessionNumbers, DiskCall}
 use Rattle.nb_disk.specs.DiskAnswers.{has_ended}
 use Rattle.nb_disk.specs.DiskStands.{DiskStands}
-use Rattle.nb_disk.specs.Steps.{Kept}
+use Rattle.nb_disk.specs.Steps.{KeptNumbers}
 use Rattle.nb_drivenodes.specs.declared.unit_stage.UnitStage.{UnitStage}
 use Rattle.nb_drivenodes.specs.declared.unit_stage.UnitStage.TheVariants.{Unasked, Waiting, Working, Ended}
 use Rattle.nb_drivenodes.specs.declared.logical_unit.LogicalUnit.{LogicalUnit}
@@ -32,7 +32,7 @@ unit-cuts k w new e o cut hands = subst (λ (z : UnitStage). UnitOn k w z e) (sy
 
 -- a message that comes to nothing
 pub quiet-up-unit : {N L : Type 0} (w : UnitStage) (slot : ℕ) (m : Said) (now : ℕ) (fx : Fx N L) (d : UnitTalk) → (w ≡ Waiting → (tagged_below 11 slot m && is_some (note_in m.bytes)) ≡ false)
-    → ((k : Kept) (c : ℕ) → w ≡ Working k c → ((tagged_below 12 slot m && is_some (pdu_in m.bytes)) || tagged_below 8 slot m) ≡ false) → IsUnitAt w d → is_quiet_unit d (up slot m now true fx) ≡ true
+    → ((k : KeptNumbers) (c : ℕ) → w ≡ Working k c → ((tagged_below 12 slot m && is_some (pdu_in m.bytes)) || tagged_below 8 slot m) ≡ false) → IsUnitAt w d → is_quiet_unit d (up slot m now true fx) ≡ true
 quiet-up-unit w slot m now fx _ h i before_asking = refl
 quiet-up-unit w slot m now fx _ h i while_waiting = ap not (h refl)
 quiet-up-unit w slot m now fx _ h i (while_working k o c calls stands on) = ap not (i k c refl)
@@ -84,7 +84,7 @@ pub off-served : (slot : ℕ) (m : Said) → tagged_below 12 slot m ≡ false �
 off-served slot m h i = ap (λ z. (z && is_some (pdu_in m.bytes)) || tagged_below 8 slot m) h ∙ i
 
 pub quiet-down-unit : {N L : Type 0} (w : UnitStage) (m : Said) (now : ℕ) (fx : Fx N L) (d : UnitTalk) → (w ≡ Unasked → (m.tag == 1) ≡ false)
-    → ((k : Kept) (c : ℕ) (o : Opened) (calls : List DiskCall) → w ≡ Working k c → DiskStands o calls k → has_ended o calls ≡ false → ((m.tag == 13) && takes_blocks o calls m.a m.b) ≡ false) → IsUnitAt w d → is_quiet_unit d (down m now true fx) ≡ true
+    → ((k : KeptNumbers) (c : ℕ) (o : SessionNumbers) (calls : List DiskCall) → w ≡ Working k c → DiskStands o calls k → has_ended o calls ≡ false → ((m.tag == 13) && takes_blocks o calls m.a m.b) ≡ false) → IsUnitAt w d → is_quiet_unit d (down m now true fx) ≡ true
 quiet-down-unit w m now fx _ h i before_asking = ap not (h refl)
 quiet-down-unit w m now fx _ h i while_waiting = refl
 quiet-down-unit w m now fx _ h i (while_working k o c calls stands on) = ap not (i k c o calls refl stands on)

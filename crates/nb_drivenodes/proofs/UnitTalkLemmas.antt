@@ -14,10 +14,10 @@ use Rattle.nb_graph.specs.Trace.{Said, NodeEntry, up, down}
 use Rattle.nb_conns.specs.ConnEffects.{GoesAbove, GoesBelow, TookAll, closes_for, received_says, emits_of}
 use Rattle.std.specs.List.{AllByRecursion}
 use Rattle.nb_iscsipdu.specs.PduTexts.{PduParts, pdu_text}
-use Rattle.nb_disk.specs.Histories.{Opened, DiskCall, came, asked, stream_ended, reading, at_work}
+use Rattle.nb_disk.specs.Histories.{SessionNumbers, DiskCall, came, asked, stream_ended, reading, at_work}
 use Rattle.nb_disk.specs.DiskAnswers.{disk_answer, has_ended, data_range}
 use Rattle.nb_disk.specs.DiskStands.{DiskStands, is_out}
-use Rattle.nb_disk.specs.Steps.{Kept}
+use Rattle.nb_disk.specs.Steps.{KeptNumbers}
 use Rattle.nb_drivenodes.specs.declared.session_note.SessionNote.{SessionNote}
 use Rattle.nb_drivenodes.specs.declared.unit_answer.UnitAnswer.{UnitAnswer}
 use Rattle.nb_drivenodes.specs.declared.unit_stage.UnitStage.{UnitStage}
@@ -70,7 +70,7 @@ blocks-same rec give bytes same = by (is_some (data_range (length give))) refl
     by false e = ap (λ b. given_so rec b bytes) e ∙ sym (ap (λ b. given_so rec b give) e)
 
 -- a PDU of the session
-pub pdu-asks : {N L : Type 0} (k : TextCarrier L) (m : Said) (o : Opened) (calls : List DiskCall) (p : PduParts) (len chap : ℕ) (new : Kept) (a : UnitAnswer) (fx : Fx N L) → pdu_in m.bytes ≡ Some p → drop 48 m.bytes ≡ p.seg → len ≡ length m.bytes
+pub pdu-asks : {N L : Type 0} (k : TextCarrier L) (m : Said) (o : SessionNumbers) (calls : List DiskCall) (p : PduParts) (len chap : ℕ) (new : KeptNumbers) (a : UnitAnswer) (fx : Fx N L) → pdu_in m.bytes ≡ Some p → drop 48 m.bytes ≡ p.seg → len ≡ length m.bytes
     → AnswersUnit o calls (came m.rec p) new a → AsksUnit k len chap a fx
     → DriveEffects k m (sends_says m.rec (option_map pdu_text (disk_answer o (reading o calls) (came m.rec p)).put)) (blocks_says m.rec (disk_answer o (reading o calls) (came m.rec p)).give ++ answered_says m.rec chap (answered_by o calls (came m.rec p)))
     (closes_for (disk_answer o (reading o calls) (came m.rec p)).over) fx
@@ -87,20 +87,20 @@ pdu-asks k m o calls p len chap new a fx is seg all answers asks = record {
 }
 
 -- where a call leaves it
-worked-at : (o : Opened) (chap : ℕ) (calls : List DiskCall) (call : DiskCall) (new : Kept) (over : Option Cause) (w : UnitStage) → DiskStands o (calls ++ call ∷ []) new → has_ended o (calls ++ call ∷ []) ≡ is_some over
+worked-at : (o : SessionNumbers) (chap : ℕ) (calls : List DiskCall) (call : DiskCall) (new : KeptNumbers) (over : Option Cause) (w : UnitStage) → DiskStands o (calls ++ call ∷ []) new → has_ended o (calls ++ call ∷ []) ≡ is_some over
     → w ≡ (if is_some over then Ended else Working new chap) → IsUnitAt w (worked_on o chap (calls ++ call ∷ []) over)
 worked-at o chap calls call new None w stands ended stage = subst (λ (z : UnitStage). IsUnitAt z (unit_works o chap (calls ++ call ∷ []))) (sym stage) (while_working new o chap (calls ++ call ∷ []) stands ended)
 worked-at o chap calls call new (Some c) w stands ended stage = subst (λ (z : UnitStage). IsUnitAt z (unit_over o chap (calls ++ call ∷ []) (Some c))) (sym stage) (once_over new o chap (calls ++ call ∷ []) (Some c) stands)
 
-pub takes-on : {N L : Type 0} (k : TextCarrier L) (m : Said) (slot now : ℕ) (fx : Fx N L) (old w : UnitStage) (kept new : Kept) (chap len : ℕ) (p : PduParts) (a : UnitAnswer) → old ≡ Working kept chap → tagged_below 12 slot m ≡ true → pdu_in m.bytes ≡ Some p
-    → drop 48 m.bytes ≡ p.seg → len ≡ length m.bytes → TookAll m fx → ((o : Opened) (calls : List DiskCall) → DiskStands o calls kept → has_ended o calls ≡ false → AnswersUnit o calls (came m.rec p) new a) → AsksUnit k len chap a fx
+pub takes-on : {N L : Type 0} (k : TextCarrier L) (m : Said) (slot now : ℕ) (fx : Fx N L) (old w : UnitStage) (kept new : KeptNumbers) (chap len : ℕ) (p : PduParts) (a : UnitAnswer) → old ≡ Working kept chap → tagged_below 12 slot m ≡ true → pdu_in m.bytes ≡ Some p
+    → drop 48 m.bytes ≡ p.seg → len ≡ length m.bytes → TookAll m fx → ((o : SessionNumbers) (calls : List DiskCall) → DiskStands o calls kept → has_ended o calls ≡ false → AnswersUnit o calls (came m.rec p) new a) → AsksUnit k len chap a fx
     → w ≡ (if is_some a.over then Ended else Working new chap) → UnitOn k old w (up slot m now true fx)
 takes-on k m slot now fx old w kept new chap len p a o tag is seg all took answers asks stage _ before_asking = absurd (let z = o in cc)
 takes-on k m slot now fx old w kept new chap len p a o tag is seg all took answers asks stage _ while_waiting = absurd (let z = o in cc)
 takes-on k m slot now fx old w kept new chap len p a o tag is seg all took answers asks stage _ (while_working kk b c calls stands on) =
     let same : kk ≡ kept = (let z = o in cc) in
     let kind : c ≡ chap = (let z = o in cc) in
-    let so = answers b calls (subst (λ (z : Kept). DiskStands b calls z) same stands) on in
+    let so = answers b calls (subst (λ (z : KeptNumbers). DiskStands b calls z) same stands) on in
     let over = (disk_answer b (reading b calls) (came m.rec p)).over in (
       worked_on b c (calls ++ came m.rec p ∷ []) over,
       unit_takes b c calls p slot m now fx tag is took (subst (λ z. DriveEffects k m (sends_says m.rec (option_map pdu_text (disk_answer b (reading b calls) (came m.rec p)).put)) (blocks_says m.rec (disk_answer b (reading b calls) (came m.rec p)).give ++ answered_says m.rec z (answered_by b calls (came m.rec p))) (closes_for over) fx) (sym kind) (pdu-asks k m b calls p len chap new a fx is seg all so asks)),
@@ -110,15 +110,15 @@ takes-on k m slot now fx old w kept new chap len p a o tag is seg all took answe
 takes-on k m slot now fx old w kept new chap len p a o tag is seg all took answers asks stage _ once_unit_cut = absurd (let z = o in cc)
 
 -- no further PDU comes
-pub lacks-on : {N L : Type 0} (k : TextCarrier L) (m : Said) (slot now : ℕ) (fx : Fx N L) (old w : UnitStage) (kept new : Kept) (chap : ℕ) (a : UnitAnswer) → old ≡ Working kept chap → tagged_below 8 slot m ≡ true → TookAll m fx
-    → ((o : Opened) (calls : List DiskCall) → DiskStands o calls kept → has_ended o calls ≡ false → AnswersUnit o calls (stream_ended m.rec) new a) → DriveEffects k m [] [] (closes_for a.over) fx
+pub lacks-on : {N L : Type 0} (k : TextCarrier L) (m : Said) (slot now : ℕ) (fx : Fx N L) (old w : UnitStage) (kept new : KeptNumbers) (chap : ℕ) (a : UnitAnswer) → old ≡ Working kept chap → tagged_below 8 slot m ≡ true → TookAll m fx
+    → ((o : SessionNumbers) (calls : List DiskCall) → DiskStands o calls kept → has_ended o calls ≡ false → AnswersUnit o calls (stream_ended m.rec) new a) → DriveEffects k m [] [] (closes_for a.over) fx
     → w ≡ (if is_some a.over then Ended else Working new chap) → UnitOn k old w (up slot m now true fx)
 lacks-on k m slot now fx old w kept new chap a o tag took answers asks stage _ before_asking = absurd (let z = o in cc)
 lacks-on k m slot now fx old w kept new chap a o tag took answers asks stage _ while_waiting = absurd (let z = o in cc)
 lacks-on k m slot now fx old w kept new chap a o tag took answers asks stage _ (while_working kk b c calls stands on) =
     let same : kk ≡ kept = (let z = o in cc) in
     let kind : c ≡ chap = (let z = o in cc) in
-    let so = answers b calls (subst (λ (z : Kept). DiskStands b calls z) same stands) on in
+    let so = answers b calls (subst (λ (z : KeptNumbers). DiskStands b calls z) same stands) on in
     let over = (disk_answer b (reading b calls) (stream_ended m.rec)).over in (
       worked_on b c (calls ++ stream_ended m.rec ∷ []) over,
       unit_lacks b c calls slot m now fx tag took (subst (λ (z : Option Cause). DriveEffects k m [] [] (closes_for z) fx) so.over asks),
@@ -128,7 +128,7 @@ lacks-on k m slot now fx old w kept new chap a o tag took answers asks stage _ (
 lacks-on k m slot now fx old w kept new chap a o tag took answers asks stage _ once_unit_cut = absurd (let z = o in cc)
 
 -- the session is open
-pub starts-on : {N L : Type 0} (k : TextCarrier L) (m : Said) (slot now : ℕ) (fx : Fx N L) (old : UnitStage) (new : Kept) (n : SessionNote) → old ≡ Waiting → tagged_below 11 slot m ≡ true → note_in m.bytes ≡ Some n → TookAll m fx
+pub starts-on : {N L : Type 0} (k : TextCarrier L) (m : Said) (slot now : ℕ) (fx : Fx N L) (old : UnitStage) (new : KeptNumbers) (n : SessionNote) → old ≡ Waiting → tagged_below 11 slot m ≡ true → note_in m.bytes ≡ Some n → TookAll m fx
     → DiskStands (unit_opened n m.a) [] new → DriveEffects k m (sends_says m.rec (Some (first_command (unit_opened n m.a)))) [] [] fx → UnitOn k old (Working new m.b) (up slot m now true fx)
 starts-on k m slot now fx old new n o tag is took stands effects _ before_asking = absurd (let z = o in cc)
 starts-on k m slot now fx old new n o tag is took stands effects _ while_waiting = (unit_works (unit_opened n m.a) m.b [], unit_starts n slot m now fx tag is took effects, while_working new (unit_opened n m.a) m.b [] stands refl)
@@ -157,16 +157,16 @@ unit-begins-on k m now fx old len o tag all mk d u c _ (once_over kk b x calls o
 unit-begins-on k m now fx old len o tag all mk d u c _ once_unit_cut = absurd (let z = o in cc)
 
 -- blocks are asked for
-pub reads-on : {N L : Type 0} (k : TextCarrier L) (m : Said) (now : ℕ) (fx : Fx N L) (old : UnitStage) (kept new : Kept) (chap : ℕ) (text : List ℕ) → old ≡ Working kept chap → m.tag ≡ 13
-    → ((o : Opened) (calls : List DiskCall) → DiskStands o calls kept → has_ended o calls ≡ false → takes_blocks o calls m.a m.b ≡ true)
-    → ((o : Opened) (calls : List DiskCall) → DiskStands o calls kept → DiskStands o (calls ++ asked m.a m.b ∷ []) new × (Some text ≡ option_map pdu_text (disk_answer o (reading o calls) (asked m.a m.b)).put))
+pub reads-on : {N L : Type 0} (k : TextCarrier L) (m : Said) (now : ℕ) (fx : Fx N L) (old : UnitStage) (kept new : KeptNumbers) (chap : ℕ) (text : List ℕ) → old ≡ Working kept chap → m.tag ≡ 13
+    → ((o : SessionNumbers) (calls : List DiskCall) → DiskStands o calls kept → has_ended o calls ≡ false → takes_blocks o calls m.a m.b ≡ true)
+    → ((o : SessionNumbers) (calls : List DiskCall) → DiskStands o calls kept → DiskStands o (calls ++ asked m.a m.b ∷ []) new × (Some text ≡ option_map pdu_text (disk_answer o (reading o calls) (asked m.a m.b)).put))
     → fx.makes ≡ None → OnlyFirst (text_emit k text) fx.downs → IsNoEmit fx.ups → fx.closes.items ≡ [] → UnitOn k old (Working new chap) (down m now true fx)
 reads-on k m now fx old kept new chap text o tag takes stands mk d u c _ before_asking = absurd (let z = o in cc)
 reads-on k m now fx old kept new chap text o tag takes stands mk d u c _ while_waiting = absurd (let z = o in cc)
 reads-on k m now fx old kept new chap text o tag takes stands mk d u c _ (while_working kk b x calls st on) =
     let same : kk ≡ kept = (let z = o in cc) in
     let kind : x ≡ chap = (let z = o in cc) in
-    let here = subst (λ (z : Kept). DiskStands b calls z) same st in
+    let here = subst (λ (z : KeptNumbers). DiskStands b calls z) same st in
     let so = stands b calls here in (
       unit_works b x (calls ++ asked m.a m.b ∷ []),
       unit_reads b x calls m now fx tag (takes b calls here on) (subst (λ (z : Option (List ℕ)). DriveEffects k m (sends_says m.rec z) [] [] fx) so.1 (sends-alone k m text fx mk d u c)),
@@ -177,37 +177,37 @@ reads-on k m now fx old kept new chap text o tag takes stands mk d u c _ once_un
 
 -- WHETHER BLOCKS MAY BE ASKED FOR
 
-pub takes-true : (o : Opened) (calls : List DiskCall) (lba n : ℕ) → 1 ≤ n → n ≤ 64 → is_out (reading o calls) lba n ≡ false → at_work (reading o calls) ≡ None → takes_blocks o calls lba n ≡ true
+pub takes-true : (o : SessionNumbers) (calls : List DiskCall) (lba n : ℕ) → 1 ≤ n → n ≤ 64 → is_out (reading o calls) lba n ≡ false → at_work (reading o calls) ≡ None → takes_blocks o calls lba n ≡ true
 takes-true o calls lba n some few within free =
     ap (λ z. (z && nat_le n 64) && (not (is_out (reading o calls) lba n) && not (is_some (at_work (reading o calls))))) (lt-ltb 0 n (omega (arith, some)))
     ∙ ap (λ z. (true && z) && (not (is_out (reading o calls) lba n) && not (is_some (at_work (reading o calls))))) (le-leb n 64 few)
     ∙ ap (λ z. not z && not (is_some (at_work (reading o calls)))) within
     ∙ ap (λ (z : Option Command). not (is_some z)) free
 
-pub takes-out : (o : Opened) (calls : List DiskCall) (lba n : ℕ) → is_out (reading o calls) lba n ≡ true → takes_blocks o calls lba n ≡ false
+pub takes-out : (o : SessionNumbers) (calls : List DiskCall) (lba n : ℕ) → is_out (reading o calls) lba n ≡ true → takes_blocks o calls lba n ≡ false
 takes-out o calls lba n out = ap (λ z. (nat_lt 0 n && nat_le n 64) && (not z && not (is_some (at_work (reading o calls))))) out ∙ and-off (nat_lt 0 n && nat_le n 64)
 
-pub takes-busy : (o : Opened) (calls : List DiskCall) (lba n : ℕ) → is_some (at_work (reading o calls)) ≡ true → takes_blocks o calls lba n ≡ false
+pub takes-busy : (o : SessionNumbers) (calls : List DiskCall) (lba n : ℕ) → is_some (at_work (reading o calls)) ≡ true → takes_blocks o calls lba n ≡ false
 takes-busy o calls lba n busy =
     ap (λ z. (nat_lt 0 n && nat_le n 64) && (not (is_out (reading o calls) lba n) && not z)) busy
     ∙ ap (λ z. (nat_lt 0 n && nat_le n 64) && z) (and-off (not (is_out (reading o calls) lba n))) ∙ and-off (nat_lt 0 n && nat_le n 64)
 
-pub takes-none : (o : Opened) (calls : List DiskCall) (lba n : ℕ) → n ≡ 0 → takes_blocks o calls lba n ≡ false
+pub takes-none : (o : SessionNumbers) (calls : List DiskCall) (lba n : ℕ) → n ≡ 0 → takes_blocks o calls lba n ≡ false
 takes-none o calls lba n none = ap (λ z. (nat_lt 0 z && nat_le n 64) && (not (is_out (reading o calls) lba n) && not (is_some (at_work (reading o calls))))) none
 
-pub takes-many : (o : Opened) (calls : List DiskCall) (lba n : ℕ) → 64 < n → takes_blocks o calls lba n ≡ false
+pub takes-many : (o : SessionNumbers) (calls : List DiskCall) (lba n : ℕ) → 64 < n → takes_blocks o calls lba n ≡ false
 takes-many o calls lba n many =
     ap (λ z. (nat_lt 0 n && z) && (not (is_out (reading o calls) lba n) && not (is_some (at_work (reading o calls))))) (lt-leb n 64 many)
     ∙ ap (λ z. z && (not (is_out (reading o calls) lba n) && not (is_some (at_work (reading o calls))))) (and-off (nat_lt 0 n))
 
 -- a read that isn't put
-pub quiet-read-on : {N L : Type 0} (k : TextCarrier L) (m : Said) (now : ℕ) (fx : Fx N L) (old : UnitStage) (kept new : Kept) (chap : ℕ) → old ≡ Working kept chap → new ≡ kept → m.tag ≡ 13
-    → ((o : Opened) (calls : List DiskCall) → DiskStands o calls kept → has_ended o calls ≡ false → takes_blocks o calls m.a m.b ≡ false) → AsksIdly {N = N} {L = L} (down m now true fx) → UnitOn k old (Working new chap) (down m now true fx)
+pub quiet-read-on : {N L : Type 0} (k : TextCarrier L) (m : Said) (now : ℕ) (fx : Fx N L) (old : UnitStage) (kept new : KeptNumbers) (chap : ℕ) → old ≡ Working kept chap → new ≡ kept → m.tag ≡ 13
+    → ((o : SessionNumbers) (calls : List DiskCall) → DiskStands o calls kept → has_ended o calls ≡ false → takes_blocks o calls m.a m.b ≡ false) → AsksIdly {N = N} {L = L} (down m now true fx) → UnitOn k old (Working new chap) (down m now true fx)
 quiet-read-on {N} {L} k m now fx old kept new chap o same tag off idle =
     let entry : NodeEntry N L = down m now true fx in
-    subst (λ (z : UnitStage). UnitOn k old z entry) (o ∙ ap (λ (z : Kept). Working z chap) (sym same))
+    subst (λ (z : UnitStage). UnitOn k old z entry) (o ∙ ap (λ (z : KeptNumbers). Working z chap) (sym same))
     (unit-rests k old entry (λ d at. quiet-down-unit old m now fx d (λ e. absurd (let z = e in let y = o in cc))
-    (λ kk c b calls w st on. ap (λ z. (m.tag == 13) && z) (off b calls (subst (λ (z : Kept). DiskStands b calls z) (let z = w in let y = o in cc) st) on) ∙ and-off (m.tag == 13)) at) idle)
+    (λ kk c b calls w st on. ap (λ z. (m.tag == 13) && z) (off b calls (subst (λ (z : KeptNumbers). DiskStands b calls z) (let z = w in let y = o in cc) st) on) ∙ and-off (m.tag == 13)) at) idle)
 
 -- a message's bytes are a PDU's
 pub pdu-is : (all bytes head seg : List ℕ) → all ≡ bytes → head ≡ take 48 bytes → seg ≡ drop 48 bytes → 48 ≤ length bytes → pdu_in all ≡ Some (record { head = head; seg = seg })

@@ -170,7 +170,7 @@ abbrev pub pdus_given : List LoginEntry → List PduParts
 pdus_given h = map (λ e. e.came.pdu) h
 
 -- the answers of a login that has opened a session
-pub record HasOpened (a : DriveAskParts) (h : List LoginEntry) : Type 0 where
+pub record HasSession (a : DriveAskParts) (h : List LoginEntry) : Type 0 where
   pub meets : LoginMeets a.info h
   pub session : Session
   pub opens : session_opened a.info h ≡ Some session
@@ -188,9 +188,9 @@ pub data IsSessionAt : SessionStage → List ℕ → SessionTalk → Type 0 wher
   before_login : (gathered : List ℕ) → HasCut [] gathered → IsSessionAt Unasked gathered session_unasked
   while_logging_in : (s : SessionStage) (gathered : List ℕ) (a : DriveAskParts) (taken : List ℕ) (h : List LoginEntry) → HasLogin s a.info h → login_ended h ≡ false
       → pdus_given h ≡ (cut taken).pdus → HasCut taken gathered → IsSessionAt s gathered (logging_in a taken h)
-  while_in_session : (gathered : List ℕ) (a : DriveAskParts) (taken : List ℕ) (h : List LoginEntry) → HasOpened a h → HasCut taken gathered
+  while_in_session : (gathered : List ℕ) (a : DriveAskParts) (taken : List ℕ) (h : List LoginEntry) → HasSession a h → HasCut taken gathered
       → IsSessionAt Open gathered (in_session a taken h)
-  once_drained : (gathered : List ℕ) (a : DriveAskParts) (taken : List ℕ) (h : List LoginEntry) → HasOpened a h → IsSessionAt Drained gathered (session_drained a taken h)
+  once_drained : (gathered : List ℕ) (a : DriveAskParts) (taken : List ℕ) (h : List LoginEntry) → HasSession a h → IsSessionAt Drained gathered (session_drained a taken h)
   once_failed : (gathered : List ℕ) (a : DriveAskParts) (taken : List ℕ) (h : List LoginEntry) (over : Option Cause) → LoginMeets a.info h → IsSessionAt Ended gathered (login_failed a taken h over)
   once_session_cut : (gathered : List ℕ) → IsSessionAt Ended gathered session_cut
 

@@ -11,10 +11,10 @@ use Rattle.nb_conns.specs.StreamTags.{stream_tag_number}
 use Rattle.nb_conns.specs.ConnEffects.{TookAll, closes_for, received_says}
 use Rattle.nb_conns.specs.Dialogues.{AsksIdly, HandsOnClose}
 use Rattle.nb_iscsipdu.specs.PduTexts.{PduParts, pdu_text}
-use Rattle.nb_disk.specs.Histories.{Opened, DiskCall, came, asked, stream_ended, reading, at_work}
+use Rattle.nb_disk.specs.Histories.{SessionNumbers, DiskCall, came, asked, stream_ended, reading, at_work}
 use Rattle.nb_disk.specs.DiskAnswers.{disk_answer, has_ended, data_range}
 use Rattle.nb_disk.specs.DiskStands.{DiskStands, is_out}
-use Rattle.nb_disk.specs.Steps.{Kept}
+use Rattle.nb_disk.specs.Steps.{KeptNumbers}
 use Rattle.nb_drivenodes.specs.declared.drive_tag.DriveTag.TheVariants as drive
 use Rattle.nb_drivenodes.specs.declared.logical_unit.LogicalUnit.{LogicalUnit}
 use Rattle.nb_drivenodes.specs.declared.session_note.SessionNote.{SessionNote}
@@ -31,8 +31,8 @@ use Rattle.nb_drivenodes.specs.UnitAnswers.{unit_opened, first_command, answered
 pub data UnitTalk : Type 0 where
   unit_unasked : UnitTalk
   unit_waits : UnitTalk
-  unit_works : (o : Opened) (chap : ℕ) (calls : List DiskCall) → UnitTalk
-  unit_over : (o : Opened) (chap : ℕ) (calls : List DiskCall) (over : Option Cause) → UnitTalk
+  unit_works : (o : SessionNumbers) (chap : ℕ) (calls : List DiskCall) → UnitTalk
+  unit_over : (o : SessionNumbers) (chap : ℕ) (calls : List DiskCall) (over : Option Cause) → UnitTalk
   unit_cut : UnitTalk
 
 abbrev pub unit_lives : UnitTalk → Bool
@@ -59,7 +59,7 @@ unit_comes (unit_over o chap calls over) slot m = false
 unit_comes unit_cut slot m = false
 
 -- blocks are asked for only where they are within the unit, at most 64 at once, while no command is at work
-abbrev pub takes_blocks : Opened → List DiskCall → ℕ → ℕ → Bool
+abbrev pub takes_blocks : SessionNumbers → List DiskCall → ℕ → ℕ → Bool
 takes_blocks o calls lba n = (nat_lt 0 n && nat_le n 64) && (not (is_out (reading o calls) lba n) && not (is_some (at_work (reading o calls))))
 
 -- a message from above that counts: it asks for the session, or for blocks
@@ -99,7 +99,7 @@ abbrev pub asks_session : Said → List Said
 asks_session m = record { tag = stream_tag_number stream.Begin; rec = m.rec; a = m.a; b = m.b; bytes = m.bytes } ∷ []
 
 -- after a call, which may have ended it
-abbrev pub worked_on : Opened → ℕ → List DiskCall → Option Cause → UnitTalk
+abbrev pub worked_on : SessionNumbers → ℕ → List DiskCall → Option Cause → UnitTalk
 worked_on o chap calls over = if is_some over then unit_over o chap calls over else unit_works o chap calls
 
 -- One entry of a unit. Each call of the core stands in an entry, and an entry makes no other.
@@ -112,16 +112,16 @@ pub data UnitTalks {N L : Type 0} (k : TextCarrier L) : UnitTalk → NodeEntry N
       → DriveEffects k m (sends_says m.rec (Some (first_command (unit_opened n m.a)))) [] [] fx
       → UnitTalks k unit_waits (up slot m now true fx) (unit_works (unit_opened n m.a) m.b [])
   -- A PDU of the session: what is sent, which bytes of blocks go up, and how it ends, are what all that came calls for.
-  unit_takes : (o : Opened) (chap : ℕ) (calls : List DiskCall) (p : PduParts) (slot : ℕ) (m : Said) (now : ℕ) (fx : Fx N L) → tagged_below (drive_tag_number drive.Pdu) slot m ≡ true → pdu_in m.bytes ≡ Some p → TookAll m fx
+  unit_takes : (o : SessionNumbers) (chap : ℕ) (calls : List DiskCall) (p : PduParts) (slot : ℕ) (m : Said) (now : ℕ) (fx : Fx N L) → tagged_below (drive_tag_number drive.Pdu) slot m ≡ true → pdu_in m.bytes ≡ Some p → TookAll m fx
       → (let call = came m.rec p in let answer = disk_answer o (reading o calls) call in
       DriveEffects k m (sends_says m.rec (option_map pdu_text answer.put)) (blocks_says m.rec answer.give ++ answered_says m.rec chap (answered_by o calls call)) (closes_for answer.over) fx)
       → UnitTalks k (unit_works o chap calls) (up slot m now true fx) (worked_on o chap (calls ++ came m.rec p ∷ []) (disk_answer o (reading o calls) (came m.rec p)).over)
   -- no further one comes
-  unit_lacks : (o : Opened) (chap : ℕ) (calls : List DiskCall) (slot : ℕ) (m : Said) (now : ℕ) (fx : Fx N L) → tagged_below (stream_tag_number stream.End) slot m ≡ true → TookAll m fx
+  unit_lacks : (o : SessionNumbers) (chap : ℕ) (calls : List DiskCall) (slot : ℕ) (m : Said) (now : ℕ) (fx : Fx N L) → tagged_below (stream_tag_number stream.End) slot m ≡ true → TookAll m fx
       → DriveEffects k m [] [] (closes_for (disk_answer o (reading o calls) (stream_ended m.rec)).over) fx
       → UnitTalks k (unit_works o chap calls) (up slot m now true fx) (worked_on o chap (calls ++ stream_ended m.rec ∷ []) (disk_answer o (reading o calls) (stream_ended m.rec)).over)
   -- blocks are asked for
-  unit_reads : (o : Opened) (chap : ℕ) (calls : List DiskCall) (m : Said) (now : ℕ) (fx : Fx N L) → m.tag ≡ drive_tag_number drive.Read → takes_blocks o calls m.a m.b ≡ true
+  unit_reads : (o : SessionNumbers) (chap : ℕ) (calls : List DiskCall) (m : Said) (now : ℕ) (fx : Fx N L) → m.tag ≡ drive_tag_number drive.Read → takes_blocks o calls m.a m.b ≡ true
       → DriveEffects k m (sends_says m.rec (option_map pdu_text (disk_answer o (reading o calls) (asked m.a m.b)).put)) [] [] fx
       → UnitTalks k (unit_works o chap calls) (down m now true fx) (unit_works o chap (calls ++ asked m.a m.b ∷ []))
   unit_ends : (d : UnitTalk) (e : NodeEntry N L) → is_cut_unit d e ≡ true → HandsOnClose e → UnitTalks k d e unit_cut
@@ -136,8 +136,8 @@ UnitTalksTo k d (e ∷ t) f = (g : UnitTalk) × UnitTalks k d e g × UnitTalksTo
 pub data IsUnitAt : UnitStage → UnitTalk → Type 0 where
   before_asking : IsUnitAt Unasked unit_unasked
   while_waiting : IsUnitAt Waiting unit_waits
-  while_working : (k : Kept) (o : Opened) (chap : ℕ) (calls : List DiskCall) → DiskStands o calls k → has_ended o calls ≡ false → IsUnitAt (Working k chap) (unit_works o chap calls)
-  once_over : (k : Kept) (o : Opened) (chap : ℕ) (calls : List DiskCall) (over : Option Cause) → DiskStands o calls k → IsUnitAt Ended (unit_over o chap calls over)
+  while_working : (k : KeptNumbers) (o : SessionNumbers) (chap : ℕ) (calls : List DiskCall) → DiskStands o calls k → has_ended o calls ≡ false → IsUnitAt (Working k chap) (unit_works o chap calls)
+  once_over : (k : KeptNumbers) (o : SessionNumbers) (chap : ℕ) (calls : List DiskCall) (over : Option Cause) → DiskStands o calls k → IsUnitAt Ended (unit_over o chap calls over)
   once_unit_cut : IsUnitAt Ended unit_cut
 
 -- A unit stands for a trace whose entries lead from the beginning to where it is.

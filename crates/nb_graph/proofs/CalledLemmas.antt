@@ -11,7 +11,7 @@ use Rattle.nb_graph.specs.Deeds.{calls, Stage, MustHear, Holds, Returns, rest, r
 use Rattle.nb_graph.specs.Scene.{Scene}
 use Rattle.nb_graph.specs.Follows.{Becomes, peer_hears, returns, takes, takes_down, takes_time}
 use Rattle.nb_graph.specs.Accounts.{Account, after_call, rests, sent_by, taken_by, fx_bytes}
-use Rattle.nb_graph.specs.Drained.{Watch}
+use Rattle.nb_graph.specs.Drained.{LinkWatch}
 use Rattle.nb_graph.proofs.LinkLemmas.{cases_port}
 use Rattle.nb_graph.proofs.DueLemmas.{Is, Bears, Bars, Due, Fit, Order, entered, bump-own, due-none, due-less, due-push, fit-rest, order-runs, entered-append, entered-runs, due-runs, due-fails}
 use Rattle.nb_graph.proofs.TiedLemmas.{Tied}
@@ -178,7 +178,7 @@ module _ {N L : Type 0} (known : Nature N L) (p q : Port) where
     takes-below s n a b x m false fx gs far here f = called-fails s n a b x 0 way.Down m fx (down m now false fx) gs far here f
 
     -- a node is called, or has a load back
-    pub called : (s : Scene) (w : Watch) (a b : Account) (gs : List (Stage N L)) {g : Stage N L} {x : ℕ} {e : NodeEntry N L} {more : List (Stage N L)} → Becomes known now s g (calls x e) more → Seen p q w s a b (g ∷ gs)
+    pub called : (s : Scene) (w : LinkWatch) (a b : Account) (gs : List (Stage N L)) {g : Stage N L} {x : ℕ} {e : NodeEntry N L} {more : List (Stage N L)} → Becomes known now s g (calls x e) more → Seen p q w s a b (g ∷ gs)
         → Seen p q w s (cond (eqb p.obj.0 x) (after_call known p a e) (rests a)) (cond (eqb q.obj.0 x) (after_call known q b e) (rests b)) (more ++ gs)
     called s w a b gs (peer_hears x slot c fx) seen z =
         let f = seen z in

@@ -14,7 +14,7 @@ use Rattle.nb_graph.specs.Deeds.{events_of, Deed, writes, begins, calls, turns, 
 use Rattle.nb_graph.specs.Scene.{Scene, scene_of, after_noted}
 use Rattle.nb_graph.specs.Follows.{Becomes, UsesStack, closes_none, keeps, passes, leaves, ticks_none, finds_none, has_begun, next, none_left, lets, lets_none}
 use Rattle.nb_graph.specs.Accounts.{account, Account, Balanced, JoinedEnds, Midway, joined, parted, after_note, after_call, rests}
-use Rattle.nb_graph.specs.Drained.{Watch, watched, IsDrained, IsFromOutside, AreFromOutside, watch_event, watch}
+use Rattle.nb_graph.specs.Drained.{LinkWatch, watched, IsDrained, IsFromOutside, AreFromOutside, watch_event, watch}
 use Rattle.nb_graph.specs.Went.{Midways, WentOne, all_of}
 use Rattle.nb_graph.proofs.Laws.{only_call}
 use Rattle.nb_graph.proofs.DueLemmas.{Bears, Due, Fit, Order, order-full, entered, order-closes}
@@ -46,7 +46,7 @@ ends-apart l p q links first second same =
 module _ {N L : Type 0} (known : Nature N L) (p q : Port) where
   module _ (now : ℕ) (apart : p.obj.0 ≡ q.obj.0 → ⊥) (slots : q.slot ≤ 3) where
     -- something turns
-    turned : (s : Scene) (w : Watch) (a b : Account) (gs : List (Stage N L)) {g : Stage N L} {u : Turn} {more : List (Stage N L)} → Becomes known now s g (turns u) more → Seen p q w s a b (g ∷ gs) → Seen p q w s a b (more ++ gs)
+    turned : (s : Scene) (w : LinkWatch) (a b : Account) (gs : List (Stage N L)) {g : Stage N L} {u : Turn} {more : List (Stage N L)} → Becomes known now s g (turns u) more → Seen p q w s a b (g ∷ gs) → Seen p q w s a b (more ++ gs)
     turned s w a b gs (closes_none r c o) seen z =
         let f = seen z in
         still known p q s w.running a b (Closes r c) gs [] (λ k x. x) (linked-shut s q p r f.tied.second o) f.runs f (λ k. k)
@@ -91,13 +91,13 @@ module _ {N L : Type 0} (known : Nature N L) (p q : Port) where
         let f = seen z in
         still known p q s w.running a b LetsAllGo gs [] (λ k x. x) (λ x. x) f.runs f (λ k. k)
 
-    begun : (s : Scene) (w : Watch) (a b : Account) (gs : List (Stage N L)) {g : Stage N L} {x : ℕ} {n : N} {more : List (Stage N L)} → Becomes known now s g (begins x n) more → Seen p q w s a b (g ∷ gs) → Seen p q w s a b (more ++ gs)
+    begun : (s : Scene) (w : LinkWatch) (a b : Account) (gs : List (Stage N L)) {g : Stage N L} {x : ℕ} {n : N} {more : List (Stage N L)} → Becomes known now s g (begins x n) more → Seen p q w s a b (g ∷ gs) → Seen p q w s a b (more ++ gs)
     begun s w a b gs (has_begun x n) seen z =
         let f = seen z in
         still known p q s w.running a b (MustBegin x n) gs [] (λ k y. y) (λ y. y) f.runs f (λ k. k)
 
     -- through all that happens
-    drained : (s t : Scene) (st : List (Stage N L)) (ds : List (Deed N L)) (w : Watch) (a b : Account) → UsesStack known now s st ds t → Midway known p q a b ds → Seen p q w s a b st → IsDrained known p q a b w ds
+    drained : (s t : Scene) (st : List (Stage N L)) (ds : List (Deed N L)) (w : LinkWatch) (a b : Account) → UsesStack known now s st ds t → Midway known p q a b ds → Seen p q w s a b st → IsDrained known p q a b w ds
     drained s t st [] w a b h mid seen = tt
     drained s t [] (d ∷ ds) w a b h mid seen = absurd h
     drained s t (g ∷ gs) (writes e ∷ ds) w a b (more, row, h) mid seen =
@@ -188,7 +188,7 @@ went-drained stands known now asks old new before after p q a b out links bal k 
     subst (λ dss. IsDrained known p q (rests a) (rests b) watched (all_of dss)) (sym one.1) (subst (IsDrained known p q (rests a) (rests b) watched) (sym (append-nil one.0)) ds)
 
 -- where what happens is so many deeds, and then the close of p
-at-close : {N L : Type 0} (known : Nature N L) (p q : Port) (a b : Account) (w : Watch) (us vs : List (Deed N L)) (c : Cause) → c ≢ no_place → IsDrained known p q a b w (us ++ writes (Closed p c) ∷ vs) → (watch p q w (events_of us)).ended ≡ false → (watch p q w (events_of us)).running ≤ 1
+at-close : {N L : Type 0} (known : Nature N L) (p q : Port) (a b : Account) (w : LinkWatch) (us vs : List (Deed N L)) (c : Cause) → c ≢ no_place → IsDrained known p q a b w (us ++ writes (Closed p c) ∷ vs) → (watch p q w (events_of us)).ended ≡ false → (watch p q w (events_of us)).running ≤ 1
     → (account known p a us).sent ≡ (account known q b us).taken
 at-close known p q a b w [] vs c n d = λ e le. d.0 (refl, n) e le
 at-close known p q a b w (writes e ∷ us) vs c n d = at-close known p q (after_note p a e) (after_note q b e) (watch_event p q w e) us vs c n d.1
@@ -196,6 +196,6 @@ at-close known p q a b w (begins x y ∷ us) vs c n d = at-close known p q a b w
 at-close known p q a b w (turns u ∷ us) vs c n d = at-close known p q a b w us vs c n d
 at-close known p q a b w (calls y e ∷ us) vs c n d = at-close known p q (cond (eqb p.obj.0 y) (after_call known p a e) (rests a)) (cond (eqb q.obj.0 y) (after_call known q b e) (rests b)) w us vs c n d
 
-pub drained-at : {N L : Type 0} (known : Nature N L) (p q : Port) (a b : Account) (w : Watch) (ds us vs : List (Deed N L)) (c : Cause) → c ≢ no_place → IsDrained known p q a b w ds → ds ≡ us ++ writes (Closed p c) ∷ vs → (watch p q w (events_of us)).ended ≡ false → (watch p q w (events_of us)).running ≤ 1
+pub drained-at : {N L : Type 0} (known : Nature N L) (p q : Port) (a b : Account) (w : LinkWatch) (ds us vs : List (Deed N L)) (c : Cause) → c ≢ no_place → IsDrained known p q a b w ds → ds ≡ us ++ writes (Closed p c) ∷ vs → (watch p q w (events_of us)).ended ≡ false → (watch p q w (events_of us)).running ≤ 1
     → (account known p a us).sent ≡ (account known q b us).taken
 drained-at known p q a b w ds us vs c n d e = at-close known p q a b w us vs c n (subst (IsDrained known p q a b w) e d)

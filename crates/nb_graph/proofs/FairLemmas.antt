@@ -9,7 +9,7 @@ use Rattle.nb_graph.specs.Trace.{Nature, Said}
 use Rattle.nb_graph.specs.Deeds.{Stage, Holds}
 use Rattle.nb_graph.specs.Scene.{Scene}
 use Rattle.nb_graph.specs.Accounts.{Account, after_note, rests, enters, is_same_port}
-use Rattle.nb_graph.specs.Drained.{Watch, IsClosedBy, running_after}
+use Rattle.nb_graph.specs.Drained.{LinkWatch, IsClosedBy, running_after}
 use Rattle.nb_graph.proofs.DueLemmas.{Is, Bears, Bars, Due, Fit, Order, entered, due-push, order-entered}
 use Rattle.nb_graph.proofs.TiedLemmas.{Tied, same-true}
 
@@ -24,11 +24,11 @@ pub record Fair {N L : Type 0} (p q : Port) (s : Scene) (n : ℕ) (a b : Account
   pub short : length a.sent ≤ length b.taken + missing
 
 -- it is seen until then
-abbrev pub Seen : {N L : Type 0} → Port → Port → Watch → Scene → Account → Account → List (Stage N L) → Type 0
+abbrev pub Seen : {N L : Type 0} → Port → Port → LinkWatch → Scene → Account → Account → List (Stage N L) → Type 0
 Seen p q w s a b st = w.ended ≡ false → Fair p q s w.running a b st
 
 -- the claim at an event
-abbrev pub Claim : Port → Account → Account → Watch → GraphEvent → Type 0
+abbrev pub Claim : Port → Account → Account → LinkWatch → GraphEvent → Type 0
 Claim p a b w e = IsClosedBy p e → w.ended ≡ false → w.running ≤ 1 → a.sent ≡ b.taken
 
 pub bump-both : (c : Bool) (h n : ℕ) → h ≤ n → cond c (h + 1) h ≤ cond c (n + 1) n

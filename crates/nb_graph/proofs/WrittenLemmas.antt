@@ -13,7 +13,7 @@ use Rattle.nb_graph.specs.Deeds.{writes, Stage, Shut, MustHear, Holds, Makes, Mu
 use Rattle.nb_graph.specs.Scene.{Scene, after_noted}
 use Rattle.nb_graph.specs.Follows.{Becomes, closes_alone, closes_link, peer_closes, peer_enters, unplugs, frees, drops, enters_up, enters_down, offered_up, offered_down, refused, drops_rest, ends, ticks, makes, makes_none, plugs, made_outside, held, let_go}
 use Rattle.nb_graph.specs.Accounts.{Account, Covers, after_note, rests, is_same_port}
-use Rattle.nb_graph.specs.Drained.{Watch, watch_event}
+use Rattle.nb_graph.specs.Drained.{LinkWatch, watch_event}
 use Rattle.nb_graph.proofs.DueLemmas.{Is, Order, entered, due-push}
 use Rattle.nb_graph.proofs.TiedLemmas.{same-false, not-same, linked-open, linked-shut, tied-closed, tied-unplugged, tied-made, tied-freed, tied-plugged}
 use Rattle.nb_graph.proofs.FairLemmas.{Seen, Claim, bump-both, popped, order-noted, noted, enters-fair, on, in-scene}
@@ -46,7 +46,7 @@ module _ {N L : Type 0} (known : Nature N L) (p q : Port) where
 
   module _ (now : ℕ) (apart : p.obj.0 ≡ q.obj.0 → ⊥) (slots : q.slot ≤ 3) where
     -- p is closed by itself: all that it sent was taken
-    claims : (s : Scene) (w : Watch) (a b : Account) (r : Port) (c : Cause) (gs : List (Stage N L)) → Covers q a b → Seen p q w s a b (Closes r c ∷ gs) → Claim p a b w (Closed r c)
+    claims : (s : Scene) (w : LinkWatch) (a b : Account) (r : Port) (c : Cause) (gs : List (Stage N L)) → Covers q a b → Seen p q w s a b (Closes r c ∷ gs) → Claim p a b w (Closed r c)
     claims s w a b r c gs covers seen e z le =
         let f = seen z in
         let i : Is p r = (ap (λ y. y.obj.0) e.0, ap (λ y. y.slot) e.0) in
@@ -56,7 +56,7 @@ module _ {N L : Type 0} (known : Nature N L) (p q : Port) where
         all-taken a.sent b.taken cover.0 f.missing cover.1 f.short none
 
     -- an event is written
-    pub written : (s : Scene) (w : Watch) (a b : Account) (gs : List (Stage N L)) {g : Stage N L} {e : GraphEvent} {more : List (Stage N L)} → Becomes known now s g (writes e) more → Covers q a b → Seen p q w s a b (g ∷ gs)
+    pub written : (s : Scene) (w : LinkWatch) (a b : Account) (gs : List (Stage N L)) {g : Stage N L} {e : GraphEvent} {more : List (Stage N L)} → Becomes known now s g (writes e) more → Covers q a b → Seen p q w s a b (g ∷ gs)
         → Claim p a b w e × Seen p q (watch_event p q w e) (after_noted e s) (after_note p a e) (after_note q b e) (more ++ gs)
     written s w a b gs (closes_alone r c o) covers seen = (
       claims s w a b r c gs covers seen,

@@ -48,18 +48,18 @@ running_after x n (Freed y) = n
 
 -- A link in the middle of a call, by the events alone: how many entries of its first end's object run, and whether one of
 -- its ends was closed.
-pub record Watch : Type 0 where
+pub record LinkWatch : Type 0 where
   pub running : ℕ
   pub ended : Bool
 
 -- where a call begins
-abbrev pub watched : Watch
+abbrev pub watched : LinkWatch
 watched = record { running = 0; ended = false }
 
-abbrev pub watch_event : Port → Port → Watch → GraphEvent → Watch
+abbrev pub watch_event : Port → Port → LinkWatch → GraphEvent → LinkWatch
 watch_event p q w e = record { running = running_after p.obj.0 w.running e; ended = w.ended || (leaves_closed p e || leaves_closed q e) }
 
-abbrev pub watch : Port → Port → Watch → List GraphEvent → Watch
+abbrev pub watch : Port → Port → LinkWatch → List GraphEvent → LinkWatch
 watch p q w [] = w
 watch p q w (e ∷ es) = watch p q (watch_event p q w e) es
 
@@ -71,7 +71,7 @@ watch p q w (e ∷ es) = watch p q (watch_event p q w e) es
 -- * with the cause of a make that found no place: it closes all ports of its object before the entry's messages leave.
 -- An entry that runs out of memory sends nothing, and closes its object's ports like any other. What p sends after it is
 -- closed is dropped.
-abbrev pub IsDrained : {N L : Type 0} → Nature N L → Port → Port → Account → Account → Watch → List (Deed N L) → Type 0
+abbrev pub IsDrained : {N L : Type 0} → Nature N L → Port → Port → Account → Account → LinkWatch → List (Deed N L) → Type 0
 IsDrained known p q a b w [] = Unit {0}
 IsDrained known p q a b w (writes e ∷ ds) =
     (IsClosedBy p e → w.ended ≡ false → w.running ≤ 1 → a.sent ≡ b.taken)

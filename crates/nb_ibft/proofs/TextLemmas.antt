@@ -3,7 +3,7 @@ use Rattle.std.proofs.Common.{◌≡◌, ℕ, ◌+◌, ◌<◌, ◌≤◌, List,
 use Rattle.std.proofs.lemmas.List.{length-append}
 use Rattle.nb_wire.proofs.BytesLaws.{append_one}
 use Rattle.nb_ibft.specs.Tables.{kept, joined}
-use Rattle.nb_ibft.specs.Infos.{IsShort}
+use Rattle.nb_ibft.specs.Infos.{IsShortText}
 use Rattle.nb_ibft.specs.Places.{AllStandAt}
 
 -- a text of some bytes, and what follows it, is the text, a zero and that
@@ -26,7 +26,7 @@ all_stand bytes before after (t ∷ ts) at e l =
     )
 
 -- a short text takes at most 1,089 bytes
-pub kept_short : (text : List ℕ) → IsShort text → length (kept text) ≤ 1089
+pub kept_short : (text : List ℕ) → IsShortText text → length (kept text) ≤ 1089
 kept_short [] h = omega arith
 kept_short (x ∷ xs) h = omega (arith, length-append xs (0 ∷ []), h)
 

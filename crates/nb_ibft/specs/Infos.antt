@@ -40,16 +40,16 @@ abbrev pub info_texts : Info → List (List ℕ)
 info_texts i = i.initiator ∷ i.host ∷ targets_texts i.targets
 
 -- at most 1,088 bytes
-abbrev pub IsShort : List ℕ → Type 0
-IsShort text = length text ≤ 1088
+abbrev pub IsShortText : List ℕ → Type 0
+IsShortText text = length text ≤ 1088
 
 -- each text has at most 1,088 bytes
-abbrev pub AreShort : List (List ℕ) → Type 0
-AreShort [] = Unit {0}
-AreShort (text ∷ texts) = IsShort text × AreShort texts
+abbrev pub AreShortTexts : List (List ℕ) → Type 0
+AreShortTexts [] = Unit {0}
+AreShortTexts (text ∷ texts) = IsShortText text × AreShortTexts texts
 
 abbrev pub HasShortTexts : Info → Type 0
-HasShortTexts i = AreShort (info_texts i)
+HasShortTexts i = AreShortTexts (info_texts i)
 
 -- the numbers of a disk fit their fields
 pub record IsTarget (t : Target) : Type 0 where

@@ -6,19 +6,19 @@ use Rattle.nb_ibft.specs.Tables.{ibft}
 use Rattle.nb_ibft.specs.Views.{lent_info}
 
 -- the bytes are a table of this
-pub record Says (bytes : List ℕ) (i : Info) : Type 0 where
+pub record SpellsInfo (bytes : List ℕ) (i : Info) : Type 0 where
   pub valid : IsInfo i
   pub spelled : bytes ≡ ibft i
 
 -- the bytes are a table
-abbrev pub IsTable : List ℕ → Type 0
-IsTable bytes = (i : Info) × Says bytes i
+abbrev pub IsIbft : List ℕ → Type 0
+IsIbft bytes = (i : Info) × SpellsInfo bytes i
 
 -- this is what the table says, and it says nothing else
 pub record GivesInfo (bytes : List ℕ) (i : Info) : Type 0 where
-  pub says : Says bytes i
-  pub only : (j : Info) → Says bytes j → i ≡ j
+  pub says : SpellsInfo bytes i
+  pub only : (j : Info) → SpellsInfo bytes j → i ≡ j
 
 -- the same where the texts are lent
-abbrev pub IsReading : List ℕ → LentInfo → Type 0
-IsReading bytes lent = GivesInfo bytes (lent_info lent)
+abbrev pub GivesLentInfo : List ℕ → LentInfo → Type 0
+GivesLentInfo bytes lent = GivesInfo bytes (lent_info lent)

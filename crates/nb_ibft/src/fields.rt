@@ -2,9 +2,9 @@
 
 ghost use Rattle.std.specs.Prelude.{◌≡◌, ℕ, ◌+◌, ◌*◌, ◌≤◌, ◌<◌, ◌^◌, ◌++◌, ◌∷◌, List, [], length, slice_index, IfSome, IsSomeAnd};
 ghost use Rattle.std.specs.Int.{w16, w32, from_be_bytes, from_le_bytes};
-ghost use Rattle.nb_ibft.specs.Infos.{Info, Target, IsInfo, IsTarget, AreTargets, IsShort, AreShort, target_texts, targets_texts};
+ghost use Rattle.nb_ibft.specs.Infos.{Info, Target, IsInfo, IsTarget, AreTargets, IsShortText, AreShortTexts, target_texts, targets_texts};
 ghost use Rattle.nb_ibft.specs.Tables.{ibft, reference, control_text, portal_text, login_text, targets_text};
-ghost use Rattle.nb_ibft.specs.Places.{StandsAt, AllStandAt, slots};
+ghost use Rattle.nb_ibft.specs.Places.{IsTextKeptAt, AllStandAt, slots};
 ghost use Rattle.nb_ibft.specs.Views.{lent_info, lent_texts, lent_target, lent_targets};
 
 use crate::info::MAX_TEXT;
@@ -58,10 +58,10 @@ impl<'a> LentInfo<'a> {
 fn targets_of<'a>(bytes: &'a [u8], control: &'a [u8], parts: &'a [u8]) -> Option<LentTargets<'a>>
     requires { length control.now ≡ 32 }
     ensures valid { IfSome result (λ ts. AreTargets (lent_targets ts)) }
-    ensures short { IfSome result (λ ts. AreShort (targets_texts (lent_targets ts))) }
+    ensures short { IfSome result (λ ts. AreShortTexts (targets_texts (lent_targets ts))) }
     ensures few { IfSome result (λ ts. length (lent_targets ts) ≤ 2) }
     ensures complete { (targets : List Target) (at : ℕ) (after : List ℕ) → AreTargets targets → length targets ≤ 2
-        → AreShort (targets_texts targets) → control.now ≡ control_text targets
+        → AreShortTexts (targets_texts targets) → control.now ≡ control_text targets
         → AllStandAt bytes.now at (targets_texts targets) → at ≤ 2578
         → parts.now ≡ targets_text 0 at targets ++ after → IsSomeAnd result (λ ts. lent_targets ts ≡ targets) }
 {
@@ -81,8 +81,8 @@ impl<'a> LentTarget<'a> {
     /// A disk whose part begins here, and what stands after it.
     fn read(bytes: &'a [u8], parts: &'a [u8]) -> Option<(LentTarget<'a>, &'a [u8])>
         ensures valid { IfSome result (λ r. IsTarget (lent_target r.0)) }
-        ensures short { IfSome result (λ r. AreShort (target_texts (lent_target r.0))) }
-        ensures complete { (index at : ℕ) (t : Target) (after : List ℕ) → IsTarget t → AreShort (target_texts t)
+        ensures short { IfSome result (λ r. AreShortTexts (target_texts (lent_target r.0))) }
+        ensures complete { (index at : ℕ) (t : Target) (after : List ℕ) → IsTarget t → AreShortTexts (target_texts t)
             → AllStandAt bytes.now at (target_texts t) → at ≤ 8023
             → parts.now ≡ portal_text index t ++ (t.lun ++ (login_text at t ++ after))
             → IsSomeAnd result (λ r. (lent_target r.0 ≡ t) × (r.1.now ≡ after)) }
@@ -105,8 +105,8 @@ impl<'a> LentTarget<'a> {
 /// The texts of a disk, of whose part these are the last 32 bytes.
 fn texts_at<'a>(bytes: &'a [u8], login: &[u8]) -> Option<LentTexts<'a>>
     requires { length login.now ≡ 32 }
-    ensures short { IfSome result (λ x. AreShort (lent_texts x)) }
-    ensures complete { (at : ℕ) (t : Target) → AreShort (target_texts t) → AllStandAt bytes.now at (target_texts t)
+    ensures short { IfSome result (λ x. AreShortTexts (lent_texts x)) }
+    ensures complete { (at : ℕ) (t : Target) → AreShortTexts (target_texts t) → AllStandAt bytes.now at (target_texts t)
         → at ≤ 8023 → login.now ≡ login_text at t → IsSomeAnd result (λ x. lent_texts x ≡ target_texts t) }
 {
     let name = text_at(bytes, login, 2)?;
@@ -138,8 +138,8 @@ fn cut(bytes: &[u8], n: usize) -> Option<(&[u8], &[u8])>
 /// The text whose length and place stand here, if it is short and there.
 fn text_at<'a>(bytes: &'a [u8], part: &[u8], at: usize) -> Option<&'a [u8]>
     requires { at + 4 ≤ length part.now }
-    ensures short { IfSome result (λ t. IsShort t.now) }
-    ensures complete { (place : ℕ) (text : List ℕ) → IsShort text → StandsAt bytes.now place text → place < 2 ^ 16
+    ensures short { IfSome result (λ t. IsShortText t.now) }
+    ensures complete { (place : ℕ) (text : List ℕ) → IsShortText text → IsTextKeptAt bytes.now place text → place < 2 ^ 16
         → slots part.now at ≡ reference place text → IsSomeAnd result (λ t. t.now ≡ text) }
 {
     let len = usize::from(number_at(part, at));

@@ -1,7 +1,7 @@
 //! The parts of a table, before its texts.
 
 ghost use Rattle.std.specs.Prelude.{◌≡◌, ℕ, ◌+◌, ◌*◌, ◌≤◌, ◌<◌, ◌^◌, ◌++◌, [], length};
-ghost use Rattle.nb_ibft.specs.Infos.{HasShortTexts, IsShort, AreShort, target_texts, targets_texts};
+ghost use Rattle.nb_ibft.specs.Infos.{HasShortTexts, IsShortText, AreShortTexts, target_texts, targets_texts};
 ghost use Rattle.nb_ibft.specs.Tables.{kept, joined, reference, references, address_text, mark, place, target_places, header_text, control_text, initiator_text, own_text, servers_text, addresses_text, host_text, portal_text, login_text, targets_text, texts_place, host_place, disks_place, parts_text, total_length};
 ghost use Rattle.nb_ibft.specs.Views.{lent_info, lent_target, lent_targets};
 
@@ -47,7 +47,7 @@ fn target_places(targets: &LentTargets<'_>) -> [u8; 6]
 
 /// Puts the initiator's part, whose name stands at this place.
 fn put_initiator(at: u16, name: &[u8], to: &mut ArrayVec<u8, 400>)
-    requires short { IsShort name.now }
+    requires short { IsShortText name.now }
     requires room { length to.old.items ≡ 80 }
     ensures value { to.new.items ≡ to.old.items ++ initiator_text at name.now }
     ensures size { length to.new.items ≡ 160 }
@@ -149,7 +149,7 @@ impl LentInfo<'_> {
 
 /// Puts the rest of the interface's part, whose host name stands at this place.
 fn put_host(at: u16, host: &[u8], to: &mut ArrayVec<u8, 400>)
-    requires short { IsShort host.now }
+    requires short { IsShortText host.now }
     requires room { length to.old.items ≡ 256 }
     ensures value { to.new.items ≡ to.old.items ++ host_text at host.now }
     ensures size { length to.new.items ≡ 272 }
@@ -162,7 +162,7 @@ fn put_host(at: u16, host: &[u8], to: &mut ArrayVec<u8, 400>)
 impl LentTargets<'_> {
     /// Puts the disks' parts, whose texts stand from this place on.
     fn put_parts(&self, at: u16, to: &mut ArrayVec<u8, 400>)
-        requires short { AreShort (targets_texts (lent_targets self.now)) }
+        requires short { AreShortTexts (targets_texts (lent_targets self.now)) }
         requires place { at ≤ 2578 }
         requires room { length to.old.items ≡ 272 }
         ensures { to.new.items ≡ to.old.items ++ targets_text 0 at (lent_targets self.now) }
@@ -179,7 +179,7 @@ impl LentTargets<'_> {
 
     /// How many bytes the disks' texts take.
     fn texts_len(&self) -> u16
-        requires { AreShort (targets_texts (lent_targets self.now)) }
+        requires { AreShortTexts (targets_texts (lent_targets self.now)) }
         ensures { result ≡ length (joined (targets_texts (lent_targets self.now))) }
     {
         match self {
@@ -193,7 +193,7 @@ impl LentTargets<'_> {
 impl LentTarget<'_> {
     /// Puts a disk's part, whose texts stand from this place on.
     fn put_part(&self, index: u8, at: u16, to: &mut ArrayVec<u8, 400>)
-        requires short { AreShort (target_texts (lent_target self.now)) }
+        requires short { AreShortTexts (target_texts (lent_target self.now)) }
         requires place { at ≤ 8023 }
         requires room { length to.old.items ≤ 336 }
         ensures value { to.new.items ≡ to.old.items ++ (portal_text index (lent_target self.now)
@@ -218,7 +218,7 @@ impl LentTarget<'_> {
 
     /// Puts how the client logs in, with texts from this place on.
     fn put_login(&self, at: u16, to: &mut ArrayVec<u8, 400>)
-        requires short { AreShort (target_texts (lent_target self.now)) }
+        requires short { AreShortTexts (target_texts (lent_target self.now)) }
         requires place { at ≤ 8023 }
         requires room { length to.old.items ≤ 368 }
         ensures value { to.new.items ≡ to.old.items ++ login_text at (lent_target self.now) }
@@ -231,7 +231,7 @@ impl LentTarget<'_> {
 
     /// Puts where a disk's texts stand, the first at this place.
     fn put_references(&self, at: u16, to: &mut ArrayVec<u8, 400>)
-        requires short { AreShort (target_texts (lent_target self.now)) }
+        requires short { AreShortTexts (target_texts (lent_target self.now)) }
         requires place { at ≤ 8023 }
         requires room { length to.old.items ≤ 370 }
         ensures value { to.new.items ≡ to.old.items ++ references at (target_texts (lent_target self.now)) }
@@ -250,7 +250,7 @@ impl LentTarget<'_> {
 
     /// How many bytes a disk's texts take.
     fn texts_len(&self) -> u16
-        requires { AreShort (target_texts (lent_target self.now)) }
+        requires { AreShortTexts (target_texts (lent_target self.now)) }
         ensures value { result ≡ length (joined (target_texts (lent_target self.now))) }
         ensures bound { result ≤ 5445 }
     {
@@ -263,7 +263,7 @@ impl LentTarget<'_> {
 
 /// Puts where a text stands: its length and its place, or zeros where it is empty.
 fn put_reference(at: u16, text: &[u8], to: &mut ArrayVec<u8, 400>)
-    requires short { IsShort text.now }
+    requires short { IsShortText text.now }
     requires room { length to.old.items ≤ 396 }
     ensures value { to.new.items ≡ to.old.items ++ reference at text.now }
     ensures size { length to.new.items ≡ length to.old.items + 4 }

@@ -3,7 +3,7 @@
 ghost use Rattle.std.specs.Prelude.{◌≡◌, ℕ, ◌+◌, ◌%◌, ◌-◌, ◌++◌, List, [], length, sum, IfOk, IfSome, IsSome, IsTrue, ◌↔◌};
 ghost use Rattle.nb_ibft.specs.Infos.{Info, IsInfo, HasShortTexts};
 ghost use Rattle.nb_ibft.specs.Tables.{ibft, texts_text, check_of};
-ghost use Rattle.nb_ibft.specs.Readings.{IsTable, GivesInfo};
+ghost use Rattle.nb_ibft.specs.Readings.{IsIbft, GivesInfo};
 ghost use Rattle.nb_ibft.specs.Views.{boot_info, lent_info};
 
 use crate::info::BootInfo;
@@ -26,11 +26,11 @@ impl<'a> Model for TableView<'a> {
 
     ghost Value = { List ℕ };
 
-    ghost use Rattle.nb_ibft.specs.Readings.{IsReading};
+    ghost use Rattle.nb_ibft.specs.Readings.{GivesLentInfo};
 
     ghost view = { λ t. t.bytes.now };
 
-    ghost invariant = { λ t. IsReading t.bytes.now t.lent };
+    ghost invariant = { λ t. GivesLentInfo t.bytes.now t.lent };
 }
 
 impl TableView<'_> {
@@ -65,7 +65,7 @@ pub fn table(alloc: Global, info: &BootInfo) -> Result<Text, NoMemory>
 #[tactic(auto, using(crate::proofs::SumLemmas::sums_to_zero))]
 pub fn read_table(bytes: &[u8]) -> Option<TableView<'_>>
     ensures same { IfSome result (λ t. t ≡ bytes.now) }
-    ensures exact { IsSome result ↔ IsTable bytes.now }
+    ensures exact { IsSome result ↔ IsIbft bytes.now }
     ensures sum { IfSome result (λ _. sum bytes.now % 256 ≡ 0) }
 {
     let lent = LentInfo::read(bytes)?;

@@ -10,7 +10,7 @@ use Rattle.std.proofs.lemmas.Option.{slice_get_past, slice_get_read}
 use Rattle.std.proofs.Math.Seq.{take-append-add}
 use Rattle.std.proofs.lemmas.List.Elements.{All-head, All-tail, All-take}
 use Rattle.nb_image.specs.declared.pages.Pages.{Pages}
-use Rattle.nb_image.specs.Pages.{IsFull, all_bytes, IsPaged}
+use Rattle.nb_image.specs.Pages.{IsFullPage, all_bytes, IsPaged}
 
 -- a page more at the end
 pub concat-append : (xs ys : List (List ℕ)) → concat (xs ++ ys) ≡ concat xs ++ concat ys
@@ -21,21 +21,21 @@ pub concat_push : (pages : List (List ℕ)) (page : List ℕ) → concat (pages 
 concat_push pages page = concat-append pages (page ∷ []) ∙ ap (λ bytes. concat pages ++ bytes) (append-nil page)
 
 -- full pages have 65,536 bytes each
-pub length_full : (pages : List (List ℕ)) → All IsFull pages → length (concat pages) ≡ 65536 * length pages
+pub length_full : (pages : List (List ℕ)) → All IsFullPage pages → length (concat pages) ≡ 65536 * length pages
 length_full [] full = refl
 length_full (page ∷ pages) full =
-    let first : length page ≡ 65536 = All-head IsFull page pages full in
-    let rest = length_full pages (All-tail IsFull page pages full) in
+    let first : length page ≡ 65536 = All-head IsFullPage page pages full in
+    let rest = length_full pages (All-tail IsFullPage page pages full) in
     omega (arith, length-append page (concat pages))
 
-pub length_pages : (pages : List (List ℕ)) (last : List ℕ) → All IsFull pages → length (concat pages ++ last) ≡ 65536 * length pages + length last
+pub length_pages : (pages : List (List ℕ)) (last : List ℕ) → All IsFullPage pages → length (concat pages ++ last) ≡ 65536 * length pages + length last
 length_pages pages last full = omega (arith, length-append (concat pages) last, length_full pages full)
 
-pub length_all : (p : Pages) → All IsFull p.full.items → length (all_bytes p) ≡ 65536 * length p.full.items + length p.last.items
+pub length_all : (p : Pages) → All IsFullPage p.full.items → length (all_bytes p) ≡ 65536 * length p.full.items + length p.last.items
 length_all p full = length_pages p.full.items p.last.items full
 
 -- the bytes from a full page's place on begin with it
-pub page_is : (pages : List (List ℕ)) (last : List ℕ) (p : ℕ) → All IsFull pages → p < length pages → take 65536 (drop (65536 * p) (concat pages ++ last)) ≡ get_or pages p []
+pub page_is : (pages : List (List ℕ)) (last : List ℕ) (p : ℕ) → All IsFullPage pages → p < length pages → take 65536 (drop (65536 * p) (concat pages ++ last)) ≡ get_or pages p []
 page_is pages last p full within =
     let page = get_or pages p [] in
     let before = take p pages in
@@ -46,14 +46,14 @@ page_is pages last p full within =
     ∙ ap (λ bytes. bytes ++ last) (concat-append before (page ∷ drop (p + 1) pages))
     ∙ append_assoc (concat before) (page ++ behind) last
     ∙ ap (λ bytes. concat before ++ bytes) (append_assoc page behind last) in
-    let at : length (concat before) ≡ 65536 * p = omega (arith, length_full before (All-take IsFull p pages full), length-take-le p pages (omega arith)) in
+    let at : length (concat before) ≡ 65536 * p = omega (arith, length_full before (All-take IsFullPage p pages full), length-take-le p pages (omega arith)) in
     let len : length page ≡ 65536 = full p [] within in
     ap (λ bytes. take 65536 (drop (65536 * p) bytes)) whole
     ∙ ap (take 65536) (drop_at (concat before) (page ++ (behind ++ last)) (65536 * p) at)
     ∙ take_at page (behind ++ last) 65536 len
 
 -- and after the full pages comes the last one
-pub last_is : (pages : List (List ℕ)) (last : List ℕ) (p : ℕ) → All IsFull pages → p ≡ length pages → length last ≤ 65536 → take 65536 (drop (65536 * p) (concat pages ++ last)) ≡ last
+pub last_is : (pages : List (List ℕ)) (last : List ℕ) (p : ℕ) → All IsFullPage pages → p ≡ length pages → length last ≤ 65536 → take 65536 (drop (65536 * p) (concat pages ++ last)) ≡ last
 last_is pages last p full at small =
     let len : length (concat pages) ≡ 65536 * p = omega (arith, length_full pages full, at) in
     ap (take 65536) (drop_at (concat pages) last (65536 * p) len) ∙ take_all 65536 last small

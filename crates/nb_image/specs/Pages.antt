@@ -7,11 +7,11 @@ use Rattle.nb_image.specs.declared.pages.Pages.{Pages}
 abbrev pub all_bytes : Pages → List ℕ
 all_bytes p = concat p.full.items ++ p.last.items
 
-abbrev pub IsFull : List ℕ → Type 0
-IsFull page = length page ≡ 65536
+abbrev pub IsFullPage : List ℕ → Type 0
+IsFullPage page = length page ≡ 65536
 
 -- all pages but the last are full, and there are at most 4,096: at most 268,435,456 bytes
 pub record IsPaged (p : Pages) : Type 0 where
-  pub full : All IsFull p.full.items
+  pub full : All IsFullPage p.full.items
   pub last : length p.last.items ≤ 65536
   pub few : length p.full.items ≤ 4095

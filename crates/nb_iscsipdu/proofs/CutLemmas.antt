@@ -5,7 +5,7 @@ use Rattle.std.proofs.lemmas.List.{take_at, take-append-drop, length-append, len
 use Rattle.std.proofs.lemmas.List.Sums.{fold-append}
 use Rattle.nb_iscsipdu.specs.Heads.{lengths, padded_len}
 use Rattle.nb_iscsipdu.specs.PduTexts.{PduParts, IsPduText}
-use Rattle.nb_iscsipdu.specs.Streams.{is_refused, pdu_len, is_whole, pdu_of, Cut, none_cut, with_rest, after_byte, cut, IsGathered, SpellsPdus, IsLeft, IsCutInto, StaysOpen}
+use Rattle.nb_iscsipdu.specs.Streams.{is_refused, pdu_len, is_whole, pdu_of, Cut, none_cut, with_rest, after_byte, cut, IsGatheredPdu, SpellsPdus, IsUnfinished, IsCutInto, StaysOpen}
 use Rattle.nb_iscsipdu.proofs.KeyLemmas.{either_way}
 use Rattle.nb_iscsipdu.proofs.PduLemmas.{head_one, rest_one}
 use Rattle.nb_iscsipdu.proofs.StreamLemmas.{lengths-kept, open-rest, open-short, open-joined, gathered-short, gathered-rest, whole-reads, reached, fold-reached}
@@ -32,7 +32,7 @@ allowed-small bytes long allowed =
     let small : ltb 8192 (lengths bytes) ≡ false = sym (rw eight refl) ∙ allowed in
     ltb-false 8192 (lengths bytes) small
 
-left-shorter : (bytes : List ℕ) → 8 ≤ length bytes → lengths bytes ≤ 8192 → IsLeft bytes → length bytes < pdu_len bytes
+left-shorter : (bytes : List ℕ) → 8 ≤ length bytes → lengths bytes ≤ 8192 → IsUnfinished bytes → length bytes < pdu_len bytes
 left-shorter bytes long small (inl short) = absurd (omega arith)
 left-shorter bytes long small (inr (inl large)) = absurd (omega arith)
 left-shorter bytes long small (inr (inr less)) = less
@@ -45,7 +45,7 @@ spells-added text more (q ∷ ps) p (first, rest, is, head, tail) last =
     (first, rest ++ more, ap (λ (x : List ℕ). x ++ more) is ∙ append_assoc first rest more, head, spells-added rest more ps p tail last)
 
 -- a byte more of what is gathered
-gathered-more : (bytes : List ℕ) (byte : ℕ) → IsGathered bytes → is_refused bytes ≡ false → is_whole bytes ≡ false → IsGathered (bytes ++ byte ∷ [])
+gathered-more : (bytes : List ℕ) (byte : ℕ) → IsGatheredPdu bytes → is_refused bytes ≡ false → is_whole bytes ≡ false → IsGatheredPdu (bytes ++ byte ∷ [])
 gathered-more bytes byte gathered allowed unended =
     let len : length (bytes ++ byte ∷ []) ≡ length bytes + 1 = length-append bytes (byte ∷ []) in
     elim (cases_lt (length bytes) 8) [
@@ -56,7 +56,7 @@ gathered-more bytes byte gathered allowed unended =
           gathered-rest bytes (bytes ++ byte ∷ []) (byte ∷ []) refl long allowed (omega (arith, within, other, len))
     ]
 
-left-open : (bytes : List ℕ) → IsGathered bytes → is_whole bytes ≡ false → IsLeft bytes
+left-open : (bytes : List ℕ) → IsGatheredPdu bytes → is_whole bytes ≡ false → IsUnfinished bytes
 left-open bytes gathered unended =
     either_way (is_refused bytes)
     (λ on. inr (inl (refused-long bytes on).1))
@@ -72,7 +72,7 @@ left-open bytes gathered unended =
 abbrev Goes : Cut → List ℕ → List ℕ → Type 0
 Goes c before stream = IsCutInto (before ++ (c.rest ++ stream)) (fold after_byte c stream).pdus
 
-cut-goes : (c : Cut) (before stream : List ℕ) → SpellsPdus before c.pdus → IsGathered c.rest → is_whole c.rest ≡ false → Goes c before stream
+cut-goes : (c : Cut) (before stream : List ℕ) → SpellsPdus before c.pdus → IsGatheredPdu c.rest → is_whole c.rest ≡ false → Goes c before stream
 cut-goes c before [] spells gathered unended = record {
   spelled = before;
   left = c.rest;
@@ -161,7 +161,7 @@ fold-spelled c text (p ∷ ps) empty (first, rest, is, head, tail) =
     ∙ ap (λ (x : List PduParts). let r : Cut = record { pdus = x; rest = [] } in r) (append_assoc c.pdus (p ∷ []) ps)
 
 -- what is left gives no PDU
-left-none : (c : Cut) (left : List ℕ) → c.rest ≡ [] → IsLeft left → (fold after_byte c left).pdus ≡ c.pdus
+left-none : (c : Cut) (left : List ℕ) → c.rest ≡ [] → IsUnfinished left → (fold after_byte c left).pdus ≡ c.pdus
 left-none c left empty is_left =
     let unended : is_whole c.rest ≡ false = ap is_whole empty ∙ ne_eqb 0 (pdu_len []) (λ e. absurd (omega arith)) in
     let reaches : (part : List ℕ) → StaysOpen [] part → fold after_byte c part ≡ reached c part = λ part stays.

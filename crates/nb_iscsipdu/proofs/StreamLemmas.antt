@@ -8,7 +8,7 @@ use Rattle.nb_iscsipdu.specs.declared.pdus.PduState.TheVariants.{More, One, Brok
 use Rattle.nb_iscsipdu.specs.Heads.{word_at, lengths, padded_len}
 use Rattle.nb_iscsipdu.specs.declared.pdus.Known.TheVariants.{Len}
 use Rattle.nb_iscsipdu.specs.PduTexts.{PduParts, IsPduText}
-use Rattle.nb_iscsipdu.specs.Streams.{is_refused, pdu_len, is_whole, pdu_of, Cut, none_cut, with_rest, after_byte, cut, open_of, whole_in, state_of, known_of, IsKnown, IsGathered, StaysOpen, TakesOn}
+use Rattle.nb_iscsipdu.specs.Streams.{is_refused, pdu_len, is_whole, pdu_of, Cut, none_cut, with_rest, after_byte, cut, open_of, whole_in, state_of, known_of, IsKnown, IsGatheredPdu, StaysOpen, TakesOn}
 use Rattle.nb_iscsipdu.proofs.PduLemmas.{pdu_read}
 use Rattle.nb_iscsipdu.proofs.KeyLemmas.{either_way}
 
@@ -117,13 +117,13 @@ known-by bytes word long is = either_way (ltb 8192 word)
     rw off (and_right (leb 8 (length bytes)) (ltb 8192 (lengths bytes)) (ap (λ (n : ℕ). ltb 8192 n) (sym is) ∙ off), long, ap (λ (n : ℕ). 48 + padded_len n) is, omega arith))
 
 -- what is gathered of a PDU stays so
-pub gathered-short : (bytes : List ℕ) → length bytes ≤ 8 → IsGathered bytes
+pub gathered-short : (bytes : List ℕ) → length bytes ≤ 8 → IsGatheredPdu bytes
 gathered-short bytes short = record {
   refused = λ on. let long = leb-true 8 (length bytes) (and_parts (leb 8 (length bytes)) (ltb 8192 (lengths bytes)) on).0 in omega arith;
   short = λ off long. omega arith;
 }
 
-pub gathered-rest : (old new : List ℕ) (added : List ℕ) → new ≡ old ++ added → 8 ≤ length old → is_refused old ≡ false → length new ≤ pdu_len old → IsGathered new
+pub gathered-rest : (old new : List ℕ) (added : List ℕ) → new ≡ old ++ added → 8 ≤ length old → is_refused old ≡ false → length new ≤ pdu_len old → IsGatheredPdu new
 gathered-rest old new added is long allowed within =
     let same : is_refused new ≡ false = ap is_refused is ∙ refused-kept old added long ∙ allowed in
     let len : pdu_len new ≡ pdu_len old = ap pdu_len is ∙ pdu_len-kept old added long in
@@ -179,13 +179,13 @@ takes-on old dropped new taken drops is stays stream stands =
     (ap (λ (x : Cut). x.rest) all, ap (λ (x : Cut). x.pdus) all)
 
 -- a refused one is no PDU
-pub refused-not_whole : (bytes : List ℕ) → IsGathered bytes → is_refused bytes ≡ true → is_whole bytes ≡ false
+pub refused-not_whole : (bytes : List ℕ) → IsGatheredPdu bytes → is_refused bytes ≡ true → is_whole bytes ≡ false
 refused-not_whole bytes gathered on =
     let eight = gathered.refused on in
     ne_eqb (length bytes) (pdu_len bytes) (λ e. absurd (omega arith))
 
 -- once there is no PDU, nothing is taken
-pub feed-stays : (old dropped new both : List ℕ) (n : ℕ) → IsGathered old → dropped ≡ open_of old → new ≡ dropped ++ take n both → n ≤ length both → StaysOpen dropped (take n both) → is_refused old ≡ true → (n ≡ 0) × (new ≡ old)
+pub feed-stays : (old dropped new both : List ℕ) (n : ℕ) → IsGatheredPdu old → dropped ≡ open_of old → new ≡ dropped ++ take n both → n ≤ length both → StaysOpen dropped (take n both) → is_refused old ≡ true → (n ≡ 0) × (new ≡ old)
 feed-stays old dropped new both n gathered drops is fits stays on =
     let same : dropped ≡ old = drops ∙ rw (refused-not_whole old gathered on) refl in
     let none : n ≡ 0 = elim (cases_lt 0 n) [
@@ -235,13 +235,13 @@ least-both old mid first second a b most least mid_is one two part later parts s
     open-joined old (take a first) (take b second) one after part later (sym (take-both first second a b most least) ∙ parts) some
 
 -- up to the lengths
-pub gathered-lengths : (old new bytes : List ℕ) (n most : ℕ) → IsGathered old → new ≡ old ++ take n bytes → most ≡ max (length old) 8 → n ≤ most - length old → IsGathered new
+pub gathered-lengths : (old new bytes : List ℕ) (n most : ℕ) → IsGatheredPdu old → new ≡ old ++ take n bytes → most ≡ max (length old) 8 → n ≤ most - length old → IsGatheredPdu new
 gathered-lengths old new bytes n most gathered is most_is few =
     elim (cases_lt 8 (length old)) [
       | inl long ↦
           let none : n ≡ 0 = omega arith in
           let same : old ≡ new = sym (is ∙ ap (λ (k : ℕ). old ++ take k bytes) none ∙ append-nil old) in
-          subst IsGathered same gathered
+          subst IsGatheredPdu same gathered
       | inr short ↦
           let len : length new ≡ length old + length (take n bytes) = ap length is ∙ length-append old (take n bytes) in
           gathered-short new (omega (arith, len, length-take n bytes))
@@ -263,11 +263,11 @@ rest-all old new bytes n len is long len_is some count more =
     ]
 
 -- what is gathered of a PDU whose length is known isn't longer
-pub known-within : (old : List ℕ) → IsGathered old → is_refused old ≡ false → 8 ≤ length old → length old ≤ pdu_len old
+pub known-within : (old : List ℕ) → IsGatheredPdu old → is_refused old ≡ false → 8 ≤ length old → length old ≤ pdu_len old
 known-within old gathered allowed long = gathered.short allowed long
 
 -- bytes that are gathered and whole are the PDU
-pub whole-reads : (bytes : List ℕ) → IsGathered bytes → is_whole bytes ≡ true → IsPduText bytes (pdu_of bytes)
+pub whole-reads : (bytes : List ℕ) → IsGatheredPdu bytes → is_whole bytes ≡ true → IsPduText bytes (pdu_of bytes)
 whole-reads bytes gathered on =
     let len : length bytes ≡ pdu_len bytes = eqb-true (length bytes) (pdu_len bytes) on in
     let allowed : is_refused bytes ≡ false = either_way (is_refused bytes) (λ r. let e : true ≡ false = sym on ∙ refused-not_whole bytes gathered r in absurd cc) (λ off. off) in
@@ -281,11 +281,11 @@ whole-reads bytes gathered on =
 
 -- a step up to the end of a PDU whose length is known
 pub record RestStep (old new bytes : List ℕ) (n : ℕ) : Type 0 where
-  pub gathered : IsGathered new
+  pub gathered : IsGatheredPdu new
   pub all : state_of new ≡ More → n ≡ length bytes
   pub least : StaysOpen old (take n bytes)
 
-pub rest-step : (old new bytes : List ℕ) (n len : ℕ) → IsGathered old → IsKnown (Len len) old → new ≡ old ++ take n bytes → n ≡ min (length bytes) (len - length old) → RestStep old new bytes n
+pub rest-step : (old new bytes : List ℕ) (n len : ℕ) → IsGatheredPdu old → IsKnown (Len len) old → new ≡ old ++ take n bytes → n ≡ min (length bytes) (len - length old) → RestStep old new bytes n
 rest-step old new bytes n len gathered known is count =
     let fits : length old ≤ pdu_len old = gathered.short known.0 known.1 in
     let same : len ≡ pdu_len old = known.2 in

@@ -50,8 +50,8 @@ SpellsPdus text [] = text ≡ []
 SpellsPdus text (p ∷ ps) = (first rest : List ℕ) × (text ≡ first ++ rest) × IsPduText first p × SpellsPdus rest ps
 
 -- bytes that may still become a PDU, or of which the first eight show that they can't
-abbrev pub IsLeft : List ℕ → Type 0
-IsLeft bytes = (length bytes < 8) ⊎ ((8192 < lengths bytes) ⊎ (length bytes < pdu_len bytes))
+abbrev pub IsUnfinished : List ℕ → Type 0
+IsUnfinished bytes = (length bytes < 8) ⊎ ((8192 < lengths bytes) ⊎ (length bytes < pdu_len bytes))
 
 -- a stream is these PDUs and what is left
 pub record IsCutInto (stream : List ℕ) (ps : List PduParts) : Type 0 where
@@ -59,7 +59,7 @@ pub record IsCutInto (stream : List ℕ) (ps : List PduParts) : Type 0 where
   pub left : List ℕ
   pub all : stream ≡ spelled ++ left
   pub spells : SpellsPdus spelled ps
-  pub is_left : IsLeft left
+  pub is_left : IsUnfinished left
 
 -- The reader: what it gathered of the PDU at work, or the PDU that became whole.
 
@@ -74,7 +74,7 @@ abbrev pub whole_pdu : List ℕ → Option PduParts
 whole_pdu bytes = if is_whole bytes then Some (pdu_of bytes) else None
 
 -- what a reader gathers is a PDU or a prefix of one, or ends with the byte that shows that it is none
-pub record IsGathered (bytes : List ℕ) : Type 0 where
+pub record IsGatheredPdu (bytes : List ℕ) : Type 0 where
   pub refused : is_refused bytes ≡ true → length bytes ≡ 8
   pub short : is_refused bytes ≡ false → 8 ≤ length bytes → length bytes ≤ pdu_len bytes
 
@@ -99,8 +99,8 @@ abbrev pub TakesNoMore : List ℕ → List ℕ → Type 0
 TakesNoMore old taken = StaysOpen (open_of old) taken
 
 -- bytes are left over only after a PDU, or where there is none
-abbrev pub TakesAll : List ℕ → List ℕ → ℕ → Type 0
-TakesAll new bytes count = state_of new ≡ More → count ≡ length bytes
+abbrev pub TakesAllOfPdu : List ℕ → List ℕ → ℕ → Type 0
+TakesAllOfPdu new bytes count = state_of new ≡ More → count ≡ length bytes
 
 -- what is known of the length of the PDU that begins with these bytes
 abbrev pub IsKnown : Known → List ℕ → Type 0

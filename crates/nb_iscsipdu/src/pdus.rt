@@ -32,13 +32,13 @@ pub struct Pdus {
 
 impl Model for Pdus {
     ghost use Rattle.std.specs.Prelude.{◌≤◌, ℕ, List, vec_len, vec_capacity};
-    ghost use Rattle.nb_iscsipdu.specs.Streams.{IsGathered};
+    ghost use Rattle.nb_iscsipdu.specs.Streams.{IsGatheredPdu};
 
     ghost Value = { List ℕ };
 
     ghost view = { λ p. p.block.items };
 
-    ghost invariant = { λ p. (8240 ≤ vec_capacity p.block) × IsGathered p.block.items };
+    ghost invariant = { λ p. (8240 ≤ vec_capacity p.block) × IsGatheredPdu p.block.items };
 }
 
 /// How long the PDU is that begins with some bytes.
@@ -55,7 +55,7 @@ enum Known {
 impl Pdus {
     ghost use Rattle.std.specs.Prelude.{[], ℕ, List, IfOk};
     ghost use Rattle.nb_iscsipdu.specs.PduTexts.{pdu_parts};
-    ghost use Rattle.nb_iscsipdu.specs.Streams.{is_refused, is_whole, open_of, whole_pdu, state_of, IsKnown, StaysOpen, StandsForStream, TakesOn, TakesNoMore, TakesAll};
+    ghost use Rattle.nb_iscsipdu.specs.Streams.{is_refused, is_whole, open_of, whole_pdu, state_of, IsKnown, StaysOpen, StandsForStream, TakesOn, TakesNoMore, TakesAllOfPdu};
     ghost use Rattle.nb_iscsipdu.specs.declared.pdus.PduState.TheVariants.{More};
 
     /// A reader at a PDU's first byte. It takes all the memory that it needs.
@@ -79,7 +79,7 @@ impl Pdus {
             → self.new ≡ open_of self.old ++ take result.0 (first.now ++ second.now) }
         // Once there is no PDU, it stays so, and nothing is taken.
         ensures stays { is_refused self.old ≡ true → (result.0 ≡ 0) × (self.new ≡ self.old) }
-        ensures all { TakesAll self.new (first.now ++ second.now) result.0 }
+        ensures all { TakesAllOfPdu self.new (first.now ++ second.now) result.0 }
         ensures least { TakesNoMore self.old (take result.0 (first.now ++ second.now)) }
     {
         let _block = &self.block;
@@ -145,7 +145,7 @@ impl Pdus {
         requires { length first.now + length second.now < 2 ^ 32 }
         ensures within { result ≤ length (first.now ++ second.now) }
         ensures gathers { self.new ≡ self.old ++ take result (first.now ++ second.now) }
-        ensures all { TakesAll self.new (first.now ++ second.now) result }
+        ensures all { TakesAllOfPdu self.new (first.now ++ second.now) result }
         ensures least { StaysOpen self.old (take result (first.now ++ second.now)) }
     {
         let took = self.run(first);
@@ -159,7 +159,7 @@ impl Pdus {
     fn run(&mut self, bytes: &[u8]) -> usize
         ensures within { result ≤ length bytes.now }
         ensures gathers { self.new ≡ self.old ++ take result bytes.now }
-        ensures all { TakesAll self.new bytes.now result }
+        ensures all { TakesAllOfPdu self.new bytes.now result }
         ensures least { StaysOpen self.old (take result bytes.now) }
     {
         let decided = self.take_lengths(bytes);
@@ -182,7 +182,7 @@ impl Pdus {
     fn take_rest(&mut self, bytes: &[u8]) -> usize
         ensures within { result ≤ length bytes.now }
         ensures gathers { self.new ≡ self.old ++ take result bytes.now }
-        ensures all { 8 ≤ length self.old → TakesAll self.new bytes.now result }
+        ensures all { 8 ≤ length self.old → TakesAllOfPdu self.new bytes.now result }
         ensures least { StaysOpen self.old (take result bytes.now) }
     {
         match self.known() {

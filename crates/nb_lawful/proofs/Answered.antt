@@ -24,7 +24,7 @@ use Rattle.nb_laws.specs.Lists.{hardware, openings, made, datagrams_of, came_ok,
 use Rattle.nb_laws.specs.Cores.{lookup_by, looked_at, answers_open}
 use Rattle.nb_laws.specs.CommandsSoFar.{CommandsSoFar, so_far, comes_by, concluded_in, conclusion_so_far, shown_table, shown_query}
 use Rattle.nb_laws.specs.Wanting.{wanted_by}
-use Rattle.nb_laws.specs.Agreement.{AgreesScript, Asks, asks_at_once, echoes_next}
+use Rattle.nb_laws.specs.Agreement.{AgreesScript, AsksQuery, asks_at_once, echoes_next}
 use Rattle.nb_laws.proofs.Tellings.{told}
 use Rattle.nb_laws.proofs.Commands.{script_as, script_told}
 use Rattle.nb_laws.proofs.SoFar.{over_so_far, left_unasked, result_so_far, fetches_nothing}
@@ -53,7 +53,7 @@ settles_goes es outs s inner outer l cause query more p f (none, leads) =
     (subst (λ z. Goes es outs (result (settled_query cause query l s.table).cause ∷ []) z) (sym leads) (found_goes es outs s inner outer l cause query f))
 
 -- a name is looked up for its server by the command's words
-looks_up_at_once : (e : Effect) (query : Query) (errand : Errand) (name : List ℕ) (by : ℕ) → query ≡ for_host errand name by → Asks e query → e ≡ inquires (for_host errand name by)
+looks_up_at_once : (e : Effect) (query : Query) (errand : Errand) (name : List ℕ) (by : ℕ) → query ≡ for_host errand name by → AsksQuery e query → e ≡ inquires (for_host errand name by)
 looks_up_at_once e query errand name by is (asks_at_once asked) = asked ∙ ap inquires is
 looks_up_at_once e query errand name by is (echoes_next other server address asked same) = absurd (let no : for_echo address ≡ for_host errand name by = sym same ∙ is in cc no)
 

@@ -6,7 +6,7 @@ use Rattle.nb_defs.specs.Records.{In, Out}
 use Rattle.nb_image.specs.Images.{ImageList}
 use Rattle.nb_machine.specs.Conclusions.{Conclusion, boots, conclusion}
 use Rattle.nb_machine.specs.Errands.{Onward}
-use Rattle.nb_machine.specs.Findings.{Settled}
+use Rattle.nb_machine.specs.Findings.{Settlement}
 use Rattle.nb_machine.specs.Kinds.{fetched}
 use Rattle.nb_machine.specs.Queries.{Query, for_lease, for_echo, for_host, for_address}
 use Rattle.nb_machine.specs.Running.{Running}
@@ -31,10 +31,10 @@ use Rattle.nb_lawful.proofs.Answered.{ended_so}
 use Rattle.nb_lawful.proofs.Waiting.{Comes, its_time, its_end, comes_so}
 use Rattle.nb_lawful.proofs.Scripted.{AnswersIn, network_steps}
 
-settles_none : (x : Settled) (c : Conclusion) → settles x ≡ concludes c → ⊥
+settles_none : (x : Settlement) (c : Conclusion) → settles x ≡ concludes c → ⊥
 settles_none x c e = absurd (cc)
 
-host_none : (x : Option Onward) (y : Settled) (c : Conclusion) → option_map_or goes_onward x (settles y) ≡ concludes c → ⊥
+host_none : (x : Option Onward) (y : Settlement) (c : Conclusion) → option_map_or goes_onward x (settles y) ≡ concludes c → ⊥
 host_none None y c e = absurd (cc)
 host_none (Some next) y c e = absurd (cc)
 

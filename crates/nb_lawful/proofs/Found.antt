@@ -17,7 +17,7 @@ use Rattle.nb_dhcp.specs.History.{Handed, acknowledgement_in}
 use Rattle.nb_tftp.specs.History.{received_by}
 use Rattle.nb_machine.specs.Effects.{inquires, changed}
 use Rattle.nb_machine.specs.Errands.{Errand, echoes_then}
-use Rattle.nb_machine.specs.Findings.{query_id, lease_change, Settled, settled_by}
+use Rattle.nb_machine.specs.Findings.{query_id, lease_change, Settlement, settled_by}
 use Rattle.nb_machine.specs.Queries.{Query, for_lease, for_echo, for_host, for_address}
 use Rattle.nb_machine.specs.Running.{Running, with_result}
 use Rattle.nb_machine.specs.Lives.{dns, dhcp, kind_number, Live}
@@ -30,7 +30,7 @@ use Rattle.nb_laws.specs.Lists.{Hardware, hardware, openings, opens_file, made, 
 use Rattle.nb_laws.specs.Cores.{lookup_by, asker_by, as_dns, looked_at, handed_over}
 use Rattle.nb_laws.specs.CommandsSoFar.{CommandsSoFar, so_far, comes_by, concluded_in, conclusion_so_far, shown_effect, shown_table, shown_query, query_in, query_change, change_found, found_table, left_table, ComesTo}
 use Rattle.nb_laws.specs.Frames.{IsLastQuery}
-use Rattle.nb_laws.specs.Agreement.{Asks, asks_at_once, echoes_next}
+use Rattle.nb_laws.specs.Agreement.{AsksQuery, asks_at_once, echoes_next}
 use Rattle.nb_laws.proofs.Tellings.{told}
 use Rattle.nb_laws.proofs.Commands.{script_as, script_told}
 use Rattle.nb_laws.proofs.Inquiries.{asks_some, shown_inquiry_keeps}
@@ -84,7 +84,7 @@ found_same es outs s inner outer l cause query table h is =
 
 -- ITS RESULT
 
-abbrev pub settled_query : Cause → Query → Live → TableLists → Settled
+abbrev pub settled_query : Cause → Query → Live → TableLists → Settlement
 settled_query cause query l table = settled_with cause (found_by query l table) table
 
 -- the open that receives an echo is a ping
@@ -109,7 +109,7 @@ found_stands es outs s inner outer l cause query f = by (is_ok_cause cause) refl
     came : is_ok_cause cause ≡ true → came_ok (command_end es) ≡ true
     came e = ap came_ok (ends_with es outs s inner outer l cause f.ended_so) ∙ e
 
-    held : is_ok_cause cause ≡ true → Asks (comes_by l.number (so_far es) f.asks.shown) query → GivesResult es (settled_by s.table (found_by query l s.table)).cause
+    held : is_ok_cause cause ≡ true → AsksQuery (comes_by l.number (so_far es) f.asks.shown) query → GivesResult es (settled_by s.table (found_by query l s.table)).cause
     held e (asks_at_once is) =
         by_found query (f.last e) (came e) (comes query is)
         (ap (λ c. (settled_by s.table c).cause) (sym (found_same es outs s inner outer l cause query s.table f.ended_so f.asks.is_for)) ∙ ap (λ z. (settled_by z (change_found es z query)).cause) (sym f.ended_so.settings.table))
@@ -168,7 +168,7 @@ found_leaves es outs s inner outer l cause query f = by_asked f.asks.asked
     by_query (for_address setting name server) is asked = at_once (asked_plainly l.number (so_far es) f.asks.shown query (subst IsNoFetch (sym is) tt) asked)
     by_query (for_host errand name server) is asked = host_leaves errand name server (asked ∙ ap inquires is) (ap (λ q. found_by q l s.table) is)
 
-    by_asked : Asks (comes_by l.number (so_far es) f.asks.shown) query → left_table es (so_far es).table (so_far es).shown ≡ (settled_query cause query l s.table).table
+    by_asked : AsksQuery (comes_by l.number (so_far es) f.asks.shown) query → left_table es (so_far es).table (so_far es).shown ≡ (settled_query cause query l s.table).table
     by_asked (asks_at_once asked) = by_query query refl asked
     by_asked (echoes_next name server address asked same) = host_leaves echoes_then name server asked (ap (λ q. found_by q l s.table) same)
 

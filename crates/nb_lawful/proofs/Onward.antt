@@ -21,7 +21,7 @@ use Rattle.nb_laws.specs.Lists.{port_offset, Opening, opens_file, made, last_end
 use Rattle.nb_laws.specs.CommandsSoFar.{CommandsSoFar, so_far, shown_table, comes_by, conclusion_so_far, concluded_in}
 use Rattle.nb_laws.specs.Wanting.{wanted_by, wanted_of_host}
 use Rattle.nb_laws.specs.Openings.{onward_fields, open_fields}
-use Rattle.nb_laws.specs.Agreement.{Asks, echoes_next}
+use Rattle.nb_laws.specs.Agreement.{AsksQuery, echoes_next}
 use Rattle.nb_laws.proofs.Tellings.{told}
 use Rattle.nb_laws.proofs.Commands.{script_as, script_told}
 use Rattle.nb_laws.proofs.Settling.{comes_stay, comes_keeps, concludes_same}
@@ -75,7 +75,7 @@ wanted_onward (fetches_then asking) name by address wanted o of is =
     ap (λ server. Some (record { server = server; asking = asking })) (of ∙ ap (λ (x : Wanted). x.server) same) ∙ ap (λ (x : Wanted). Some x) (sym same)
 wanted_onward echoes_then name by address wanted o of is = absurd (let no : fetches_now wanted ≡ echoes_now address = is in cc no)
 
-echo_onward : (e : Effect) (errand : Errand) (name : List ℕ) (by address server : ℕ) → e ≡ inquires (for_host errand name by) → echoes_now server ≡ onward errand address → Asks e (for_echo server)
+echo_onward : (e : Effect) (errand : Errand) (name : List ℕ) (by address server : ℕ) → e ≡ inquires (for_host errand name by) → echoes_now server ≡ onward errand address → AsksQuery e (for_echo server)
 echo_onward e (fetches_then asking) name by address server is next = absurd (let no : echoes_now server ≡ fetches_now (record { server = address; asking = asking }) = next in cc no)
 echo_onward e echoes_then name by address server is next = echoes_next name by server is refl
 

@@ -14,7 +14,7 @@ use Rattle.nb_machine.specs.Findings.{settled_by}
 use Rattle.nb_laws.specs.Events.{Event, starts, hears, waits, stops, puts}
 use Rattle.nb_laws.specs.Lists.{made, came_ok}
 use Rattle.nb_laws.specs.CommandsSoFar.{so_far, ComesTo, change_found, script_code, concluded_by_open, GivesCause}
-use Rattle.nb_laws.specs.Frames.{IsLastQuery, IsLastKind, IsBegun, ScriptStands}
+use Rattle.nb_laws.specs.Frames.{IsLastQuery, IsLastKind, BeginsCommand, ScriptStands}
 use Rattle.nb_lawful.specs.CommandOpens.{CommandOpen, command_open, command_end}
 use Rattle.nb_lawful.specs.OpenPurposes.{OpenStands}
 
@@ -69,7 +69,7 @@ pub record ResultStands (es : List Event) (cause : Cause) : Type 0 where
 -- Each COMMAND, each RESULT and each OPEN has its reason in the records so far; fewer than 4,096 COMMANDs stand in its step before each,
 -- and between two of them one RESULT. No STEP stands but for a record that is used, and DONE nowhere but at the end of an output that is closed.
 abbrev pub CommandsSo : List Event → Event → Type 0
-CommandsSo before (puts (command depth line place expanded words)) = IsBegun before expanded words
+CommandsSo before (puts (command depth line place expanded words)) = BeginsCommand before expanded words
 CommandsSo before (puts (result cause)) = ResultStands before cause
 CommandsSo before (puts (opened number kind server port own target)) = OpenStands before number kind server port own target
 CommandsSo before (puts (done status)) = ⊥

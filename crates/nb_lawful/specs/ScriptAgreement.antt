@@ -24,7 +24,7 @@ use Rattle.nb_laws.specs.HandOff.{HandsOff}
 use Rattle.nb_laws.specs.Wanting.{wanted_by}
 use Rattle.nb_laws.specs.Progress.{NoneOversleeps}
 use Rattle.nb_laws.specs.Silence.{AreSilent}
-use Rattle.nb_laws.specs.Agreement.{AreScripts, AgreesScript, Asks}
+use Rattle.nb_laws.specs.Agreement.{AreScripts, AgreesScript, AsksQuery}
 use Rattle.nb_openlaws.specs.Standings.{live_opening}
 use Rattle.nb_lawful.specs.CommandOpens.{command_open}
 use Rattle.nb_lawful.specs.OpenPurposes.{HasLookedUp}
@@ -66,7 +66,7 @@ IsLiveFor h (for_address setting name by) l = l.kind ≡ dns (query_id h.identit
 pub record AsksIn (h : Hardware) (m : CommandsSoFar) (l : Live) (query : Query) : Type 0 where
   pub shown : ShownWords
   pub said : m.shown ≡ Some shown
-  pub asked : Asks (comes_by l.number m shown) query
+  pub asked : AsksQuery (comes_by l.number m shown) query
   pub is_for : IsLiveFor h query l
 
 -- the command that began last has looked up its server, and asks this of it

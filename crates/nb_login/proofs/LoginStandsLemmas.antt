@@ -12,7 +12,7 @@ use Rattle.nb_login.specs.declared.state.Negotiation.{Negotiation}
 use Rattle.nb_login.specs.declared.state.Next.{Next}
 use Rattle.nb_login.specs.Asking.{step_of}
 use Rattle.nb_login.specs.LoginHistory.{PduCame, LoginEntry, login_entry, last_done, repeats, counted, expected, expected_of, text_put, end_given, login_ending, is_end, login_ended, decided_after, decided_at, IsDecidedSo}
-use Rattle.nb_login.specs.LoginStands.{state_after, state_of, LoginStands, decided_by, ComesTo, next_of, state_by, text_by, end_by, IsFollowed, is_negotiating, IsOver, session_after, session_opened, session_held, after_handing}
+use Rattle.nb_login.specs.LoginStands.{state_after, state_of, LoginStands, decided_by, TakesPdu, next_of, state_by, text_by, end_by, FollowsFrom, is_negotiating, IsDone, session_after, session_opened, session_held, after_handing}
 use Rattle.nb_login.proofs.LoginHistoryLemmas.{last_done-append, repeats-append, expected-append, EachAnswer-append}
 
 -- what a call comes to that takes one answer more
@@ -36,7 +36,7 @@ at_work i h (End reason) n = ⊥
 
 came_on : (i : LoginInfo) (s new : State) (h : List LoginEntry) (m : PduCame) (text : Option (List ℕ)) (acts : Acts) (n : Negotiation)
     → LoginStands i s h → login_ended h ≡ false → decided_at i h m ≡ decided_by n m → n.info ≡ i → n.repeats ≡ repeats h
-    → ComesTo n m (decided_by n m) new text acts → GoesOn i new h m text acts
+    → TakesPdu n m (decided_by n m) new text acts → GoesOn i new h m text acts
 came_on i s new h m text acts n stands open_yet same its count comes =
     let does = decided_at i h m in
     let put : text ≡ text_put n.info (expected_of m) does = comes.put ∙ ap (text_put n.info (expected_of m)) (sym same) in
@@ -54,7 +54,7 @@ came_on i s new h m text acts n stands open_yet same its count comes =
 
 went_on : {E : Type 0} (i : LoginInfo) (s new : State) (h : List LoginEntry) (m : PduCame) (r : Result (Option (List ℕ)) E) (acts : Acts) (d : Decision)
     → last_done h ≡ d → LoginStands i s h → login_ended h ≡ false
-    → ((n : Negotiation) → s ≡ Negotiating n → IfOk r (λ text. ComesTo n m (decided_by n m) new text acts))
+    → ((n : Negotiation) → s ≡ Negotiating n → IfOk r (λ text. TakesPdu n m (decided_by n m) new text acts))
     → IfOk r (λ text. GoesOn i new h m text acts)
 went_on i s new h m (Ok text) acts (Ask request) is stands open_yet comes =
     let n : Negotiation = record { info = i; step = step_of request; repeats = repeats h } in
@@ -66,7 +66,7 @@ went_on i s new h m (Err e) acts d is stands open_yet comes = tt
 
 pub goes_on : {E : Type 0} (i : LoginInfo) (s new : State) (h : List LoginEntry) (m : PduCame) (r : Result (Option (List ℕ)) E) (acts : Acts)
     → LoginStands i s h → login_ended h ≡ false
-    → ((n : Negotiation) → s ≡ Negotiating n → IfOk r (λ text. ComesTo n m (decided_by n m) new text acts))
+    → ((n : Negotiation) → s ≡ Negotiating n → IfOk r (λ text. TakesPdu n m (decided_by n m) new text acts))
     → IfOk r (λ text. GoesOn i new h m text acts)
 goes_on i s new h m r acts stands open_yet comes = went_on i s new h m r acts (last_done h) refl stands open_yet comes
 
@@ -103,7 +103,7 @@ kept i n sn (End reason) = refl
 pub holds_opened : (i : LoginInfo) (s : State) (h : List LoginEntry) → LoginStands i s h → session_held s ≡ session_opened i h
 holds_opened i s h stands = ap session_held stands.left ∙ kept i (repeats h) (expected h) (last_done h)
 
-pub handed_over : (s : State) → IsSome (session_held s) → IsOver (after_handing s)
+pub handed_over : (s : State) → IsSome (session_held s) → IsDone (after_handing s)
 handed_over (Negotiating n) none = absurd (false≢true none)
 handed_over (Opened session) is = refl
 handed_over Over none = absurd (false≢true none)
@@ -115,7 +115,7 @@ handed_none Over none = refl
 
 -- what was made ready and followed is what the answer comes to
 pub follows : (n : Negotiation) (m : PduCame) (d : Decision) (x : Next) (new : State) (text : Option (List ℕ)) (acts : Acts)
-    → x ≡ next_of n (expected_of m) d → IsFollowed n x new text acts → ComesTo n m d new text acts
+    → x ≡ next_of n (expected_of m) d → FollowsFrom n x new text acts → TakesPdu n m d new text acts
 follows n m (Ask request) x new text acts is f = record { state = f.state ∙ ap (state_by n) is; put = f.put ∙ ap text_by is; ends = f.ends ∙ ap (λ y. login_ending (end_by y)) is }
 follows n m (Open chap) x new text acts is f = record { state = f.state ∙ ap (state_by n) is; put = f.put ∙ ap text_by is; ends = f.ends ∙ ap (λ y. login_ending (end_by y)) is }
 follows n m (End reason) x new text acts is f = record { state = f.state ∙ ap (state_by n) is; put = f.put ∙ ap text_by is; ends = f.ends ∙ ap (λ y. login_ending (end_by y)) is }

@@ -55,8 +55,8 @@ abbrev pub session_opened : LoginInfo → List LoginEntry → Option Session
 session_opened i entries = session_after i (expected entries) (last_done entries)
 
 -- a login whose session was handed out, or that was refused: it asks for nothing more
-abbrev pub IsOver : State → Type 0
-IsOver s = s ≡ Over
+abbrev pub IsDone : State → Type 0
+IsDone s = s ≡ Over
 
 -- THE STEPS
 
@@ -64,7 +64,7 @@ abbrev pub decided_by : Negotiation → PduCame → Decision
 decided_by n m = decided n.info n.step m.rec n.repeats (answer_read m.pdu)
 
 -- a PDU that comes to this, what it leaves, puts and asks
-pub record ComesTo (n : Negotiation) (m : PduCame) (does : Decision) (new : State) (text : Option (List ℕ)) (acts : Acts) : Type 0 where
+pub record TakesPdu (n : Negotiation) (m : PduCame) (does : Decision) (new : State) (text : Option (List ℕ)) (acts : Acts) : Type 0 where
   pub state : new ≡ state_after n.info (counted n.repeats does) (expected_of m) does
   pub put : text ≡ text_put n.info (expected_of m) does
   pub ends : acts ≡ login_ending (end_given does)
@@ -91,7 +91,7 @@ end_by (next.Opens chap sn) = Some (as_cause (reason.Plain plain.Ok))
 end_by (next.Ends reason) = Some (as_cause reason)
 
 -- what follows from it
-pub record IsFollowed (n : Negotiation) (x : Next) (new : State) (text : Option (List ℕ)) (acts : Acts) : Type 0 where
+pub record FollowsFrom (n : Negotiation) (x : Next) (new : State) (text : Option (List ℕ)) (acts : Acts) : Type 0 where
   pub state : new ≡ state_by n x
   pub put : text ≡ text_by x
   pub ends : acts ≡ login_ending (end_by x)

@@ -30,7 +30,7 @@ impl Login {
     ghost use Rattle.nb_iscsipdu.specs.PduTexts.{pdu_parts};
     ghost use Rattle.nb_login.specs.Asking.{login_text};
     ghost use Rattle.nb_login.specs.LoginHistory.{LoginEntry, login_entry, pdu_came, decided_at, expected_of, text_put, end_given, login_ending, login_ended};
-    ghost use Rattle.nb_login.specs.LoginStands.{LoginStands, IsOver, session_opened};
+    ghost use Rattle.nb_login.specs.LoginStands.{LoginStands, IsDone, session_opened};
     ghost use Rattle.nb_login.specs.Refusals.{BeginsLogin};
     ghost use Rattle.nb_login.specs.declared.step.NextRequest.TheVariants.{Names};
 
@@ -81,7 +81,7 @@ impl Login {
         // After its end it ignores every PDU.
         ensures ended { (i : LoginInfo) (h : List LoginEntry) → LoginStands i self.old h
             → login_ended h ≡ true → (result ≡ Ok None) × (self.new ≡ self.old) × (acts.new ≡ login_ending None) }
-        ensures over { IsOver self.old
+        ensures over { IsDone self.old
             → (result ≡ Ok None) × (self.new ≡ self.old) × (acts.new ≡ login_ending None) }
     {
         acts.clear();
@@ -93,8 +93,8 @@ impl Login {
         ensures opened { (i : LoginInfo) (h : List LoginEntry) → LoginStands i self.old h
             → result ≡ session_opened i h }
         // What has handed it out, or was refused, has none and stays so.
-        ensures once { IsSome result → IsOver self.new }
-        ensures over { IsOver self.old → (result ≡ None) × IsOver self.new }
+        ensures once { IsSome result → IsDone self.new }
+        ensures over { IsDone self.old → (result ≡ None) × IsDone self.new }
         ensures unopened { result ≡ None → self.new ≡ self.old }
     {
         self.state.hand_out()

@@ -4,7 +4,7 @@ ghost use Rattle.std.specs.Prelude.{◌≡◌, IfOk, OnErr, false};
 ghost use Rattle.nb_iscsipdu.specs.PduTexts.{pdu_parts};
 ghost use Rattle.nb_iscsipdu.specs.Answers.{answer_parts};
 ghost use Rattle.nb_login.specs.LoginHistory.{pdu_came, login_ending, expected_by, expected_of};
-ghost use Rattle.nb_login.specs.LoginStands.{ComesTo, decided_by, next_of, IsFollowed, is_negotiating, session_held, after_handing, session_of};
+ghost use Rattle.nb_login.specs.LoginStands.{TakesPdu, decided_by, next_of, FollowsFrom, is_negotiating, session_held, after_handing, session_of};
 ghost use Rattle.nb_login.specs.declared.state.State.TheVariants.{Negotiating, Opened};
 
 use crate::info::LoginInfo;
@@ -110,7 +110,7 @@ impl State {
     ) -> Result<Option<Text>, NoMemory>
         requires { acts.old ≡ login_ending None }
         ensures takes { (n : Negotiation) → self.old ≡ Negotiating n → IfOk result (λ text.
-            ComesTo n (pdu_came rec (pdu_parts pdu.now)) (decided_by n (pdu_came rec (pdu_parts pdu.now)))
+            TakesPdu n (pdu_came rec (pdu_parts pdu.now)) (decided_by n (pdu_came rec (pdu_parts pdu.now)))
             self.new text acts.new) }
         ensures memory { OnErr result ((self.new ≡ self.old) × (acts.new ≡ login_ending None)) }
         ensures ended { is_negotiating self.old ≡ false
@@ -126,7 +126,7 @@ impl State {
     /// Goes on as an answer says.
     fn follow(&mut self, next: Next, acts: &mut Acts) -> Option<Text>
         requires { acts.old ≡ login_ending None }
-        ensures { (n : Negotiation) → self.old ≡ Negotiating n → IsFollowed n next self.new result acts.new }
+        ensures { (n : Negotiation) → self.old ≡ Negotiating n → FollowsFrom n next self.new result acts.new }
     {
         match next {
             Next::Asks(text, step, repeats) => {

@@ -32,10 +32,10 @@ abbrev pub lease_change : TableLists → List ℕ → Change
 lease_change table ack = put_answer (lease_refusal lease_block ack table) (leased lease_block ack table)
 
 -- a command whose open has ended: its result, and the settings that it leaves
-pub record Settled : Type 0 where
+pub record Settlement : Type 0 where
   pub cause : Cause
   pub table : TableLists
 
-abbrev pub settled_by : TableLists → Change → Settled
+abbrev pub settled_by : TableLists → Change → Settlement
 settled_by before (Ok table) = record { cause = ok; table = table }
 settled_by before (Err why) = record { cause = apply_cause why; table = before }

@@ -14,7 +14,7 @@ use Rattle.nb_command.specs.Addresses.{address_table}
 use Rattle.nb_machine.specs.Errands.{Wanted, Errand, Onward, fetches_now, echoes_now, onward}
 use Rattle.nb_machine.specs.Effects.{Effect, says, asks, goes, sleeps, shuts_device, inquires, on_images, concludes_at_once, Surroundings, effect_in, table_after, up_after}
 use Rattle.nb_machine.specs.Queries.{Query, for_lease, for_echo, for_host, for_address}
-use Rattle.nb_machine.specs.Findings.{asker_at, query_id, lease_change, Settled, settled_by}
+use Rattle.nb_machine.specs.Findings.{asker_at, query_id, lease_change, Settlement, settled_by}
 use Rattle.nb_machine.specs.Conclusions.{Conclusion, keeps, conclusion, conclusion_records}
 use Rattle.nb_machine.specs.Starting.{own_port}
 use Rattle.nb_machine.specs.Running.{Running, anew}
@@ -184,7 +184,7 @@ waiting_anew w = record w { script = anew w.script }
 -- what comes of a command that waited: its images, as they are concluded, its result and settings, or what it asks next
 pub data Upshot : Type 0 where
   concludes : Conclusion → Upshot
-  settles : Settled → Upshot
+  settles : Settlement → Upshot
   goes_onward : Onward → Upshot
 
 -- its RESULT, if it is over
@@ -194,7 +194,7 @@ upshot_records (settles x) = result x.cause ∷ []
 upshot_records (goes_onward next) = []
 
 -- an open that has ended well gives what was found, unless the settings refuse it
-abbrev pub settled_with : Cause → Change → TableLists → Settled
+abbrev pub settled_with : Cause → Change → TableLists → Settlement
 settled_with cause change table = if is_ok_cause cause then settled_by table change else record { cause = cause; table = table }
 
 -- the settings with what an open has found, if it has found it

@@ -28,7 +28,7 @@ use Rattle.nb_teller.specs.Spelling.{Spelling}
 use Rattle.nb_chains.specs.declared.chain.Chain.{Chain}
 use Rattle.nb_open.specs.declared.ended.Ended.{Ended}
 use Rattle.nb_open.specs.declared.open.Open.{Open}
-use Rattle.nb_open.specs.Open.{IsAsking, IsOpenOf, IsUnderWay}
+use Rattle.nb_open.specs.Open.{IsAskingCore, IsOpenOf, IsUnderWay}
 use Rattle.nb_open.specs.Exchanges.{Exchanges, ExchangesBy, HandsOut, last_put}
 use Rattle.nb_network.proofs.Bares.{bare_core, bare_transfer}
 
@@ -86,7 +86,7 @@ bare_core_exchanged s k server cs ys (closes cs0 xs0 link cause h) xs x e =
 
 -- THE OPEN
 
-asking_bare : {S B C : Type 0} (s : Service S B C) (kind : ℕ) (b : B) (c : Chain) (g : Objects Obj) (l : Live) (x : Exchange) → IsAsking s kind b c g (continued l x) → IsAsking s kind b c g (continued l (bared x))
+asking_bare : {S B C : Type 0} (s : Service S B C) (kind : ℕ) (b : B) (c : Chain) (g : Objects Obj) (l : Live) (x : Exchange) → IsAskingCore s kind b c g (continued l x) → IsAskingCore s kind b c g (continued l (bared x))
 asking_bare s kind b c g l x i = record {
   below = i.below;
   calls = i.calls;

@@ -19,7 +19,7 @@ use Rattle.nb_chains.specs.declared.kind.ChainKind.TheVariants as chain
 use Rattle.nb_chains.specs.Chains.{chain_ids}
 use Rattle.nb_teller.specs.Speakers.{carrier_number}
 use Rattle.nb_teller.specs.Spelling.{Spelling}
-use Rattle.nb_traced.specs.Holdings.{Holdings, Piece, kinds}
+use Rattle.nb_traced.specs.Holdings.{Holdings, GraphObject, kinds}
 use Rattle.nb_traced.specs.Outputs.{Arrived, Traced, makes, opens, calls, ends}
 use Rattle.nb_traced.specs.Pieces.{event_records, pieces_made}
 use Rattle.nb_open.specs.declared.open.Open.{Open}
@@ -43,7 +43,7 @@ pub record IsFor (a : Opening) (number : ℕ) (o : Open) : Type 0 where
 pub number_is : (a : Opening) (number : ℕ) (o : Open) → IsFor a number o → o.speaker.number ≡ number
 number_is a number o i = ap (λ s. s.number) i.speaker
 
-module _ (left : List Piece) (waits : Option Chain) (a : Opening) (number now : ℕ) (link : Client) (o : Open) (is : IsFor a number o) (g : Objects Obj) (list : List Open) (made : Spelling) (mid : GraphState) (x : MakesObjects left (chain_kind a) (kind_number (kind_by a)) waits o g made mid) (latest : IsLatest waits g) where
+module _ (left : List GraphObject) (waits : Option Chain) (a : Opening) (number now : ℕ) (link : Client) (o : Open) (is : IsFor a number o) (g : Objects Obj) (list : List Open) (made : Spelling) (mid : GraphState) (x : MakesObjects left (chain_kind a) (kind_number (kind_by a)) waits o g made mid) (latest : IsLatest waits g) where
   -- it has begun
   begun_so : (outs : List Out) (h : Holdings) (so_far : List Arrived) → Traced outs h so_far → FitsHoldings (record { graph = g; list = list }) number (waiting_pieces (chain_kind a) waits) h →
       Traced (outs ++ (event_records x.events ++ (open_record (live_by a number now) ∷ []))) (record { state = mid; living = h.living ++ kin_of o ∷ []; waits = left; begun = number + 1 }) so_far

@@ -17,7 +17,7 @@ use Rattle.nb_chains.specs.declared.kind.ChainKind.{ChainKind}
 use Rattle.nb_chains.specs.Chains.{below_ids, chain_ids}
 use Rattle.nb_chains.specs.Kinds.{top_number}
 use Rattle.nb_teller.specs.Spelling.{Spelling}
-use Rattle.nb_traced.specs.Holdings.{Piece, lowest_of}
+use Rattle.nb_traced.specs.Holdings.{GraphObject, lowest_of}
 use Rattle.nb_traced.specs.Outputs.{CallsOpen, own_serials}
 use Rattle.nb_traced.specs.Pieces.{IsMaking, pieces_made}
 use Rattle.nb_traced.proofs.Serials.{AreRising}
@@ -63,7 +63,7 @@ not_second y t i f e = elim (cases_eq y t) [
 ]
 
 -- Of a chain of the last serials that were given, one after the other: no other serial above the first of all is as low as its last.
-none_between : (p : Piece) (d : Option ObjId) (t m n kind y : ℕ) → m + 1 < t → AreRising (record { serial = t; kind = kind } ∷ pieces_below d) → AllByRecursion (λ q. q.serial ≤ n) (record { serial = t; kind = kind } ∷ pieces_below d) →
+none_between : (p : GraphObject) (d : Option ObjId) (t m n kind y : ℕ) → m + 1 < t → AreRising (record { serial = t; kind = kind } ∷ pieces_below d) → AllByRecursion (λ q. q.serial ≤ n) (record { serial = t; kind = kind } ∷ pieces_below d) →
     n ≡ m + length (p ∷ (record { serial = t; kind = kind } ∷ pieces_below d)) → y ≤ lowest_of (t ∷ below_ids d) → is_one_of (t ∷ below_ids d) y ≡ false → y ≤ m + 1
 none_between p None t m n kind y above rising upto count low out =
     elim (cases_eq y t) [
@@ -85,7 +85,7 @@ of_last k y (p ∷ os) o n own = inr (of_last k y os o n own)
 
 module _ (kind : ChainKind) (a : Opening) (number now : ℕ) (link : Client) (g h : Objects Obj) (list list' : List Open) (made told : Spelling) (c : Chain) (b : Begun) (x : BeginsBeside kind a number now link g h made told c b)
     (net' : Client) (end : Option Cause) (same : end ≡ b.ended) (enters : EntersBy end b.open list link list' net') where
-  abbrev first : Piece
+  abbrev first : GraphObject
   first = record { serial = c.top.0; kind = top_number kind }
 
   pieces : pieces_made x.makes.events ≡ first ∷ pieces_of (chain_kind a) b.open.chain

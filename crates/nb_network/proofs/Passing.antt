@@ -20,7 +20,7 @@ use Rattle.nb_machine.specs.Lives.{Live}
 use Rattle.nb_machine.specs.Network.{on_net0, Network, passes_by, is_for_one}
 use Rattle.nb_machine.specs.States.{State, bare, net0, with_device}
 use Rattle.nb_teller.specs.Speakers.{carrier_number}
-use Rattle.nb_traced.specs.Holdings.{Holdings, Piece}
+use Rattle.nb_traced.specs.Holdings.{Holdings, GraphObject}
 use Rattle.nb_traced.specs.Outputs.{Arrived, Traced, apart, replies}
 use Rattle.nb_open.specs.declared.open.Open.{Open}
 use Rattle.nb_network.specs.Many.{AreOpensOf, AreRising, AreSound, FitsHoldings, HasOwnPort, IsStateOf, Many, bound_port, lease_count}
@@ -38,7 +38,7 @@ reply_plain [] = refl
 reply_plain (b ∷ bytes) = refl
 
 -- after its STEP a reply is put, or nothing
-passed_traces : (m : Many) (opens n : ℕ) (bytes : List ℕ) (waits : List Piece) (outs : List Out) (h : Holdings) (so_far : List Arrived) → Traced outs h so_far → FitsHoldings m opens waits h →
+passed_traces : (m : Many) (opens n : ℕ) (bytes : List ℕ) (waits : List GraphObject) (outs : List Out) (h : Holdings) (so_far : List Arrived) → Traced outs h so_far → FitsHoldings m opens waits h →
     TracesOn m opens waits (step n ∷ reply_records bytes) [] m opens waits outs h so_far
 passed_traces m opens n [] waits outs h so_far traced fits = record {
   after = h;

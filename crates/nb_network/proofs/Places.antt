@@ -11,10 +11,10 @@ use Rattle.nb_stack.specs.Client.{Client}
 use Rattle.nb_teller.specs.Spelling.{Spelling}
 use Rattle.nb_open.specs.declared.ended.Ended.{Ended}
 use Rattle.nb_network.specs.declared.over.HasEnded.{HasEnded}
-use Rattle.nb_network.specs.Steps.{Settles, StandsAt, left_by, place_after}
+use Rattle.nb_network.specs.Steps.{EndIsSettled, IsOpenAt, left_by, place_after}
 use Rattle.nb_network.proofs.Lists.{all_at}
 
-pub stands_at : (list : List Open) (i : ℕ) (d : Open) → i < length list → StandsAt list i (get_or list i d)
+pub stands_at : (list : List Open) (i : ℕ) (d : Open) → i < length list → IsOpenAt list i (get_or list i d)
 stands_at list i d h = record {
   before = take i list;
   behind = drop (suc i) list;
@@ -23,16 +23,16 @@ stands_at list i d h = record {
 }
 
 -- the open of a place is the one that stands there
-pub open_at : (list : List Open) (i : ℕ) (d o : Open) → StandsAt list i o → get_or list i d ≡ o
+pub open_at : (list : List Open) (i : ℕ) (d o : Open) → IsOpenAt list i o → get_or list i d ≡ o
 open_at list i d o s = ap (λ z. get_or z i d) s.all ∙ ap (λ z. get_or (s.before ++ o ∷ s.behind) z d) (sym s.place_is) ∙ get_or-append_seam s.before o s.behind d
 
-pub removed_at : (list : List Open) (i : ℕ) (o : Open) (s : StandsAt list i o) → remove list i ≡ s.before ++ s.behind
+pub removed_at : (list : List Open) (i : ℕ) (o : Open) (s : IsOpenAt list i o) → remove list i ≡ s.before ++ s.behind
 removed_at list i o s = ap (λ z. remove z i) s.all ∙ remove-append_right s.before (o ∷ s.behind) i i s.place_is (omega arith) ∙ ap (λ z. s.before ++ remove (o ∷ s.behind) z) (let e : i - i ≡ 0 = omega arith in e)
 
 pub all_of_place : (P : Open → Type 0) (list : List Open) (i : ℕ) (d : Open) → i < length list → AllByRecursion P list → P (get_or list i d)
 all_of_place P list i d h all = let s = stands_at list i d h in all_at P s.before (get_or list i d) s.behind (subst (AllByRecursion P) s.all all)
 
-pub found_at : (list : List Open) (i : ℕ) (d : Open) (n : ℕ) → i < length list → n ≡ (get_or list i d).speaker.number → (o : Open) × StandsAt list i o × (o.speaker.number ≡ n)
+pub found_at : (list : List Open) (i : ℕ) (d : Open) (n : ℕ) → i < length list → n ≡ (get_or list i d).speaker.number → (o : Open) × IsOpenAt list i o × (o.speaker.number ≡ n)
 found_at list i d n h e = (get_or list i d, stands_at list i d h, sym e)
 
 -- none has it, where no place has
@@ -49,17 +49,17 @@ not_here list i n e h before here d k less is = by (k == i) refl
     by true t = here (ap (λ (o : Open). o.speaker.number) (sym (open_at list i d (get_or list i e) (stands_at list i e h))) ∙ ap (λ z. (get_or list z d).speaker.number) (sym (eqb-true k i t)) ∙ is)
     by false f = before d k (let no = eqb-false k i f in omega (arith, less, no)) is
 
-pub some_at : (list : List Open) (i : ℕ) → i < length list → (o : Open) × StandsAt list i o
+pub some_at : (list : List Open) (i : ℕ) → i < length list → (o : Open) × IsOpenAt list i o
 some_at [] i h = absurd (omega (arith, h))
 some_at (x ∷ xs) i h = (get_or (x ∷ xs) i x, stands_at (x ∷ xs) i x h)
 
 pub settled_list : (end : Option Ended) (before : List Open) (o : Open) (behind : List Open) (net : Client) (begun awaited : Option ℕ) (s : Spelling) (list' : List Open) (net' : Client) (answer : Option HasEnded) (old new : Logged) →
-    Settles end before o behind net begun awaited s list' net' answer old new → list' ≡ before ++ (left_by end o ++ behind)
+    EndIsSettled end before o behind net begun awaited s list' net' answer old new → list' ≡ before ++ (left_by end o ++ behind)
 settled_list None before o behind net begun awaited s list' net' answer old new h = h.0
 settled_list (Some e) before o behind net begun awaited s list' net' answer old new h = h.0
 
 -- fewer are left from the next place on
-pub steps_down : (end : Option Ended) (list list1 : List Open) (place : ℕ) (o : Open) (at : StandsAt list place o) → list1 ≡ at.before ++ (left_by end o ++ at.behind) → (length list1 - place_after end place < length list - place) × (place_after end place ≤ length list1)
+pub steps_down : (end : Option Ended) (list list1 : List Open) (place : ℕ) (o : Open) (at : IsOpenAt list place o) → list1 ≡ at.before ++ (left_by end o ++ at.behind) → (length list1 - place_after end place < length list - place) × (place_after end place ≤ length list1)
 steps_down None list list1 place o at e =
     let a = ap length e in let b = length-append at.before (o ∷ at.behind) in let d = ap length at.all in let p = at.place_is in (omega (arith, a, b, d, p), omega (arith, a, b, d, p))
 steps_down (Some x) list list1 place o at e =

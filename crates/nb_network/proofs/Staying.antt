@@ -24,7 +24,7 @@ use Rattle.nb_chains.specs.declared.chain.Chain.{Chain}
 use Rattle.nb_chains.specs.declared.kind.ChainKind.{ChainKind}
 use Rattle.nb_chains.specs.Chains.{AreChained, Awaits, StaysChained, chain_ids, own_graph}
 use Rattle.nb_open.specs.declared.open.Open.{Open}
-use Rattle.nb_open.specs.Open.{IsAsking, IsOpenOf, IsUnderWay}
+use Rattle.nb_open.specs.Open.{IsAskingCore, IsOpenOf, IsUnderWay}
 
 -- objects that stay as they are stay chained
 pub kept_chained : (others : List ℕ) (g h : Objects Obj) → AreNoded rank_of_obj h → AreChained g others → ((x : ℕ) → is_one_of others x ≡ true → KeepsObject g h x) → g.book.made ≤ h.book.made → StaysChained others g h
@@ -39,7 +39,7 @@ kept_chained others g h noded c kept later = record {
   same_graph = same_graph rank_of_obj g h noded others c.lives kept;
 }
 
-asking_stays : {S B C : Type 0} (s : Service S B C) (kind : ℕ) (b : B) (c : Chain) (g h : Objects Obj) (l : Live) → own_graph c h ≡ own_graph c g → IsAsking s kind b c g l → IsAsking s kind b c h l
+asking_stays : {S B C : Type 0} (s : Service S B C) (kind : ℕ) (b : B) (c : Chain) (g h : Objects Obj) (l : Live) → own_graph c h ≡ own_graph c g → IsAskingCore s kind b c g l → IsAskingCore s kind b c h l
 asking_stays s kind b c g h l e i = record {
   below = i.below;
   calls = i.calls;

@@ -34,7 +34,7 @@ use Rattle.nb_open.specs.Exchanges.{Exchanges, HandsOut, IsLeaseMessage, last_pu
 use Rattle.nb_open.specs.Open.{IsOpenOf, LivesSome, kin_of}
 use Rattle.nb_network.specs.declared.over.HasEnded.{HasEnded}
 use Rattle.nb_network.specs.Many.{AreApart, AreOpensOf, AreRising, AreSound, HasLeaseOnlyOf, HasOwnPort, IsApartFrom, IsNewestBut, Many, WaitsBeside, bound_port, lease_count}
-use Rattle.nb_network.specs.Steps.{ComesAt, GoesOnSo, Settles, TracesAt, answer_for, freed_of, left_by, step_records}
+use Rattle.nb_network.specs.Steps.{ComesAt, GoesOnSo, EndIsSettled, TracesAt, answer_for, freed_of, left_by, step_records}
 use Rattle.nb_network.specs.Takes.{AnswersBy, BeginsWithEntry, IsEndOf, KeepsWaiting, awaited_over}
 use Rattle.nb_network.proofs.Awaiting.{leases_end, leases_stay, lived, newest_ends, newest_stays}
 use Rattle.nb_network.proofs.BareExchanges.{exchanges_bare}
@@ -94,7 +94,7 @@ pub texts_more : (xs ys : List Out) → out_texts (xs ++ ys) ≡ out_texts xs ++
 texts_more xs ys = flat_map-append out_text xs ys
 
 module _ (suits : Live → Type 0) (came : OpenInput) (way : Way) (begun : Option ℕ) (m : Many) (net : Client) (opens : ℕ) (before : List Open) (o : Open) (behind : List Open) (awaited : Option ℕ) (m' : Many) (old new : Logged) (is : m.list ≡ before ++ o ∷ behind) where
-  gives_on : (told : Spelling) (answer : Option HasEnded) (net' : Client) → Settles None before o behind net begun awaited told m'.list net' answer old new →
+  gives_on : (told : Spelling) (answer : Option HasEnded) (net' : Client) → EndIsSettled None before o behind net begun awaited told m'.list net' answer old new →
       (l : Live) → IsOpenOf m.graph o l → Exchanges o l came (bare net) (Some way) m.graph m'.graph told None → OneGives m net opens before o behind l came (Some way) begun awaited None answer m' old new
   gives_on told answer net' s l i x =
       let put = without_graph x.records in
@@ -112,7 +112,7 @@ module _ (suits : Live → Type 0) (came : OpenInput) (way : Way) (begun : Optio
         first = λ n. let b = begins_entry o.speaker.number (own_serials (kin_of o)) (lowest_of (own_serials (kin_of o))) way x.records (run_state m.graph.book []) (run_state m'.graph.book []) x.does.call [] in (b.0, b.1, sym (append-nil x.records) ∙ b.2);
       }
 
-  gives_last : (e : Ended) (told : Spelling) (answer : Option HasEnded) (net' : Client) → Settles (Some e) before o behind net begun awaited told m'.list net' answer old new →
+  gives_last : (e : Ended) (told : Spelling) (answer : Option HasEnded) (net' : Client) → EndIsSettled (Some e) before o behind net begun awaited told m'.list net' answer old new →
       (l : Live) → IsOpenOf m.graph o l → Exchanges o l came (bare net) (Some way) m.graph m'.graph told (Some e) → OneGives m net opens before o behind l came (Some way) begun awaited (Some e) answer m' old new
   gives_last e told answer net' s l i x =
       let k = o.speaker.number in
@@ -136,7 +136,7 @@ module _ (suits : Live → Type 0) (came : OpenInput) (way : Way) (begun : Optio
         first = λ n. begins_entry k (own_serials (kin_of o)) (lowest_of (own_serials (kin_of o))) way x.records (run_state m.graph.book []) (run_state m'.graph.book []) x.does.call (ended k e.cause ∷ []);
       }
 
-  gives_by : (end : Option Ended) (told : Spelling) (answer : Option HasEnded) (net' : Client) → Settles end before o behind net begun awaited told m'.list net' answer old new →
+  gives_by : (end : Option Ended) (told : Spelling) (answer : Option HasEnded) (net' : Client) → EndIsSettled end before o behind net begun awaited told m'.list net' answer old new →
       (l : Live) → IsOpenOf m.graph o l → Exchanges o l came (bare net) (Some way) m.graph m'.graph told end → OneGives m net opens before o behind l came (Some way) begun awaited end answer m' old new
   gives_by None told answer net' s l i x = gives_on told answer net' s l i x
   gives_by (Some e) told answer net' s l i x = gives_last e told answer net' s l i x
@@ -241,7 +241,7 @@ module _ (m : Many) (net : Client) (w opens : ℕ) (before : List Open) (o : Ope
       }
 
 module _ (suits : Live → Type 0) (came : OpenInput) (way : Way) (begun : Option ℕ) (m : Many) (net : Client) (w opens : ℕ) (before : List Open) (o : Open) (behind : List Open) (awaited : Option ℕ) (m' : Many) (net' : Client) (old new : Logged) (is : m.list ≡ before ++ o ∷ behind) (noded : AreNoded rank_of_obj m'.graph) (sound : AreSound w opens net m) where
-  leaves_by : (end : Option Ended) (told : Spelling) (answer : Option HasEnded) → Settles end before o behind net begun awaited told m'.list net' answer old new →
+  leaves_by : (end : Option Ended) (told : Spelling) (answer : Option HasEnded) → EndIsSettled end before o behind net begun awaited told m'.list net' answer old new →
       (l : Live) → Exchanges o l came net (Some way) m.graph m'.graph told end → LeavesAll m net w opens o m' net'
   leaves_by None told answer s l x = leaves_on m net w opens before o behind m' net' is noded x.does.others.others x.does.others.same_room sound s.0 s.1 (with_exchange l came net (without_graph x.records), x.does.lives)
   leaves_by (Some e) told answer s l x = leaves_last m net w opens before o behind m' net' is noded x.does.released.others x.does.released.same_room sound s.0 s.1
@@ -259,7 +259,7 @@ pub record AwaitsOn (m : Many) (awaited : Option ℕ) (answer : Option HasEnded)
   pub newest : (c : Chain) → GoesOnSo (λ k z. IsNewestBut k c z) awaited answer m m'
 
 module _ (suits : Live → Type 0) (came : OpenInput) (way : Way) (begun : Option ℕ) (m : Many) (net : Client) (w opens : ℕ) (before : List Open) (o : Open) (behind : List Open) (awaited : Option ℕ) (m' : Many) (net' : Client) (old new : Logged) (is : m.list ≡ before ++ o ∷ behind) (sound : AreSound w opens net m) where
-  awaits_by : (end : Option Ended) (told : Spelling) (answer : Option HasEnded) → Settles end before o behind net begun awaited told m'.list net' answer old new →
+  awaits_by : (end : Option Ended) (told : Spelling) (answer : Option HasEnded) → EndIsSettled end before o behind net begun awaited told m'.list net' answer old new →
       (l : Live) → IsOpenOf m.graph o l → Exchanges o l came net (Some way) m.graph m'.graph told end → AwaitsOn m awaited answer m'
   awaits_by None told answer s l i x =
       let back = lived o (Some way) x.records (lowest_of (own_serials (kin_of o))) m.graph m'.graph x.does.call i.chained in

@@ -21,7 +21,7 @@ use Rattle.nb_open.specs.declared.ended.Ended.{Ended}
 use Rattle.nb_open.specs.declared.open.Open.{Open}
 use Rattle.nb_network.specs.declared.over.HasEnded.{HasEnded}
 use Rattle.nb_network.specs.Many.{AreApart, AreOpensOf, AreSound, HasLeaseOnlyOf, IsApartFrom, IsNewestBut, IsStateOf, Many}
-use Rattle.nb_network.specs.Steps.{ComesAt, StandsAt, StaysOn, TimesCome, TimesGive, TracesAt, left_by, place_after}
+use Rattle.nb_network.specs.Steps.{ComesAt, IsOpenAt, StaysOn, TimesCome, TimesGive, TracesAt, left_by, place_after}
 use Rattle.nb_network.specs.Takes.{AnswersBy, at_all, TakesRecord, arrival, awaited_over}
 use Rattle.nb_network.proofs.Awaiting.{so_both}
 use Rattle.nb_network.proofs.Lists.{AreAround, all_back, all_both, all_front, apart_around, opens_append, opens_move}
@@ -186,7 +186,7 @@ times_record m net before w opens n ms now awaited answer m' net' none gathered 
 
 abbrev pub ComesNext : Many → Client → ℕ → ℕ → Option ℕ → Option HasEnded → ℕ → Many → Client → Logged → Logged → Type 0
 ComesNext m net now place awaited found next m1 net1 old mid =
-    (end : Option Ended) × (next ≡ place_after end place) × ((o : Open) (at : StandsAt m.list place o) → ComesAt (λ (l : Live). Unit {0}) (time now) Time None m net at.before o at.behind awaited end found m1 net1 old mid)
+    (end : Option Ended) × (next ≡ place_after end place) × ((o : Open) (at : IsOpenAt m.list place o) → ComesAt (λ (l : Live). Unit {0}) (time now) Time None m net at.before o at.behind awaited end found m1 net1 old mid)
 
 -- what the next call takes for granted
 pub next_fits : (m : Many) (net : Client) (w opens now place : ℕ) (awaited : Option ℕ) (found : Option HasEnded) (next : ℕ) (m1 : Many) (net1 : Client) (old mid : Logged) → place < length m.list → AreSound w opens net m → ComesNext m net now place awaited found next m1 net1 old mid →

@@ -17,7 +17,7 @@ use Rattle.nb_frames.specs.Frames.{is_one_of}
 use Rattle.nb_chains.specs.declared.chain.Chain.{Chain}
 use Rattle.nb_chains.specs.declared.kind.ChainKind.{ChainKind}
 use Rattle.nb_chains.specs.Chains.{below_ids, chain_ids}
-use Rattle.nb_traced.specs.Holdings.{Holdings, Piece, lowest_of, serials}
+use Rattle.nb_traced.specs.Holdings.{Holdings, GraphObject, lowest_of, serials}
 use Rattle.nb_traced.specs.Outputs.{Arrived, CallsOpen, Traced, arrived, last_step, own_serials, step_by, apart, calls, ends}
 use Rattle.nb_traced.specs.Pieces.{IsCallOn, IsOfOpen, event_records, first_close_of}
 use Rattle.nb_open.specs.declared.open.Open.{Open}
@@ -67,7 +67,7 @@ begins_entry k ids x way records s t c more =
 
 -- WHOSE OBJECTS
 
-below_serials : (b : Option ObjId) → map (λ (p : Piece). p.serial) (pieces_below b) ≡ below_ids b
+below_serials : (b : Option ObjId) → map (λ (p : GraphObject). p.serial) (pieces_below b) ≡ below_ids b
 below_serials None = refl
 below_serials (Some x) = refl
 
@@ -151,7 +151,7 @@ traces_none n m opens = λ waits outs h so_far last traced fits. (
 
 -- after its STEP
 pub traces_step : (n : ℕ) (m : Many) (opens : ℕ) (rs : List Out) (came : List Arrived) (m' : Many) (j : ℕ) → TracesAt n m opens rs came m' j →
-    (waits : List Piece) (outs : List Out) (h : Holdings) (so_far : List Arrived) → Traced outs h so_far → FitsHoldings m opens waits h → TracesOn m opens waits (step n ∷ rs) came m' j waits outs h so_far
+    (waits : List GraphObject) (outs : List Out) (h : Holdings) (so_far : List Arrived) → Traced outs h so_far → FitsHoldings m opens waits h → TracesOn m opens waits (step n ∷ rs) came m' j waits outs h so_far
 traces_step n m opens rs came m' j f = λ waits outs h so_far traced fits.
     let x = f waits (outs ++ step n ∷ []) h so_far (last_is_step outs n) (apart outs (step n ∷ []) h so_far traced (tt, tt)) fits in
     record { after = x.0.after; traced = subst (λ z. Traced z x.0.after (so_far ++ came)) (append_assoc outs (step n ∷ []) rs) x.0.traced; fits = x.0.fits }

@@ -11,7 +11,7 @@ use Rattle.nb_machine.specs.States.{State}
 use Rattle.nb_machine.specs.Takings.{AllTake, Over}
 use Rattle.nb_chains.specs.declared.chain.Chain.{Chain}
 use Rattle.nb_chains.specs.declared.kind.ChainKind.{ChainKind}
-use Rattle.nb_traced.specs.Holdings.{Holdings, Piece}
+use Rattle.nb_traced.specs.Holdings.{Holdings, GraphObject}
 use Rattle.nb_traced.specs.Outputs.{Arrived, Traced}
 use Rattle.nb_traced.specs.Pieces.{event_records}
 use Rattle.nb_open.specs.Open.{pieces_of}
@@ -22,7 +22,7 @@ abbrev pub closes_with : State → Cause → List Out → Type 0
 closes_with s cause put = (overs : List Over) × AllTake s.devices (close cause) s.live put [] overs
 
 -- Each open is closed with this cause, and none lives afterwards; `first` waits before, and `left` after.
-pub record ClosesMany (m : Many) (net : Client) (now opens : ℕ) (cause : Cause) (first left : List Piece) (m' : Many) (old new : Logged) : Type 0 where
+pub record ClosesMany (m : Many) (net : Client) (now opens : ℕ) (cause : Cause) (first left : List GraphObject) (m' : Many) (old new : Logged) : Type 0 where
   pub records : List Out
   pub puts : Puts old new (out_texts records)
   pub none : m'.list ≡ []

@@ -15,7 +15,7 @@ use Rattle.nb_chains.specs.declared.chain.Chain.{Chain}
 use Rattle.nb_chains.specs.declared.kind.ChainKind.{ChainKind}
 use Rattle.nb_chains.specs.declared.kind.ChainKind.TheVariants as chain
 use Rattle.nb_chains.specs.Chains.{AreOthers, Awaits, chain_ids}
-use Rattle.nb_traced.specs.Holdings.{Holdings, Piece}
+use Rattle.nb_traced.specs.Holdings.{Holdings, GraphObject}
 use Rattle.nb_teller.specs.Speakers.{carrier_number}
 use Rattle.nb_open.specs.Begins.{IsLatest}
 use Rattle.nb_open.specs.declared.open.Open.{Open}
@@ -107,7 +107,7 @@ pub record WaitsBeside (kind : ChainKind) (c : Chain) (m : Many) : Type 0 where
   pub apart : AllByRecursion (IsApartFrom (chain_ids c)) m.list
 
 -- an output stands with them, and with these pieces that wait, where so many opens were made
-pub record FitsHoldings (m : Many) (opens : ℕ) (waits : List Piece) (h : Holdings) : Type 0 where
+pub record FitsHoldings (m : Many) (opens : ℕ) (waits : List GraphObject) (h : Holdings) : Type 0 where
   pub state : h.state ≡ run_state m.graph.book []
   pub living : h.living ≡ map kin_of m.list
   pub waiting : h.waits ≡ waits

@@ -9,7 +9,7 @@ use Rattle.nb_machine.specs.CommandRecords.{no_route}
 use Rattle.nb_machine.specs.Kinds.{first_records}
 use Rattle.nb_machine.specs.Lives.{Live, open_record, end_record}
 use Rattle.nb_machine.specs.States.{State, with_live}
-use Rattle.nb_traced.specs.Holdings.{Holdings, Piece}
+use Rattle.nb_traced.specs.Holdings.{Holdings, GraphObject}
 use Rattle.nb_traced.specs.Outputs.{Arrived, Traced}
 use Rattle.nb_traced.specs.Pieces.{event_records}
 use Rattle.nb_stack.specs.Bound.{with_port}
@@ -56,7 +56,7 @@ number_by None number = Some number
 number_by (Some cause) number = None
 
 -- An open of this number begins, of which `first` waited; `left` waits afterwards.
-pub record OpensOne (m : Many) (net : Client) (now opens : ℕ) (a : Opening) (first left : List Piece) (m' : Many) (net' : Client) (ended : Option Cause) (made_text told_text : List ℕ) : Type 0 where
+pub record OpensOne (m : Many) (net : Client) (now opens : ℕ) (a : Opening) (first left : List GraphObject) (m' : Many) (net' : Client) (ended : Option Cause) (made_text told_text : List ℕ) : Type 0 where
   pub made : List GraphEvent
   pub told : List Out
   pub made_is : made_text ≡ out_texts (event_records made)

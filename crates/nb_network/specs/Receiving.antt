@@ -14,7 +14,7 @@ use Rattle.nb_open.specs.declared.ended.Ended.{Ended}
 use Rattle.nb_open.specs.declared.open.Open.{Open}
 use Rattle.nb_open.specs.Exchanges.{SuitsBy}
 use Rattle.nb_network.specs.Many.{Many}
-use Rattle.nb_network.specs.Steps.{ComesAt, StandsAt, counts_by}
+use Rattle.nb_network.specs.Steps.{ComesAt, IsOpenAt, counts_by}
 use Rattle.nb_network.specs.declared.over.HasEnded.{HasEnded}
 
 -- from which port a message comes: that of an echo reply is its identifier
@@ -28,7 +28,7 @@ port_from o port = port_by_carrier o.speaker.carrier o.speaker.own_port port
 -- what was handed on is for the open of this place, and comes to it so
 pub record GoesTo (list : List Open) (out : Outcome) (place : ℕ) (a : Arrival) : Type 0 where
   pub taker : Open
-  pub at : StandsAt list place taker
+  pub at : IsOpenAt list place taker
   pub dst : Ip4
   pub proto : ℕ
   pub port : ℕ
@@ -40,7 +40,7 @@ pub record GoesTo (list : List Open) (out : Outcome) (place : ℕ) (a : Arrival)
 pub record DoesNotCount (list : List Open) (to : ℕ) (source : Ip4) (port : ℕ) : Type 0 where
   pub taker : Open
   pub place : ℕ
-  pub at : StandsAt list place taker
+  pub at : IsOpenAt list place taker
   pub number : taker.speaker.number ≡ to
   pub counts : counts_by taker.kind taker.speaker.server source port ≡ false
 

@@ -19,7 +19,7 @@ use Rattle.nb_chains.specs.declared.kind.ChainKind.{ChainKind}
 use Rattle.nb_chains.specs.declared.kind.ChainKind.TheVariants as chain
 use Rattle.nb_teller.specs.Speakers.{carrier_number}
 use Rattle.nb_teller.specs.Spelling.{Spelling}
-use Rattle.nb_traced.specs.Holdings.{Holdings, Piece}
+use Rattle.nb_traced.specs.Holdings.{Holdings, GraphObject}
 use Rattle.nb_traced.specs.Outputs.{Arrived, Traced, last_step}
 use Rattle.nb_open.specs.declared.open.Open.{Open}
 use Rattle.nb_open.specs.declared.ended.Ended.{Ended}
@@ -36,11 +36,11 @@ use Rattle.nb_network.specs.declared.over.HasEnded.{HasEnded}
 -- records that are no step, from which the output goes on so
 abbrev pub TracesAt : ℕ → Many → ℕ → List Out → List Arrived → Many → ℕ → Type 0
 TracesAt n m opens records came m' opens' =
-    (waits : List Piece) (outs : List Out) (h : Holdings) (so_far : List Arrived) → last_step outs ≡ n → Traced outs h so_far → FitsHoldings m opens waits h →
+    (waits : List GraphObject) (outs : List Out) (h : Holdings) (so_far : List Arrived) → last_step outs ≡ n → Traced outs h so_far → FitsHoldings m opens waits h →
     TracesOn m opens waits records came m' opens' waits outs h so_far × (last_step (outs ++ records) ≡ n)
 
 -- it stands there, with as many before it
-pub record StandsAt (list : List Open) (place : ℕ) (o : Open) : Type 0 where
+pub record IsOpenAt (list : List Open) (place : ℕ) (o : Open) : Type 0 where
   pub before : List Open
   pub behind : List Open
   pub all : list ≡ before ++ (o ∷ behind)
@@ -78,10 +78,10 @@ abbrev pub freed_of : Client → Open → Client
 freed_of net o = record net { ports = without (carrier_number o.speaker.carrier) o.speaker.own_port net.ports }
 
 -- What was told of the open is put. Where it has ended, its end follows, it is taken from the list, and its port is free.
-abbrev pub Settles : Option Ended → List Open → Open → List Open → Client → Option ℕ → Option ℕ → Spelling → List Open → Client → Option HasEnded → Logged → Logged → Type 0
-Settles None before o behind net begun awaited s list' net' answer old new =
+abbrev pub EndIsSettled : Option Ended → List Open → Open → List Open → Client → Option ℕ → Option ℕ → Spelling → List Open → Client → Option HasEnded → Logged → Logged → Type 0
+EndIsSettled None before o behind net begun awaited s list' net' answer old new =
     (list' ≡ before ++ (o ∷ behind)) × (net' ≡ net) × (answer ≡ None) × Puts old new (out_texts (step_records begun) ++ s.text)
-Settles (Some e) before o behind net begun awaited s list' net' answer old new =
+EndIsSettled (Some e) before o behind net begun awaited s list' net' answer old new =
     (list' ≡ before ++ behind) × (net' ≡ freed_of net o) × (answer ≡ answer_for awaited o.speaker.number e s)
     × Puts old new (out_texts (step_records begun) ++ (s.text ++ out_texts (ended o.speaker.number e.cause ∷ [])))
 
@@ -89,7 +89,7 @@ Settles (Some e) before o behind net begun awaited s list' net' answer old new =
 pub record ComesAt (suits : Live → Type 0) (came : OpenInput) (way : Way) (begun : Option ℕ) (m : Many) (net : Client) (before : List Open) (o : Open) (behind : List Open) (awaited : Option ℕ) (ended : Option Ended) (answer : Option HasEnded) (m' : Many) (net' : Client) (old new : Logged) : Type 0 where
   pub told : Spelling
   pub does : (l : Live) → IsOpenOf m.graph o l → suits l → Exchanges o l came net (Some way) m.graph m'.graph told ended
-  pub settles : Settles ended before o behind net begun awaited told m'.list net' answer old new
+  pub settles : EndIsSettled ended before o behind net begun awaited told m'.list net' answer old new
   pub noded : AreNoded rank_of_obj m'.graph
 
 -- These opens have a time come to them, in order, after the others: what is left of them, and what they put.

@@ -23,7 +23,7 @@ use Rattle.nb_machine.specs.States.{State}
 use Rattle.nb_machine.specs.Takings.{Over}
 use Rattle.nb_chains.specs.declared.chain.Chain.{Chain}
 use Rattle.nb_chains.specs.declared.kind.ChainKind.{ChainKind}
-use Rattle.nb_traced.specs.Holdings.{Holdings, Piece}
+use Rattle.nb_traced.specs.Holdings.{Holdings, GraphObject}
 use Rattle.nb_traced.specs.Outputs.{Arrived, Traced}
 use Rattle.nb_open.specs.Exchanges.{IsLeaseMessage}
 use Rattle.nb_network.specs.Many.{FitsHoldings, HasLeaseOnlyOf, IsNewestBut, IsStateOf, Many, WaitsBeside}
@@ -72,7 +72,7 @@ pub record NetworkDoes (m : Many) (net : Client) (now : ℕ) (n : ℕ) (r : In) 
   pub arrives : ArrivesAt s n r came
 
 -- the output goes on so
-pub record TracesOn (m : Many) (opens : ℕ) (waits : List Piece) (records : List Out) (came : List Arrived) (m' : Many) (opens' : ℕ) (waits' : List Piece) (outs : List Out) (h : Holdings) (so_far : List Arrived) : Type 0 where
+pub record TracesOn (m : Many) (opens : ℕ) (waits : List GraphObject) (records : List Out) (came : List Arrived) (m' : Many) (opens' : ℕ) (waits' : List GraphObject) (outs : List Out) (h : Holdings) (so_far : List Arrived) : Type 0 where
   pub after : Holdings
   pub traced : Traced (outs ++ records) after (so_far ++ came)
   pub fits : FitsHoldings m' opens' waits' after
@@ -80,7 +80,7 @@ pub record TracesOn (m : Many) (opens : ℕ) (waits : List Piece) (records : Lis
 -- for whatever output they stand with
 abbrev pub Traces : Many → ℕ → List Out → List Arrived → Many → ℕ → Type 0
 Traces m opens records came m' opens' =
-    (waits : List Piece) (outs : List Out) (h : Holdings) (so_far : List Arrived) → Traced outs h so_far → FitsHoldings m opens waits h → TracesOn m opens waits records came m' opens' waits outs h so_far
+    (waits : List GraphObject) (outs : List Out) (h : Holdings) (so_far : List Arrived) → Traced outs h so_far → FitsHoldings m opens waits h → TracesOn m opens waits records came m' opens' waits outs h so_far
 
 -- what waits beside them, waits on
 abbrev pub KeepsWaiting : Many → Many → Type 0

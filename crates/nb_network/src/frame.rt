@@ -6,7 +6,7 @@ ghost use Rattle.nb_machine.specs.CommandRecords.{reply_records};
 ghost use Rattle.nb_machine.specs.States.{State};
 ghost use Rattle.nb_network.specs.Many.{AreSound, IsStateOf};
 ghost use Rattle.nb_network.specs.Receiving.{GoesTo, NoneTakes, ReceivesAt, port_from};
-ghost use Rattle.nb_network.specs.Steps.{StandsAt, counts_by};
+ghost use Rattle.nb_network.specs.Steps.{IsOpenAt, counts_by};
 ghost use Rattle.nb_network.specs.Takes.{TakesRecord};
 ghost use Rattle.nb_open.specs.declared.open.Open.{Open as TheOpen};
 ghost use Rattle.nb_record.specs.Logged.{Puts};
@@ -100,7 +100,7 @@ impl Opens {
     /// The place in the list of the open of this number.
     #[inline(always)]
     fn place_of(&self, number: u64) -> Option<usize>
-        ensures found { IfSome result (λ i. (o : TheOpen) × StandsAt self.now.list i o × (o.speaker.number ≡ number)) }
+        ensures found { IfSome result (λ i. (o : TheOpen) × IsOpenAt self.now.list i o × (o.speaker.number ≡ number)) }
         ensures none { result ≡ None → AllByRecursion (λ o. o.speaker.number ≡ number → ⊥) self.now.list }
     {
         for (place, open) in self.list.iter().enumerate() {
@@ -128,7 +128,7 @@ impl Opens {
         requires sound { (w : ℕ) × (opens : ℕ) × AreSound w opens net.old self.old }
         requires place { place < length self.old.list }
         requires short { length arrival.now.body.now ≤ 1480 }
-        ensures receives { IfOk result (λ r. (o : TheOpen) → (at : StandsAt self.old.list place o) → ReceivesAt self.old net.old at.before o
+        ensures receives { IfOk result (λ r. (o : TheOpen) → (at : IsOpenAt self.old.list place o) → ReceivesAt self.old net.old at.before o
             at.behind rec arrival.now now awaited r.0 self.new net.new log.old log.new) }
         ensures nothing { OnErr result (log.new ≡ log.old) }
         ensures mac { net.new.mac ≡ net.old.mac }

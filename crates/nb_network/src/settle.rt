@@ -1,6 +1,6 @@
 ghost use Rattle.std.specs.Prelude.{◌≡◌, ◌<◌, ℕ, List, ◌∷◌, ◌++◌, [], length, option_copied, Some, IfOk, OnErr};
 ghost use Rattle.nb_defs.specs.Records.{out_texts, ended};
-ghost use Rattle.nb_network.specs.Steps.{Settles, StandsAt, answer_for, freed_of, step_records};
+ghost use Rattle.nb_network.specs.Steps.{EndIsSettled, IsOpenAt, answer_for, freed_of, step_records};
 ghost use Rattle.nb_open.specs.declared.open.Open.{Open as TheOpen};
 ghost use Rattle.nb_record.specs.Logged.{Puts};
 
@@ -31,7 +31,7 @@ impl Opens {
     ) -> Result<Option<HasEnded>, NoMemory>
         requires place { place < length self.old.list }
         ensures graph { self.new.graph ≡ self.old.graph }
-        ensures settles { IfOk result (λ answer. (o : TheOpen) → (at : StandsAt self.old.list place o) → Settles ended at.before o at.behind
+        ensures settles { IfOk result (λ answer. (o : TheOpen) → (at : IsOpenAt self.old.list place o) → EndIsSettled ended at.before o at.behind
             net.old begun awaited desk.now.told.value self.new.list net.new answer log.old log.new) }
         ensures nothing { OnErr result (log.new ≡ log.old) }
         ensures mac { net.new.mac ≡ net.old.mac }
@@ -63,7 +63,7 @@ impl Opens {
     ) -> Result<Option<HasEnded>, NoMemory>
         requires place { place < length self.old.list }
         ensures graph { self.new.graph ≡ self.old.graph }
-        ensures settles { IfOk result (λ answer. (o : TheOpen) → (at : StandsAt self.old.list place o) → Settles (Some ended) at.before o
+        ensures settles { IfOk result (λ answer. (o : TheOpen) → (at : IsOpenAt self.old.list place o) → EndIsSettled (Some ended) at.before o
             at.behind net.old begun awaited desk.now.told.value self.new.list net.new answer log.old log.new) }
         ensures nothing { OnErr result (log.new ≡ log.old) }
         ensures mac { net.new.mac ≡ net.old.mac }

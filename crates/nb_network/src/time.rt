@@ -6,7 +6,7 @@ ghost use Rattle.nb_ledger.specs.declared.event.Way.TheVariants as way;
 ghost use Rattle.nb_machine.specs.Lives.{Live, time as time_comes};
 ghost use Rattle.nb_machine.specs.States.{State};
 ghost use Rattle.nb_network.specs.Many.{AreSound, IsStateOf};
-ghost use Rattle.nb_network.specs.Steps.{ComesAt, StandsAt, TimesCome, place_after};
+ghost use Rattle.nb_network.specs.Steps.{ComesAt, IsOpenAt, TimesCome, place_after};
 ghost use Rattle.nb_network.specs.Takes.{TakesRecord};
 ghost use Rattle.nb_open.specs.declared.ended.Ended.{Ended as TheEnded};
 ghost use Rattle.nb_open.specs.declared.open.Open.{Open as TheOpen};
@@ -99,7 +99,7 @@ impl Opens {
         requires sound { (w : ℕ) × (opens : ℕ) × AreSound w opens net.old self.old }
         requires place { place < length self.old.list }
         ensures comes { IfOk result (λ r. (ended : Option TheEnded) × (r.1 ≡ place_after ended place) × ((o : TheOpen)
-            → (at : StandsAt self.old.list place o) → ComesAt (λ (l : Live). Unit {0}) (time_comes now) way.Time None self.old net.old at.before o
+            → (at : IsOpenAt self.old.list place o) → ComesAt (λ (l : Live). Unit {0}) (time_comes now) way.Time None self.old net.old at.before o
             at.behind awaited ended r.0 self.new net.new gathered.old gathered.new)) }
         ensures mac { net.new.mac ≡ net.old.mac }
         ensures address { net.new.address ≡ net.old.address }

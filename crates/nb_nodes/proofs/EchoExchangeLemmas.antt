@@ -4,7 +4,7 @@ use Rattle.std.specs.Option.{is_some}
 use Rattle.nb_terms.specs.declared.acts.Acts.{Acts}
 use Rattle.nb_terms.specs.declared.cause.Cause.{Cause}
 use Rattle.nb_ping.specs.declared.state.State.{State}
-use Rattle.nb_ping.specs.Pings.{Pinged, AsksSimply, asks_try, echo_request}
+use Rattle.nb_ping.specs.Pings.{Pinged, AsksOneEcho, asks_try, echo_request}
 use Rattle.nb_ping.specs.PingCalls.{PingCall, PingEntry, ping_entry, ping_ended}
 use Rattle.nb_ping.specs.PingStands.{PingStands}
 use Rattle.nb_ping.proofs.PingCallsLemmas.{ping_ended-append}
@@ -27,7 +27,7 @@ ping_more old core call acts rec once = λ p start h stands opened. record {
 }
 
 -- nothing goes up
-pub nothing_only : (len : ℕ) (acts : Acts) → AsksSimply acts → GivesOnly len acts None
+pub nothing_only : (len : ℕ) (acts : Acts) → AsksOneEcho acts → GivesOnly len acts None
 nothing_only len acts simple = record { few = simple.few; no_range = simple.gives; above = tt; within = tt }
 
 -- a ping was started

@@ -14,7 +14,7 @@ use Rattle.nb_dnsmsg.specs.declared.answer.Answer.{Answer}
 use Rattle.nb_dnsmsg.specs.Names.{IsLabel}
 use Rattle.nb_dns.specs.declared.state.State.{State}
 use Rattle.nb_dns.specs.WrittenNames.{name_labels, without_final_dot, IsLookupName}
-use Rattle.nb_dns.specs.Lookups.{Lookup, AsksSimply, asks_try, query_to, address_given}
+use Rattle.nb_dns.specs.Lookups.{Lookup, AsksOneQuery, asks_try, query_to, address_given}
 use Rattle.nb_dns.specs.LookupCalls.{DnsDatagram, LookupCall, arrived, LookupEntry, lookup_entry, datagrams, lookup_ended, IsSilentCall, FirstReply}
 use Rattle.nb_dns.specs.LookupStands.{LookupStands}
 use Rattle.nb_dns.proofs.CallsLemmas.{lookup_ended-append}
@@ -78,7 +78,7 @@ pub lookup_more : (old core : State) (call : LookupCall) (acts : Acts) (m : Said
 lookup_more old core call acts m found given once replied silent e =
     subst (λ (z : List Said). CallsMore lookup_service old core (lookup_entry call) acts m.rec z) (sym (ap (said_up m) e ∙ address_says m (is_some acts.over) found)) (more_said old core call acts m.rec found once replied silent)
 
-pub address_only : (len : ℕ) (acts : Acts) (found : Option Ip4) (given : Option (Emit Load)) → given ≡ address_emit (is_some acts.over) found → AsksSimply acts → GivesOnly len acts given
+pub address_only : (len : ℕ) (acts : Acts) (found : Option Ip4) (given : Option (Emit Load)) → given ≡ address_emit (is_some acts.over) found → AsksOneQuery acts → GivesOnly len acts given
 address_only len acts found given e simple =
     subst (λ (z : Option (Emit Load)). GivesOnly len acts z) (sym e) (record { few = simple.few; no_range = simple.gives; above = address_above (is_some acts.over) found; within = address_up len (is_some acts.over) found })
 

@@ -35,39 +35,39 @@ pub record Service (S B C : Type 0) : Type 1 where
 
 -- How far such an object is: it hasn't begun; it was begun so, at a time, and these calls were made of its core; it has
 -- ended after them; or it ended before it began.
-pub data Exchange (B C : Type 0) : Type 0 where
-  not_begun : Exchange B C
-  asking : (b : B) (start : ℕ) (calls : List C) → Exchange B C
-  finished : (b : B) (start : ℕ) (calls : List C) → Exchange B C
-  called_off : Exchange B C
+pub data AskerState (B C : Type 0) : Type 0 where
+  not_begun : AskerState B C
+  asking : (b : B) (start : ℕ) (calls : List C) → AskerState B C
+  finished : (b : B) (start : ℕ) (calls : List C) → AskerState B C
+  called_off : AskerState B C
 
-abbrev pub is_not_begun : {B C : Type 0} → Exchange B C → Bool
+abbrev pub is_not_begun : {B C : Type 0} → AskerState B C → Bool
 is_not_begun not_begun = true
 is_not_begun (asking b start calls) = false
 is_not_begun (finished b start calls) = false
 is_not_begun called_off = false
 
-abbrev pub is_asking : {B C : Type 0} → Exchange B C → Bool
+abbrev pub is_asking : {B C : Type 0} → AskerState B C → Bool
 is_asking not_begun = false
 is_asking (asking b start calls) = true
 is_asking (finished b start calls) = false
 is_asking called_off = false
 
-abbrev pub exchange_has_ended : {B C : Type 0} → Exchange B C → Bool
+abbrev pub exchange_has_ended : {B C : Type 0} → AskerState B C → Bool
 exchange_has_ended not_begun = false
 exchange_has_ended (asking b start calls) = false
 exchange_has_ended (finished b start calls) = true
 exchange_has_ended called_off = true
 
 -- at its end
-abbrev pub at_end : {B C : Type 0} → Exchange B C → Exchange B C
+abbrev pub at_end : {B C : Type 0} → AskerState B C → AskerState B C
 at_end not_begun = called_off
 at_end (asking b start calls) = finished b start calls
 at_end (finished b start calls) = finished b start calls
 at_end called_off = called_off
 
 -- after these calls, of which the last asked this
-abbrev pub after_calls : {B C : Type 0} → B → ℕ → List C → Acts → Exchange B C
+abbrev pub after_calls : {B C : Type 0} → B → ℕ → List C → Acts → AskerState B C
 after_calls b start calls acts = if is_some acts.over then finished b start calls else asking b start calls
 
 -- a message from above begins it
@@ -75,7 +75,7 @@ abbrev pub begins_service : {S B C : Type 0} → Service S B C → Said → Bool
 begins_service s m = (m.tag == tag_number Begin) && is_some (s.asked m.bytes)
 
 -- an entry that calls nothing of the core
-abbrev pub calls_nothing : {S B C : Type 0} → Service S B C → Exchange B C → NodeEntry Obj Load → Bool
+abbrev pub calls_nothing : {S B C : Type 0} → Service S B C → AskerState B C → NodeEntry Obj Load → Bool
 calls_nothing s v (up slot m now done fx) = done && not (is_asking v && s.takes slot m)
 calls_nothing s v (down m now done fx) = done && not (is_not_begun v && begins_service s m)
 calls_nothing s v (closed slot cause now fx) = not (not (exchange_has_ended v) && nat_lt slot 2)
@@ -83,7 +83,7 @@ calls_nothing s v (time now done fx) = done && not (is_asking v)
 calls_nothing s v (regain load) = true
 
 -- it ran out of memory, or the port above or below was closed
-abbrev pub ends_exchange : {B C : Type 0} → Exchange B C → NodeEntry Obj Load → Bool
+abbrev pub ends_exchange : {B C : Type 0} → AskerState B C → NodeEntry Obj Load → Bool
 ends_exchange v (up slot m now done fx) = not done
 ends_exchange v (down m now done fx) = not done
 ends_exchange v (closed slot cause now fx) = not (exchange_has_ended v) && nat_lt slot 2
@@ -113,22 +113,22 @@ GivesAtEnd s rec b calls None given = given ≡ []
 GivesAtEnd s rec b calls (Some cause) given = s.gives rec b calls given
 
 -- One entry of such an object. A close above or below is passed on to the other side.
-pub data Exchanges {S B C : Type 0} (s : Service S B C) : Exchange B C → NodeEntry Obj Load → Exchange B C → Type 0 where
+pub data AskerTakes {S B C : Type 0} (s : Service S B C) : AskerState B C → NodeEntry Obj Load → AskerState B C → Type 0 where
   is_begun : (b : B) (m : Said) (now : ℕ) (fx : Fx Obj Load) → m.tag ≡ tag_number Begin → s.asked m.bytes ≡ Some b
-      → AsksAndGives m (s.opening b) [] fx → Exchanges s not_begun (down m now true fx) (asking b now [])
+      → AsksAndGives m (s.opening b) [] fx → AskerTakes s not_begun (down m now true fx) (asking b now [])
   takes_message : (b : B) (start : ℕ) (calls : List C) (slot : ℕ) (m : Said) (now : ℕ) (fx : Fx Obj Load) (acts : Acts) (given : List Said) → s.takes slot m ≡ true
       → AsksAndGives m acts given fx → TakesWhole m fx → GivesAtEnd s m.rec b (calls ++ s.received m now acts ∷ []) acts.over given
-      → Exchanges s (asking b start calls) (up slot m now true fx) (after_calls b start (calls ++ s.received m now acts ∷ []) acts)
+      → AskerTakes s (asking b start calls) (up slot m now true fx) (after_calls b start (calls ++ s.received m now acts ∷ []) acts)
   takes_time : (b : B) (start : ℕ) (calls : List C) (now : ℕ) (fx : Fx Obj Load) (acts : Acts) (given : List Said)
       → AsksAndGives silence acts given fx → GivesAtEnd s 0 b (calls ++ s.timed now acts ∷ []) acts.over given
-      → Exchanges s (asking b start calls) (time now true fx) (after_calls b start (calls ++ s.timed now acts ∷ []) acts)
-  is_ended : (v : Exchange B C) (e : NodeEntry Obj Load) → ends_exchange v e ≡ true → PassesClose e → Exchanges s v e (at_end v)
-  stays_idle : (v : Exchange B C) (e : NodeEntry Obj Load) → calls_nothing s v e ≡ true → AsksOfIdle e → Exchanges s v e v
+      → AskerTakes s (asking b start calls) (time now true fx) (after_calls b start (calls ++ s.timed now acts ∷ []) acts)
+  is_ended : (v : AskerState B C) (e : NodeEntry Obj Load) → ends_exchange v e ≡ true → PassesClose e → AskerTakes s v e (at_end v)
+  stays_idle : (v : AskerState B C) (e : NodeEntry Obj Load) → calls_nothing s v e ≡ true → AsksOfIdle e → AskerTakes s v e v
 
 -- the entries lead from one to the other
-abbrev pub LeadsTo : {S B C : Type 0} → Service S B C → Exchange B C → List (NodeEntry Obj Load) → Exchange B C → Type 0
-LeadsTo s v [] w = v ≡ w
-LeadsTo {S} {B} {C} s v (e ∷ t) w = (u : Exchange B C) × Exchanges s v e u × LeadsTo s u t w
+abbrev pub AskerLeadsTo : {S B C : Type 0} → Service S B C → AskerState B C → List (NodeEntry Obj Load) → AskerState B C → Type 0
+AskerLeadsTo s v [] w = v ≡ w
+AskerLeadsTo {S} {B} {C} s v (e ∷ t) w = (u : AskerState B C) × AskerTakes s v e u × AskerLeadsTo s u t w
 
 abbrev pub stage_is_waiting : {S : Type 0} → Stage S → Bool
 stage_is_waiting Waiting = true
@@ -141,21 +141,21 @@ stage_is_over (Running core) = false
 stage_is_over Over = true
 
 -- what the core itself is meanwhile
-pub data IsAt {S B C : Type 0} (s : Service S B C) : Stage S → Exchange B C → Type 0 where
-  before_it : IsAt s Waiting not_begun
-  during_it : (b : B) (start : ℕ) (calls : List C) (core : S) → s.stands b start core calls → s.has_ended calls ≡ false → IsAt s (Running core) (asking b start calls)
-  after_it : (b : B) (start : ℕ) (calls : List C) → s.meets b start calls → IsAt s Over (finished b start calls)
-  without_it : IsAt s Over called_off
+pub data AskerIsAt {S B C : Type 0} (s : Service S B C) : Stage S → AskerState B C → Type 0 where
+  before_it : AskerIsAt s Waiting not_begun
+  during_it : (b : B) (start : ℕ) (calls : List C) (core : S) → s.stands b start core calls → s.has_ended calls ≡ false → AskerIsAt s (Running core) (asking b start calls)
+  after_it : (b : B) (start : ℕ) (calls : List C) → s.meets b start calls → AskerIsAt s Over (finished b start calls)
+  without_it : AskerIsAt s Over called_off
 
 -- An object at this stage stands for a trace whose entries lead from the beginning to where its core is.
 pub record StandsBy {S B C : Type 0} (s : Service S B C) (stage : Stage S) (t : List (NodeEntry Obj Load)) : Type 0 where
-  pub exchange : Exchange B C
-  pub run : LeadsTo s not_begun t exchange
-  pub at : IsAt s stage exchange
+  pub exchange : AskerState B C
+  pub run : AskerLeadsTo s not_begun t exchange
+  pub at : AskerIsAt s stage exchange
 
 -- wherever the exchange was before an entry, it is afterwards where the entry leads
 abbrev pub GoesOnAs : {S B C : Type 0} → Service S B C → Stage S → Stage S → NodeEntry Obj Load → Type 0
-GoesOnAs {S} {B} {C} s old new e = (v : Exchange B C) → IsAt s old v → (w : Exchange B C) × Exchanges s v e w × IsAt s new w
+GoesOnAs {S} {B} {C} s old new e = (v : AskerState B C) → AskerIsAt s old v → (w : AskerState B C) × AskerTakes s v e w × AskerIsAt s new w
 
 -- a core that stands for its calls keeps its promise of them
 abbrev pub StandsMeets : {S B C : Type 0} → Service S B C → Type 0
@@ -171,14 +171,14 @@ pub record IsStarted {S B C : Type 0} (s : Service S B C) (bytes : List ℕ) (st
   pub goes_on : is_some acts.over ≡ false
 
 -- a core stands for these calls, of which the last asked this and gave this up
-pub record Calls {S B C : Type 0} (s : Service S B C) (core : S) (b : B) (start : ℕ) (calls : List C) (acts : Acts) (rec : ℕ) (given : List Said) : Type 0 where
+pub record CoreCalled {S B C : Type 0} (s : Service S B C) (core : S) (b : B) (start : ℕ) (calls : List C) (acts : Acts) (rec : ℕ) (given : List Said) : Type 0 where
   pub stands : s.stands b start core calls
   pub ends : s.has_ended calls ≡ is_some acts.over
   pub gives : GivesAtEnd s rec b calls acts.over given
 
 -- the core stands for one call more, and this goes up
 abbrev pub CallsMore : {S B C : Type 0} → Service S B C → S → S → (Acts → C) → Acts → ℕ → List Said → Type 0
-CallsMore {S} {B} {C} s old core call acts rec given = (b : B) (start : ℕ) (before : List C) → s.stands b start old before → s.has_ended before ≡ false → Calls s core b start (before ++ call acts ∷ []) acts rec given
+CallsMore {S} {B} {C} s old core call acts rec given = (b : B) (start : ℕ) (before : List C) → s.stands b start old before → s.has_ended before ≡ false → CoreCalled s core b start (before ++ call acts ∷ []) acts rec given
 
 -- A call asks for at most one message down, and gives nothing up but this, by slot 0 and within so many bytes.
 pub record GivesOnly (len : ℕ) (acts : Acts) (given : Option (Emit Load)) : Type 0 where

@@ -35,7 +35,7 @@ use Rattle.nb_machine.specs.Conclusions.{Conclusion, keeps, tells, fails, boots,
 use Rattle.nb_machine.specs.Effects.{Effect, says, asks, goes, sleeps, shuts_device, inquires, on_images, concludes_at_once, Surroundings, taken_effect, image_outcome_effect, image_answer_effect, settled_effect, effect_in, effect, expanded_effect, expansion, words_effect, planned_effect, plan_effect, device_effect, unless_full, table_after, up_after}
 use Rattle.nb_machine.specs.Queries.{for_lease}
 use Rattle.nb_machine.specs.Errands.{Onward}
-use Rattle.nb_machine.specs.Findings.{Settled}
+use Rattle.nb_machine.specs.Findings.{Settlement}
 use Rattle.nb_machine.specs.Kinds.{fetched}
 use Rattle.nb_machine.specs.Running.{Running}
 use Rattle.nb_machine.specs.States.{State}
@@ -207,7 +207,7 @@ UpshotFits depth (concludes c) = Fits depth c
 UpshotFits depth (settles x) = Unit {0}
 UpshotFits depth (goes_onward next) = Unit {0}
 
-next_fits : (depth : ℕ) (o : Option Onward) (x : Settled) → UpshotFits depth (option_map_or goes_onward o (settles x))
+next_fits : (depth : ℕ) (o : Option Onward) (x : Settlement) → UpshotFits depth (option_map_or goes_onward o (settles x))
 next_fits depth None x = tt
 next_fits depth (Some next) x = tt
 

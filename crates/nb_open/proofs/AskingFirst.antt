@@ -34,7 +34,7 @@ use Rattle.nb_open.specs.declared.open.Open.{Open}
 use Rattle.nb_open.specs.declared.opening.Opening.{Opening}
 use Rattle.nb_open.specs.declared.opening.Opening.TheVariants.{File, Name, Lease, Echo}
 use Rattle.nb_open.specs.Making.{IsAskOf}
-use Rattle.nb_open.specs.Open.{AsksRight, IsCalled, IsOpenOf, carrier_for, kind_for}
+use Rattle.nb_open.specs.Open.{AsksRight, IsSpeakerOf, IsOpenOf, carrier_for, kind_for}
 use Rattle.nb_open.specs.Opening.{CanOpen, carrier_by, chain_kind, kind_by, live_by, own_by, server_by, speaker_for}
 use Rattle.nb_open.proofs.CoreKinds.{echo_speaks, lease_speaks, name_speaks}
 use Rattle.nb_open.proofs.Doings.{put_by}
@@ -67,7 +67,7 @@ asks_right (Lease a) = (refl, refl)
 asks_right (Echo a) = tt
 
 -- the open has the machine's number, server, port and kind
-pub called_by : (a : Opening) (number now : ℕ) (o : Open) → o.speaker ≡ speaker_for a number → o.kind ≡ chain_kind a → IsCalled o (live_by a number now)
+pub called_by : (a : Opening) (number now : ℕ) (o : Open) → o.speaker ≡ speaker_for a number → o.kind ≡ chain_kind a → IsSpeakerOf o (live_by a number now)
 called_by a number now o speaker kind = record {
   number = sym (ap (λ z. z.number) speaker);
   server = sym (ap (λ z. z.server.0) speaker);
@@ -99,7 +99,7 @@ pub data SetsOrFails (a : Opening) (number now : ℕ) (link : Client) (o : Open)
   runs_short : first_close ns ≡ Some no_memory → SetsOrFails a number now link o new ns
 
 module _ (number now : ℕ) (link : Client) (o : Open) (old new : Objects Obj) (bytes : List ℕ) (rec : ℕ) (m n : Heard) (k : BeginsChain o.chain old new bytes now rec m n) where
-  pub begins_by : (a : Opening) → CanOpen a → IsAskOf a bytes → IsReadyChain (chain_kind a) o.chain old → (called : IsCalled o (live_by a number now)) → SetsOrFails a number now link o new k.ns
+  pub begins_by : (a : Opening) → CanOpen a → IsAskOf a bytes → IsReadyChain (chain_kind a) o.chain old → (called : IsSpeakerOf o (live_by a number now)) → SetsOrFails a number now link o new k.ns
   begins_by (File a) can asks ready called = by (k.file ready.0 (ask_value a) ready.1 ready.2 asks)
     where
       by : BeginDoes (own_graph o.chain new) o.chain.top.0 ready.0.0 (begun_with (ask_value a)) now rec k.ns → SetsOrFails (File a) number now link o new k.ns

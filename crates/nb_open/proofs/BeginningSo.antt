@@ -7,7 +7,7 @@ use Rattle.nb_stack.specs.Client.{Client}
 use Rattle.nb_chains.specs.declared.chain.Chain.{Chain}
 use Rattle.nb_chains.specs.declared.kind.ChainKind.{ChainKind}
 use Rattle.nb_teller.specs.declared.teller.Teller.{Teller}
-use Rattle.nb_teller.specs.Spelling.{IsBlank, IsWhole, Spelling}
+use Rattle.nb_teller.specs.Spelling.{IsBlank, IsWholeSpelling, Spelling}
 use Rattle.nb_teller.proofs.Tellers.{told_is}
 use Rattle.nb_open.specs.declared.beginning.Begun.{Begun}
 use Rattle.nb_open.specs.declared.opening.Opening.{Opening}
@@ -19,7 +19,7 @@ use Rattle.nb_open.proofs.LeavingElse.{leaves_else}
 use Rattle.nb_open.proofs.ObjectsMade.{makes_objects}
 
 pub begins_open : (a : Opening) (number now : ℕ) (waits : Option Chain) (link : Client) (old mid new : Objects Obj) (before last : Teller) (made told : Spelling) (b : Begun) (kind : ChainKind) → kind ≡ chain_kind a → b.«open».kind ≡ chain_kind a → b.«open».speaker ≡ speaker_for a number →
-    AwaitsFor (chain_kind a) waits old → MakesChain kind waits b.«open».chain old mid (told_so_far before) (told_so_far last) → IsBlank before.told.value → made ≡ last.told.value → IsWhole made → StartsOpen a number now link b.«open» mid new told b.ended →
+    AwaitsFor (chain_kind a) waits old → MakesChain kind waits b.«open».chain old mid (told_so_far before) (told_so_far last) → IsBlank before.told.value → made ≡ last.told.value → IsWholeSpelling made → StartsOpen a number now link b.«open» mid new told b.ended →
     BeginsOpen a number now waits link old new made told b
 begins_open a number now waits link old mid new before last made told b kind same own speaker awaits makes blank is whole starts =
     let m : MakesChain (chain_kind a) waits b.«open».chain old mid (told_so_far before) (told_so_far last) = subst (λ k. MakesChain k waits b.«open».chain old mid (told_so_far before) (told_so_far last)) same makes in

@@ -23,7 +23,7 @@ use Rattle.nb_chains.proofs.GivingLemmas.{each_append}
 use Rattle.nb_chains.proofs.GoingOn.{keeps_both}
 use Rattle.nb_teller.specs.declared.speaker.Speaker.{Speaker}
 use Rattle.nb_teller.specs.declared.teller.Teller.{Teller}
-use Rattle.nb_teller.specs.Spelling.{IsBlank, IsSpelled, IsWhole, Spelling}
+use Rattle.nb_teller.specs.Spelling.{IsBlank, IsSpelled, IsWholeSpelling, Spelling}
 use Rattle.nb_teller.specs.Tellings.{told_records}
 use Rattle.nb_teller.proofs.Tellers.{told_is}
 use Rattle.nb_open.specs.declared.beginning.Begun.{Begun}
@@ -97,7 +97,7 @@ module _ (kind : ChainKind) (w : Chain) (b : Begun) (old first new : Objects Obj
   }
 
 pub begins_beside : (kind : ChainKind) (a : Opening) (number now : ℕ) (link : Client) (old first mid new : Objects Obj) (before between last : Teller) (made told : Spelling) (w : Chain) (b : Begun) (own : ChainKind) → own ≡ chain_kind a → b.«open».kind ≡ chain_kind a →
-    b.«open».speaker ≡ speaker_for a number → WaitsNew kind w old first (told_so_far before) (told_so_far between) → MakesChain own None b.«open».chain first mid (told_so_far between) (told_so_far last) → IsBlank before.told.value → made ≡ last.told.value → IsWhole made →
+    b.«open».speaker ≡ speaker_for a number → WaitsNew kind w old first (told_so_far before) (told_so_far between) → MakesChain own None b.«open».chain first mid (told_so_far between) (told_so_far last) → IsBlank before.told.value → made ≡ last.told.value → IsWholeSpelling made →
     StartsOpen a number now link b.«open» mid new told b.ended → BeginsBeside kind a number now link old new made told w b
 begins_beside kind a number now link old first mid new before between last made told w b own same own_kind speaker waits makes blank is whole starts =
     let m : MakesChain (chain_kind a) None b.«open».chain first mid (told_so_far between) (told_so_far last) = subst (λ k. MakesChain k None b.«open».chain first mid (told_so_far between) (told_so_far last)) same makes in

@@ -20,7 +20,7 @@ use Rattle.nb_opens.specs.Notices.{tells}
 use Rattle.nb_stack.specs.Client.{Client}
 use Rattle.nb_stack.specs.Sends.{put_on, way_of}
 use Rattle.nb_machine.specs.Sendings.{has_route, send_records, try_records}
-use Rattle.nb_traced.specs.Pieces.{AreInner, BeginsBy, EndsWithin, IsCallOn, IsInner, IsOfOpen, IsOutsideWay, event_records}
+use Rattle.nb_traced.specs.Pieces.{AreInner, BeginsBy, EndsEntering, IsCallOn, IsInnerEvent, IsOfOpen, IsOutsideWay, event_records}
 use Rattle.nb_chains.specs.Shapes.{GoesDownOut, HasShape, IsNoCall, IsTagUp, LeadsDown, SendsNone}
 use Rattle.nb_teller.specs.declared.speaker.Speaker.{Speaker}
 use Rattle.nb_teller.specs.Speakers.{datagram_of}
@@ -34,7 +34,7 @@ each_append P (x ∷ xs) ys p q = (p.0, each_append P xs ys p.1 q)
 
 -- EVENTS
 
-pub inner_event : (x : ℕ) (g : GraphEvent) → IsNoCall x g → IsInner x g
+pub inner_event : (x : ℕ) (g : GraphEvent) → IsNoCall x g → IsInnerEvent x g
 inner_event x (Entered p Up) h = h
 inner_event x (Entered p Time) h = h
 inner_event x (Entered p Down) h = h
@@ -152,7 +152,7 @@ begins_by x None entry first downs e h = let l : LeadsDown x None first downs = 
 begins_by x (Some way) entry first downs (p, e, obj, out) h = (p, subst (λ z. LeadsDown x z first downs) e h, obj, out)
 
 inside_by : (net : Client) (who : Speaker) (x : ℕ) (by : Option Way) (entry : Option GraphEvent) (first : List GraphEvent) (downs : List Notice) → IsEntryBy x by entry → LeadsDown x entry first downs →
-    (told_records net who downs ≡ []) ⊎ EndsWithin x first
+    (told_records net who downs ≡ []) ⊎ EndsEntering x first
 inside_by net who x by entry first [] e h = inl refl
 inside_by net who x None entry first (d ∷ downs) e h =
     let l : LeadsDown x None first (d ∷ downs) = subst (λ z. LeadsDown x z first (d ∷ downs)) e h in

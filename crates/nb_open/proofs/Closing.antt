@@ -11,12 +11,12 @@ use Rattle.nb_nodes.specs.declared.obj.Obj.{Obj}
 use Rattle.nb_opens.specs.Notices.{first_close, or_else}
 use Rattle.nb_stack.specs.Client.{Client}
 use Rattle.nb_chains.specs.Calls.{ClosesChain, IsOpenChain, closing_notices}
-use Rattle.nb_chains.specs.Chains.{GoesOn, chain_ids, last_serial, released_notices}
+use Rattle.nb_chains.specs.Chains.{AreStillChained, chain_ids, last_serial, released_notices}
 use Rattle.nb_chains.proofs.Opened.{under_way_open}
 use Rattle.nb_chains.proofs.ShapesOf.{above_shape}
 use Rattle.nb_teller.specs.declared.speaker.Speaker.{Speaker}
 use Rattle.nb_teller.specs.declared.teller.Teller.{Teller}
-use Rattle.nb_teller.specs.Spelling.{IsBlank, IsSpelled, IsWhole, Spelling}
+use Rattle.nb_teller.specs.Spelling.{IsBlank, IsSpelled, IsWholeSpelling, Spelling}
 use Rattle.nb_teller.specs.Tellings.{told_records}
 use Rattle.nb_opens.proofs.CloseLemmas.{first_close-append}
 use Rattle.nb_teller.proofs.Tellers.{told_is}
@@ -63,7 +63,7 @@ leaves_close o link cause old new m n s left spelled =
     }
 
 pub closes_so : (o : Open) (cause : Cause) (link : Client) (old mid new : Objects Obj) (brought : Option (List ℕ)) (before middle last : Teller) (s : Spelling) → LivesSome old o → before.net.now ≡ link → before.who.now ≡ o.speaker → IsBlank before.told.value →
-    GoesOn (chain_ids o.chain) old mid → ClosesChain o.chain old mid cause (told_so_far before) (told_so_far middle) → LetsChainGo o.chain brought mid new (told_so_far middle) (told_so_far last) → s ≡ last.told.value → IsWhole s → ClosesOpen o cause link old new s
+    AreStillChained (chain_ids o.chain) old mid → ClosesChain o.chain old mid cause (told_so_far before) (told_so_far middle) → LetsChainGo o.chain brought mid new (told_so_far middle) (told_so_far last) → s ≡ last.told.value → IsWholeSpelling s → ClosesOpen o cause link old new s
 closes_so o cause link old mid new brought before middle last s lives same_net same_who blank on closes lets same whole =
     let left = closes_leave o.chain brought cause old mid new (told_so_far before) (told_so_far middle) (told_so_far last) (lives_open old o lives) on closes lets in
     leaves_close o link cause old new (told_so_far before) (told_so_far last) s left (told_is link o.speaker before last s (closing_notices o.chain.top.0 o.chain.below cause ++ released_notices o.chain) same_net same_who blank left.gives.given same whole)

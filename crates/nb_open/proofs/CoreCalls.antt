@@ -30,7 +30,7 @@ use Rattle.nb_teller.specs.Deliveries.{delivered_bytes, delivered_address}
 use Rattle.nb_teller.specs.Tellings.{any_lacks_route}
 use Rattle.nb_open.specs.declared.open.Open.{Open}
 use Rattle.nb_open.specs.Exchanges.{IsLeaseMessage, with_exchange}
-use Rattle.nb_open.specs.Open.{IsAsking, IsCalled, IsUnderWay}
+use Rattle.nb_open.specs.Open.{IsAskingCore, IsSpeakerOf, IsUnderWay}
 use Rattle.nb_open.proofs.Delivering.{no_bytes_echoed}
 use Rattle.nb_open.proofs.Doings.{Did, fails, goes, last_by, overs, put_by}
 use Rattle.nb_open.proofs.Downs.{AreSendsBy, downs_lack, downs_others}
@@ -103,11 +103,11 @@ module _ {S B C : Type 0} (s : Service S B C) (kind : ℕ) (b : B) (o : Open) (l
   -- what is known of an open whose core this is
   pub record CoreCall : Type 0 where
     pub alone : o.chain.below ≡ None
-    pub called : IsCalled o l
+    pub called : IsSpeakerOf o l
     pub more : (put : List Out) (acts : Acts) → put ≡ core_records l.number l.server link acts → CoreExchanged s l.number l.server (calls ++ call acts ∷ []) (l.exchanges ++ exchange came link put ∷ [])
     pub sends : (acts : Acts) → s.meets b l.since (calls ++ call acts ∷ []) → AreSendsBy o.speaker acts.sends.items
     pub gives : GivesUser s
-    pub under_way : (put : List Out) → IsAsking s kind b o.chain new (with_exchange l came link put) → IsUnderWay l.kind o.chain new (with_exchange l came link put)
+    pub under_way : (put : List Out) → IsAskingCore s kind b o.chain new (with_exchange l came link put) → IsUnderWay l.kind o.chain new (with_exchange l came link put)
     pub keeps : (put : List Out) → KeepsCore s b (with_exchange l came link put) → Keeps (with_exchange l came link put)
     pub finds : (put : List Out) (acts : Acts) (given : List Said) → CoreExchanged s l.number l.server (calls ++ call acts ∷ []) (l.exchanges ++ exchange came link put ∷ []) → s.gives rec b (calls ++ call acts ∷ []) given →
         Finds (with_exchange l came link put) (alone_call o.chain.top.0 p by rec acts given)
@@ -120,7 +120,7 @@ module _ {S B C : Type 0} (s : Service S B C) (kind : ℕ) (b : B) (o : Open) (l
     lacks_is : (acts : Acts) (given : List Said) → AllByRecursion (λ (m : Said). IsTagUp m.tag) given → s.meets b l.since (calls ++ call acts ∷ []) → ns ≡ alone_call o.chain.top.0 p by rec acts given → any_lacks_route link o.speaker ns ≡ finds_none link acts
     lacks_is acts given up meets same = ap (any_lacks_route link o.speaker) same ∙ alone_lacks link o o.chain.top.0 p by rec acts given up (k.sends acts meets)
 
-    called_still : (put : List Out) → IsCalled o (with_exchange l came link put)
+    called_still : (put : List Out) → IsSpeakerOf o (with_exchange l came link put)
     called_still put = record { number = k.called.number; server = k.called.server; own = k.called.own; device = k.called.device; kind = k.called.kind; carrier = k.called.carrier; asks = k.called.asks }
 
     pub core_did : AsksMore s kind (own_graph o.chain new) o.chain.top.0 b l.since calls p by rec call ns → Did o l came link new ns

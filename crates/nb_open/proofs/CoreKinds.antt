@@ -41,7 +41,7 @@ use Rattle.nb_teller.specs.Deliveries.{delivered_bytes}
 use Rattle.nb_teller.specs.Speakers.{carrier_number, datagram_of}
 use Rattle.nb_open.specs.declared.open.Open.{Open}
 use Rattle.nb_open.specs.Exchanges.{IsLeaseMessage}
-use Rattle.nb_open.specs.Open.{AsksRight, IsCalled, carrier_for}
+use Rattle.nb_open.specs.Open.{AsksRight, IsSpeakerOf, carrier_for}
 use Rattle.nb_open.proofs.CoreCalls.{Finds}
 use Rattle.nb_open.proofs.CoreReads.{all_arrived, all_given}
 use Rattle.nb_open.proofs.Delivering.{delivers_ack, delivers_address, no_bytes_looked_up, no_bytes_echoed, no_address_leased, no_address_echoed}
@@ -66,37 +66,37 @@ either_by : (who : Speaker) (acts : Acts) (m : SendTo) (port : ℕ) (body : List
 either_by who acts m port body same (inl e) = none_by who acts e
 either_by who acts m port body same (inr e) = one_by who acts m port body same e
 
-carries : (o : Open) (l : Live) (k : OpenKind) → IsCalled o l → l.kind ≡ k → o.speaker.carrier ≡ carrier_for k
+carries : (o : Open) (l : Live) (k : OpenKind) → IsSpeakerOf o l → l.kind ≡ k → o.speaker.carrier ≡ carrier_for k
 carries o l k is e = is.carrier ∙ ap carrier_for e
 
-pub name_speaks : (o : Open) (l : Live) (id : ℕ) → IsCalled o l → l.kind ≡ dns id → datagram_of o.speaker 53 (query_to (look_up_of id l)).body.items ≡ query_to (look_up_of id l)
+pub name_speaks : (o : Open) (l : Live) (id : ℕ) → IsSpeakerOf o l → l.kind ≡ dns id → datagram_of o.speaker 53 (query_to (look_up_of id l)).body.items ≡ query_to (look_up_of id l)
 name_speaks o l id is e = spoken o.speaker Udp l.server l.own 53 (query_to (look_up_of id l)).body.items (carries o l (dns id) is e) is.server is.own
 
-pub lease_speaks : (o : Open) (l : Live) (a : Asker) (body : List ℕ) → IsCalled o l → l.kind ≡ dhcp a → datagram_of o.speaker 67 body ≡ to_servers body
+pub lease_speaks : (o : Open) (l : Live) (a : Asker) (body : List ℕ) → IsSpeakerOf o l → l.kind ≡ dhcp a → datagram_of o.speaker 67 body ≡ to_servers body
 lease_speaks o l a body is e =
     let right : AsksRight (dhcp a) l.server l.own = subst (λ k. AsksRight k l.server l.own) e is.asks in
     spoken o.speaker Udp 4294967295 68 67 body (carries o l (dhcp a) is e) (sym right.0 ∙ is.server) (sym right.1 ∙ is.own)
 
-pub echo_speaks : (o : Open) (l : Live) → IsCalled o l → l.kind ≡ ping → datagram_of o.speaker 0 [] ≡ echo_request (ping_of l)
+pub echo_speaks : (o : Open) (l : Live) → IsSpeakerOf o l → l.kind ≡ ping → datagram_of o.speaker 0 [] ≡ echo_request (ping_of l)
 echo_speaks o l is e = spoken o.speaker Icmp l.server l.own 0 [] (carries o l ping is e) is.server is.own
 
 -- WHAT THEY SEND
 
-pub name_sends : (o : Open) (l : Live) (id start : ℕ) (calls : List LookupEntry) (call : LookupCall) (acts : Acts) → IsCalled o l → l.kind ≡ dns id →
+pub name_sends : (o : Open) (l : Live) (id start : ℕ) (calls : List LookupEntry) (call : LookupCall) (acts : Acts) → IsSpeakerOf o l → l.kind ≡ dns id →
     LookupMeets (look_up_of id l) start (calls ++ lookup_entry call acts ∷ []) → AreSendsBy o.speaker acts.sends.items
 name_sends o l id start calls call acts is e meets =
     either_by o.speaker acts (query_to (look_up_of id l)) 53 _ (name_speaks o l id is e) (names.sends_alone (look_up_of id l) start calls call acts meets)
 
-lease_by : (o : Open) (l : Live) (a : Asker) (ms : List Handed) (acts : Acts) → IsCalled o l → l.kind ≡ dhcp a → LeaseSending a ms acts → AreSendsBy o.speaker acts.sends.items
+lease_by : (o : Open) (l : Live) (a : Asker) (ms : List Handed) (acts : Acts) → IsSpeakerOf o l → l.kind ≡ dhcp a → LeaseSending a ms acts → AreSendsBy o.speaker acts.sends.items
 lease_by o l a ms acts is e (sends_nothing nothing) = none_by o.speaker acts nothing
 lease_by o l a ms acts is e (sends_discover without it) = one_by o.speaker acts _ 67 _ (lease_speaks o l a _ is e) it
 lease_by o l a ms acts is e (sends_request offer first it) = one_by o.speaker acts _ 67 _ (lease_speaks o l a _ is e) it
 
-pub lease_sends : (o : Open) (l : Live) (a : Asker) (start : ℕ) (calls : List LeaseEntry) (call : LeaseCall) (acts : Acts) → IsCalled o l → l.kind ≡ dhcp a →
+pub lease_sends : (o : Open) (l : Live) (a : Asker) (start : ℕ) (calls : List LeaseEntry) (call : LeaseCall) (acts : Acts) → IsSpeakerOf o l → l.kind ≡ dhcp a →
     LeasePromises a start (calls ++ lease_entry call acts ∷ []) → AreSendsBy o.speaker acts.sends.items
 lease_sends o l a start calls call acts is e meets = lease_by o l a _ acts is e (sends_for a start calls (lease_entry call acts) [] meets)
 
-pub echo_sends : (o : Open) (l : Live) (start : ℕ) (calls : List PingEntry) (call : PingCall) (acts : Acts) → IsCalled o l → l.kind ≡ ping →
+pub echo_sends : (o : Open) (l : Live) (start : ℕ) (calls : List PingEntry) (call : PingCall) (acts : Acts) → IsSpeakerOf o l → l.kind ≡ ping →
     PingMeets (ping_of l) start (calls ++ ping_entry call acts ∷ []) → AreSendsBy o.speaker acts.sends.items
 echo_sends o l start calls call acts is e meets =
     either_by o.speaker acts (echo_request (ping_of l)) 0 [] (echo_speaks o l is e) (pings.sends_alone (ping_of l) start calls call acts meets)

@@ -24,7 +24,7 @@ use Rattle.nb_traced.proofs.Plain.{plain_append, plain_aside}
 use Rattle.nb_traced.proofs.RecordLemmas.{puts_aside}
 use Rattle.nb_chains.specs.declared.chain.Chain.{Chain}
 use Rattle.nb_chains.specs.Calls.{closing_notices}
-use Rattle.nb_chains.specs.Chains.{GoesOn, IsReleased, below_ids, chain_ids, last_below, last_serial, released_by}
+use Rattle.nb_chains.specs.Chains.{AreStillChained, IsReleased, below_ids, chain_ids, last_below, last_serial, released_by}
 use Rattle.nb_chains.specs.Giving.{ChainGives}
 use Rattle.nb_chains.specs.Shapes.{HasShape, SendsNone, StaysAbove}
 use Rattle.nb_chains.proofs.GoingOn.{others_both}
@@ -152,7 +152,7 @@ closed_first x None cause = refl
 closed_first x (Some t) cause = refl
 
 -- released after it went on
-pub released_after : (c : Chain) (g a h : Objects Obj) → GoesOn (chain_ids c) g a → IsReleased c a h → IsReleased c g h
+pub released_after : (c : Chain) (g a h : Objects Obj) → AreStillChained (chain_ids c) g a → IsReleased c a h → IsReleased c g h
 released_after c g a h on r = record {
   gone = r.gone;
   others = others_both (is_one_of (chain_ids c)) g a h on.others r.others;

@@ -18,7 +18,7 @@ use Rattle.nb_machine.specs.CommandRecords.{no_route}
 use Rattle.nb_machine.specs.Kinds.{Keeps}
 use Rattle.nb_machine.specs.Lives.{Live, OpenInput}
 use Rattle.nb_chains.specs.Calls.{ClosesChain, closing_notices}
-use Rattle.nb_chains.specs.Chains.{GoesOn, chain_ids, last_serial, released_notices}
+use Rattle.nb_chains.specs.Chains.{AreStillChained, chain_ids, last_serial, released_notices}
 use Rattle.nb_chains.specs.Giving.{ChainGives}
 use Rattle.nb_chains.specs.Shapes.{HasShape, HasShapeOrFails}
 use Rattle.nb_chains.proofs.GivingLemmas.{gives_both}
@@ -49,7 +49,7 @@ module _ (o : Open) (l : Live) (came : OpenInput) (link : Client) (way : Option 
     pub enters : IsEntryBy (last_serial o.chain) way entry
     pub shape : HasShapeOrFails (last_serial o.chain) entry ns
     pub gives : ChainGives o.chain old mid h0 h1 ns
-    pub on : GoesOn (chain_ids o.chain) old mid
+    pub on : AreStillChained (chain_ids o.chain) old mid
     pub spelled : s.is_lost ≡ false → IsSpelled link o.speaker s ns
     pub spells : (all : List Notice) → Given h0 h2 all → IsSpelled link o.speaker s' all
 
@@ -68,7 +68,7 @@ module _ (o : Open) (l : Live) (came : OpenInput) (link : Client) (way : Option 
     goes_so : HasSpelled s None → s.is_stuck ≡ false → new ≡ mid → h2 ≡ h1 → Goes o l came link mid ns → Exchanges o l came link way old new s' None
     goes_so has free same_graph same_heard g =
         let gives : ChainGives o.chain old new h0 h2 ns = subst (λ z. ChainGives o.chain old z h0 h2 ns) (sym same_graph) (subst (λ z. ChainGives o.chain old mid h0 z ns) (sym same_heard) k.gives) in
-        let on : GoesOn (chain_ids o.chain) old new = subst (GoesOn (chain_ids o.chain) old) (sym same_graph) k.on in
+        let on : AreStillChained (chain_ids o.chain) old new = subst (AreStillChained (chain_ids o.chain) old) (sym same_graph) k.on in
         let finds : any_lacks_route link o.speaker ns ≡ false = sym (k.spelled has.0).5 ∙ free in
         let lives = subst (λ z. IsOpenOf z o (with_exchange l came link (put_by o link ns))) (sym same_graph) (g.lives finds k.on.chained) in
         record {
@@ -135,7 +135,7 @@ module _ (o : Open) (l : Live) (came : OpenInput) (link : Client) (way : Option 
         })
         v.message
 
-    turned_so : (e : Ended) (a : Objects Obj) (told : Heard) → HasSpelled s None → s.is_stuck ≡ true → e.cause ≡ no_route l.server → GoesOn (chain_ids o.chain) mid a → ClosesChain o.chain mid a e.cause h1 told → LetsChainGo o.chain e.body a new told h2 →
+    turned_so : (e : Ended) (a : Objects Obj) (told : Heard) → HasSpelled s None → s.is_stuck ≡ true → e.cause ≡ no_route l.server → AreStillChained (chain_ids o.chain) mid a → ClosesChain o.chain mid a e.cause h1 told → LetsChainGo o.chain e.body a new told h2 →
         Goes o l came link mid ns → Exchanges o l came link way old new s' (Some e)
     turned_so e a told has stuck is on closes lets g =
         let more = closing_notices o.chain.top.0 o.chain.below e.cause ++ released_notices o.chain in

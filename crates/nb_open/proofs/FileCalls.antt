@@ -12,7 +12,7 @@ use Rattle.nb_ledger.specs.Flat.{Notice}
 use Rattle.nb_graph.specs.Whole.{Objects}
 use Rattle.nb_nodes.specs.declared.obj.Obj.{Obj}
 use Rattle.nb_nodes.specs.Fetches.{body_too_large}
-use Rattle.nb_opens.specs.Pairs.{CallDoes, Downloads, HasEnded, body_at_end, goes_on, is_over, is_too_large, fails as call_fails}
+use Rattle.nb_opens.specs.Pairs.{CallDoes, Downloads, HasHandedOut, body_at_end, goes_on, is_over, is_too_large, fails as call_fails}
 use Rattle.nb_stack.specs.Client.{Client}
 use Rattle.nb_tftp.specs.Asks.{Begun}
 use Rattle.nb_tftp.specs.Blocks.{file}
@@ -30,7 +30,7 @@ use Rattle.nb_teller.specs.Deliveries.{delivered_bytes}
 use Rattle.nb_teller.proofs.TellingLemmas.{SpeaksFor}
 use Rattle.nb_open.specs.declared.open.Open.{Open}
 use Rattle.nb_open.specs.Exchanges.{IsLeaseMessage, with_exchange}
-use Rattle.nb_open.specs.Open.{IsCalled, IsFetching, IsUnderWay, carrier_for}
+use Rattle.nb_open.specs.Open.{IsSpeakerOf, IsFetching, IsUnderWay, carrier_for}
 use Rattle.nb_open.proofs.Doings.{Did, fails, goes, last_by, overs, put_by}
 use Rattle.nb_open.proofs.Downs.{AreSendsBy, sends_by}
 use Rattle.nb_open.proofs.FileNotices.{CallNotices, call_so, large_so, meets_sends, notices_address, notices_bytes, notices_close, notices_lack, notices_others}
@@ -91,11 +91,11 @@ none_message found none bytes some = absurd (let no : Some bytes ≡ None = sym 
 
 -- A CALL
 
-module _ (o : Open) (l : Live) (old new : Objects Obj) (link : Client) (call : Call) (p : Port) (by : Way) (rec : ℕ) (ns : List Notice) (e : l.kind ≡ tftp) (called : IsCalled o l) (k : IsFetching o.chain old l) where
+module _ (o : Open) (l : Live) (old new : Objects Obj) (link : Client) (call : Call) (p : Port) (by : Way) (rec : ℕ) (ns : List Notice) (e : l.kind ≡ tftp) (called : IsSpeakerOf o l) (k : IsFetching o.chain old l) where
   speaks : SpeaksFor o.speaker (transfer_of l)
   speaks = record { carrier = called.carrier ∙ ap carrier_for e; server = ap (λ (n : ℕ). record { 0 = n }) (sym called.server); own_port = sym called.own }
 
-  called_still : (put : List Out) → IsCalled o (with_exchange l (arrival_of call) link put)
+  called_still : (put : List Out) → IsSpeakerOf o (with_exchange l (arrival_of call) link put)
   called_still put = record { number = called.number; server = called.server; own = called.own; device = called.device; kind = called.kind; carrier = called.carrier; asks = called.asks }
 
   more : (put : List Out) (acts : Acts) → put ≡ transfer_records l.number l.server link (file (got (k.entries ++ entry call acts ∷ []))) acts →
@@ -116,7 +116,7 @@ module _ (o : Open) (l : Live) (old new : Objects Obj) (link : Client) (call : C
 
   -- it ended with this cause, and its objects have this body to hand out
   over_by : (acts : Acts) (c : Cause) (body : Option (List ℕ)) → Meets (transfer_of l) l.since (k.entries ++ entry call acts ∷ []) → end_of (file (got (k.entries ++ entry call acts ∷ []))) acts ≡ Some c →
-      CallNotices o.chain.top.0 k.tftp.0 p by rec acts (Some c) ns → HasEnded (own_graph o.chain new) o.chain.top.0 k.tftp.0 body → (is_ok_cause c ≡ true → body ≡ Some (file (got (k.entries ++ entry call acts ∷ [])))) →
+      CallNotices o.chain.top.0 k.tftp.0 p by rec acts (Some c) ns → HasHandedOut (own_graph o.chain new) o.chain.top.0 k.tftp.0 body → (is_ok_cause c ≡ true → body ≡ Some (file (got (k.entries ++ entry call acts ∷ [])))) →
       Did o l (arrival_of call) link new ns
   over_by acts c body meets ends n has whole =
       let last = last_by o l link ns c in
@@ -171,7 +171,7 @@ module _ (o : Open) (l : Live) (old new : Objects Obj) (link : Client) (call : C
       let body = body_now (transfer_of l) l.since k.entries call acts k.downloads.meets meets in
       let whole = file (got (k.entries ++ entry call acts ∷ [])) in
       let ends : end_of whole acts ≡ Some c = end_within whole acts (subst (λ b. length b ≤ 268435456) body fits) ∙ over in
-      over_by acts c (body_at_end c whole) meets ends n (subst (λ z. HasEnded (own_graph o.chain new) o.chain.top.0 k.tftp.0 (body_at_end c z)) body has) (whole_at_end c whole)
+      over_by acts c (body_at_end c whole) meets ends n (subst (λ z. HasHandedOut (own_graph o.chain new) o.chain.top.0 k.tftp.0 (body_at_end c z)) body has) (whole_at_end c whole)
   file_did (is_too_large acts meets long same has) =
       let n = large_so o.chain.top.0 k.tftp.0 p by rec acts ns same in
       let body = body_now (transfer_of l) l.since k.entries call acts k.downloads.meets meets in

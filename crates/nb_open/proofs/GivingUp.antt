@@ -17,7 +17,7 @@ use Rattle.nb_chains.specs.declared.kind.ChainKind.{ChainKind}
 use Rattle.nb_chains.specs.Calls.{ReleasesChain}
 use Rattle.nb_chains.specs.Chains.{Awaits, released_by, released_notices}
 use Rattle.nb_teller.specs.declared.teller.Teller.{Teller}
-use Rattle.nb_teller.specs.Spelling.{IsBlank, IsWhole, Spelling}
+use Rattle.nb_teller.specs.Spelling.{IsBlank, IsWholeSpelling, Spelling}
 use Rattle.nb_teller.specs.Tellings.{told_records}
 use Rattle.nb_teller.proofs.Tellers.{told_is}
 use Rattle.nb_open.specs.Ends.{GivesUp}
@@ -31,7 +31,7 @@ abbrev freed_events : ObjId → List GraphEvent
 freed_events x = LetGo x ∷ Freed x ∷ []
 
 pub gives_up_so : (kind : ChainKind) (waits : Chain) (old new : Objects Obj) (before last : Teller) (s : Spelling) → Awaits kind waits old → IsBlank before.told.value → ReleasesChain waits old new (told_so_far before) (told_so_far last) →
-    s ≡ last.told.value → IsWhole s → GivesUp kind waits old new s
+    s ≡ last.told.value → IsWholeSpelling s → GivesUp kind waits old new s
 gives_up_so kind waits old new before last s awaits blank r same whole =
     let es = freed_events waits.top in
     let are : released_notices waits ≡ map tells es = ap (released_by waits.top.0) awaits.alone in

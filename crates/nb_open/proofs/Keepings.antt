@@ -17,9 +17,9 @@ use Rattle.nb_chains.specs.Chains.{StaysChained, chain_ids, own_graph}
 use Rattle.nb_chains.specs.declared.chain.Chain.{Chain}
 use Rattle.nb_open.specs.declared.open.Open.{Open}
 use Rattle.nb_open.specs.Ends.{closed_open}
-use Rattle.nb_open.specs.Open.{IsAsking, IsFetching, IsOpenOf, IsUnderWay}
+use Rattle.nb_open.specs.Open.{IsAskingCore, IsFetching, IsOpenOf, IsUnderWay}
 
-asking_keeps : {S B C : Type 0} (s : Service S B C) (kind : ℕ) (b : B) (c : Chain) (g : Objects Obj) (l : Live) → IsAsking s kind b c g l → KeepsCore s b l
+asking_keeps : {S B C : Type 0} (s : Service S B C) (kind : ℕ) (b : B) (c : Chain) (g : Objects Obj) (l : Live) → IsAskingCore s kind b c g l → KeepsCore s b l
 asking_keeps s kind b c g l h = record { calls = h.calls; exchanged = h.exchanged; meets = h.talks.meets }
 
 keeps_by : (k : OpenKind) (c : Chain) (g : Objects Obj) (l : Live) → IsUnderWay k c g l → KeepsBy k l
@@ -47,7 +47,7 @@ closed_keeps l cause link h = closed_by_kind l.kind l cause link h
 fetching_stays : (c : Chain) (g h : Objects Obj) (l : Live) → own_graph c h ≡ own_graph c g → IsFetching c g l → IsFetching c h l
 fetching_stays c g h l same k = record { tftp = k.tftp; below = k.below; entries = k.entries; downloads = subst (λ z. Downloads z c.top.0 k.tftp.0 (transfer_of l) l.since k.entries (file (got k.entries))) (sym same) k.downloads; exchanged = k.exchanged; short = k.short }
 
-asking_stays : {S B C : Type 0} (s : Service S B C) (kind : ℕ) (b : B) (c : Chain) (g h : Objects Obj) (l : Live) → own_graph c h ≡ own_graph c g → IsAsking s kind b c g l → IsAsking s kind b c h l
+asking_stays : {S B C : Type 0} (s : Service S B C) (kind : ℕ) (b : B) (c : Chain) (g h : Objects Obj) (l : Live) → own_graph c h ≡ own_graph c g → IsAskingCore s kind b c g l → IsAskingCore s kind b c h l
 asking_stays s kind b c g h l same k = record { below = k.below; calls = k.calls; talks = subst (λ z. Talks s kind z c.top.0 b l.since k.calls) (sym same) k.talks; exchanged = k.exchanged }
 
 stays_by : (k : OpenKind) (c : Chain) (g h : Objects Obj) (l : Live) → own_graph c h ≡ own_graph c g → IsUnderWay k c g l → IsUnderWay k c h l

@@ -22,7 +22,7 @@ use Rattle.nb_nodes.specs.LeaseExchanges.{handed_in, lease_service}
 use Rattle.nb_nodes.specs.EchoExchanges.{ping_service, reply_in}
 use Rattle.nb_chains.specs.declared.kind.ChainKind.TheVariants as chain
 use Rattle.nb_chains.specs.declared.arrival.Arrival.{Arrival}
-use Rattle.nb_opens.specs.Alones.{Receives, fails_before, is_ignored, is_taken}
+use Rattle.nb_opens.specs.Alones.{AsksOrIgnores, fails_before, is_ignored, is_taken}
 use Rattle.nb_stack.specs.Client.{Client}
 use Rattle.nb_tftp.specs.Blocks.{file}
 use Rattle.nb_tftp.specs.History.{came as comes, got, ticked}
@@ -37,7 +37,7 @@ use Rattle.nb_chains.specs.Kinds.{top_mark}
 use Rattle.nb_chains.proofs.ShapesDone.{lease_gives, lookup_gives, ping_gives}
 use Rattle.nb_open.specs.declared.open.Open.{Open}
 use Rattle.nb_open.specs.Exchanges.{SuitsBy, with_exchange}
-use Rattle.nb_open.specs.Open.{IsAsking, IsOpenOf, IsUnderWay}
+use Rattle.nb_open.specs.Open.{IsAskingCore, IsOpenOf, IsUnderWay}
 use Rattle.nb_open.proofs.CoreCalls.{CoreCall, core_did}
 use Rattle.nb_open.proofs.CoreKinds.{echo_finds, echo_sends, lease_finds, lease_sends, name_finds, name_sends}
 use Rattle.nb_open.proofs.Doings.{Did, fails}
@@ -63,7 +63,7 @@ module _ (o : Open) (l : Live) (old new : Objects Obj) (link : Client) (ns : Lis
     by_time now put acts e =
         subst (λ z. CoreExchanged s l.number l.server (calls ++ s.timed now acts ∷ []) (l.exchanges ++ exchange (time now) link z ∷ [])) (sym e) (takes_time calls l.exchanges link now acts h)
 
-  name_core : (id : ℕ) (e : l.kind ≡ dns id) (k : IsAsking lookup_service (top_mark chain.Name) (look_up_of id l) o.chain old l) (came : OpenInput) (call : LookupCall) (p : Port) (by : Way) (rec : ℕ) →
+  name_core : (id : ℕ) (e : l.kind ≡ dns id) (k : IsAskingCore lookup_service (top_mark chain.Name) (look_up_of id l) o.chain old l) (came : OpenInput) (call : LookupCall) (p : Port) (by : Way) (rec : ℕ) →
       More lookup_service k.calls (λ acts. lookup_entry call acts) came → CoreCall lookup_service (top_mark chain.Name) (look_up_of id l) o l came link new k.calls (λ acts. lookup_entry call acts) p by rec
   name_core id e k came call p by rec more = record {
     alone = k.below;
@@ -76,7 +76,7 @@ module _ (o : Open) (l : Live) (old new : Objects Obj) (link : Client) (ns : Lis
     finds = λ put acts given exchanged gives. name_finds (with_exchange l came link put) o.chain.top.0 p by rec acts given id (k.calls ++ lookup_entry call acts ∷ []) e exchanged gives;
   }
 
-  lease_core : (a : Asker) (e : l.kind ≡ dhcp a) (k : IsAsking lease_service (top_mark chain.Lease) a o.chain old l) (came : OpenInput) (call : LeaseCall) (p : Port) (by : Way) (rec : ℕ) →
+  lease_core : (a : Asker) (e : l.kind ≡ dhcp a) (k : IsAskingCore lease_service (top_mark chain.Lease) a o.chain old l) (came : OpenInput) (call : LeaseCall) (p : Port) (by : Way) (rec : ℕ) →
       More lease_service k.calls (λ acts. lease_entry call acts) came → CoreCall lease_service (top_mark chain.Lease) a o l came link new k.calls (λ acts. lease_entry call acts) p by rec
   lease_core a e k came call p by rec more = record {
     alone = k.below;
@@ -89,7 +89,7 @@ module _ (o : Open) (l : Live) (old new : Objects Obj) (link : Client) (ns : Lis
     finds = λ put acts given exchanged gives. lease_finds (with_exchange l came link put) o.chain.top.0 p by rec acts given a (k.calls ++ lease_entry call acts ∷ []) e exchanged gives;
   }
 
-  echo_core : (e : l.kind ≡ ping) (k : IsAsking ping_service (top_mark chain.Echo) (ping_of l) o.chain old l) (came : OpenInput) (call : PingCall) (p : Port) (by : Way) (rec : ℕ) →
+  echo_core : (e : l.kind ≡ ping) (k : IsAskingCore ping_service (top_mark chain.Echo) (ping_of l) o.chain old l) (came : OpenInput) (call : PingCall) (p : Port) (by : Way) (rec : ℕ) →
       More ping_service k.calls (λ acts. ping_entry call acts) came → CoreCall ping_service (top_mark chain.Echo) (ping_of l) o l came link new k.calls (λ acts. ping_entry call acts) p by rec
   echo_core e k came call p by rec more = record {
     alone = k.below;
@@ -104,7 +104,7 @@ module _ (o : Open) (l : Live) (old new : Objects Obj) (link : Client) (ns : Lis
 
   -- a message that the core takes
   core_receives : {S B C : Type 0} (s : Service S B C) (kind : ℕ) (b : B) (calls : List C) (m : Said) (now : ℕ) (input : OpenInput) → CoreCall s kind b o l input link new calls (s.received m now) (port_at o.chain.top.0 1) way.Up m.rec →
-      s.takes 1 m ≡ true → Receives s kind (own_graph o.chain new) o.chain.top.0 b l.since calls m now ns → Did o l input link new ns
+      s.takes 1 m ≡ true → AsksOrIgnores s kind (own_graph o.chain new) o.chain.top.0 b l.since calls m now ns → Did o l input link new ns
   core_receives s kind b calls m now input k takes (is_taken _ more) = core_did s kind b o l input link new calls (s.received m now) (port_at o.chain.top.0 1) way.Up m.rec k ns more
   core_receives s kind b calls m now input k takes (is_ignored ignores same talks) = absurd (let wrong : true ≡ false = sym takes ∙ ignores in cc)
   core_receives s kind b calls m now input k takes (fails_before memory) = fails memory

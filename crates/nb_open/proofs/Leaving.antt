@@ -11,7 +11,7 @@ use Rattle.nb_frames.specs.Within.{IsEventWithin}
 use Rattle.nb_nodes.specs.declared.obj.Obj.{Obj}
 use Rattle.nb_chains.specs.declared.chain.Chain.{Chain}
 use Rattle.nb_chains.specs.Calls.{ClosesChain, IsOpenChain, closing_notices}
-use Rattle.nb_chains.specs.Chains.{GoesOn, IsReleased, chain_ids, last_serial, released_notices}
+use Rattle.nb_chains.specs.Chains.{AreStillChained, IsReleased, chain_ids, last_serial, released_notices}
 use Rattle.nb_chains.specs.Giving.{CallGives, ChainGives}
 use Rattle.nb_chains.specs.Shapes.{SendsNone}
 use Rattle.nb_chains.proofs.GivingLemmas.{each_append, gives_both}
@@ -45,7 +45,7 @@ leaves_by c brought old new m n l = record {
 }
 
 -- and before that the user closes them
-pub closes_leave : (c : Chain) (brought : Option (List ℕ)) (cause : Cause) (old mid new : Objects Obj) (m k n : Heard) → IsOpenChain c old → GoesOn (chain_ids c) old mid → ClosesChain c old mid cause m k → LetsChainGo c brought mid new k n →
+pub closes_leave : (c : Chain) (brought : Option (List ℕ)) (cause : Cause) (old mid new : Objects Obj) (m k n : Heard) → IsOpenChain c old → AreStillChained (chain_ids c) old mid → ClosesChain c old mid cause m k → LetsChainGo c brought mid new k n →
     Leaves c old new m n (closing_notices c.top.0 c.below cause ++ released_notices c)
 closes_leave c brought cause old mid new m k n is_open on closes lets =
     let rest = leaves_by c brought mid new k n lets in

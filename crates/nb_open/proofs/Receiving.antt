@@ -17,21 +17,21 @@ use Rattle.nb_machine.specs.Transfers.{transfer_of}
 use Rattle.nb_chains.specs.declared.chain.Chain.{Chain}
 use Rattle.nb_chains.specs.declared.kind.ChainKind.{ChainKind}
 use Rattle.nb_chains.specs.Calls.{ComesOf, IsChainUnderWay, IsTalking, ReceivesChain, TicksChain, arrival_said, stays_under_way, has_closed, has_failed}
-use Rattle.nb_chains.specs.Chains.{GoesOn, chain_ids, last_serial, own_graph}
+use Rattle.nb_chains.specs.Chains.{AreStillChained, chain_ids, last_serial, own_graph}
 use Rattle.nb_chains.proofs.Opened.{under_way_open}
 use Rattle.nb_teller.specs.declared.teller.Teller.{Teller}
-use Rattle.nb_teller.specs.Spelling.{IsBlank, IsSpelled, IsWhole, Spelling}
+use Rattle.nb_teller.specs.Spelling.{IsBlank, IsSpelled, IsWholeSpelling, Spelling}
 use Rattle.nb_teller.proofs.SpellingLemmas.{spelled_is}
 use Rattle.nb_teller.proofs.Tellers.{named, told_is}
 use Rattle.nb_open.specs.declared.ended.Ended.{Ended}
 use Rattle.nb_open.specs.declared.open.Open.{Open}
 use Rattle.nb_open.specs.Exchanges.{Exchanges, SuitsBy}
-use Rattle.nb_open.specs.Open.{IsAsking, IsOpenOf, IsUnderWay, LivesSome, kind_for}
+use Rattle.nb_open.specs.Open.{IsAskingCore, IsOpenOf, IsUnderWay, LivesSome, kind_for}
 use Rattle.nb_open.specs.Settling.{MaySettle, SettlesOpen, told_so_far}
 use Rattle.nb_open.proofs.Exchanging.{exchanges}
 use Rattle.nb_open.proofs.KindCalls.{passed, received}
 
-asking_talks : {S B C : Type 0} (s : Service S B C) (kind : ℕ) (b : B) (c : Chain) (g : Objects Obj) (l : Live) → IsAsking s kind b c g l → IsTalking s kind (own_graph c g) c.top.0
+asking_talks : {S B C : Type 0} (s : Service S B C) (kind : ℕ) (b : B) (c : Chain) (g : Objects Obj) (l : Live) → IsAskingCore s kind b c g l → IsTalking s kind (own_graph c g) c.top.0
 asking_talks s kind b c g l k = (b, l.since, k.calls, k.talks)
 
 under_way_by : (k : OpenKind) (c : Chain) (g : Objects Obj) (l : Live) → IsUnderWay k c g l → IsChainUnderWay (kind_for k) c g
@@ -69,8 +69,8 @@ module _ (o : Open) (old mid : Objects Obj) (net : Client) (before after : Telle
     pub receive_may : LivesSome old o → MaySettle o after.told.value mid
     receive_may (l, is) = may_by o net mid after.told.value (kind_for l.kind) r.ns (spelled_by r.ns r.gives.given) (r.comes (kind_for l.kind) (is_under_way old o l is))
 
-    pub receives_so : (new : Objects Obj) (last : Teller) (s' : Spelling) (settled : Option Ended) → length a.body.now ≤ 1480 → a.port < 65536 → GoesOn (chain_ids o.chain) old mid →
-        SettlesOpen o after.told.value mid new (told_so_far after) (told_so_far last) settled → s' ≡ last.told.value → IsWhole s' →
+    pub receives_so : (new : Objects Obj) (last : Teller) (s' : Spelling) (settled : Option Ended) → length a.body.now ≤ 1480 → a.port < 65536 → AreStillChained (chain_ids o.chain) old mid →
+        SettlesOpen o after.told.value mid new (told_so_far after) (told_so_far last) settled → s' ≡ last.told.value → IsWholeSpelling s' →
         (l : Live) → IsOpenOf old o l → SuitsBy l.kind l a → Exchanges o l (message rec a.port a.body.now now) net (Some way.Up) old new s' settled
     receives_so new last s' settled short small on settles same whole l is suits =
         let entry : Option GraphEvent = Some (Entered (port_at (last_serial o.chain) 1) way.Up) in
@@ -89,8 +89,8 @@ module _ (o : Open) (old mid : Objects Obj) (net : Client) (before after : Telle
     pub time_may : LivesSome old o → MaySettle o after.told.value mid
     time_may (l, is) = may_by o net mid after.told.value (kind_for l.kind) r.ns (spelled_by r.ns r.gives.given) (r.comes (kind_for l.kind) (is_under_way old o l is))
 
-    pub passes_so : (new : Objects Obj) (last : Teller) (s' : Spelling) (settled : Option Ended) → GoesOn (chain_ids o.chain) old mid →
-        SettlesOpen o after.told.value mid new (told_so_far after) (told_so_far last) settled → s' ≡ last.told.value → IsWhole s' →
+    pub passes_so : (new : Objects Obj) (last : Teller) (s' : Spelling) (settled : Option Ended) → AreStillChained (chain_ids o.chain) old mid →
+        SettlesOpen o after.told.value mid new (told_so_far after) (told_so_far last) settled → s' ≡ last.told.value → IsWholeSpelling s' →
         (l : Live) → IsOpenOf old o l → Exchanges o l (time now) net (Some way.Time) old new s' settled
     passes_so new last s' settled on settles same whole l is =
         let entry : Option GraphEvent = Some (Entered (port_at (last_serial o.chain) 4) way.Time) in

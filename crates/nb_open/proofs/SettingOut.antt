@@ -14,12 +14,12 @@ use Rattle.nb_machine.specs.CommandRecords.{no_route}
 use Rattle.nb_traced.specs.Outputs.{own_serials}
 use Rattle.nb_traced.specs.Pieces.{AreGone, first_close_of}
 use Rattle.nb_chains.specs.Calls.{BeginsChain}
-use Rattle.nb_chains.specs.Chains.{GoesOn, IsReadyChain, chain_ids, last_serial}
+use Rattle.nb_chains.specs.Chains.{AreStillChained, IsReadyChain, chain_ids, last_serial}
 use Rattle.nb_chains.specs.Giving.{ChainGives}
 use Rattle.nb_chains.specs.Shapes.{HasShape, HasShapeOrFails}
 use Rattle.nb_chains.proofs.GivingLemmas.{gives_both}
 use Rattle.nb_teller.specs.declared.teller.Teller.{Teller}
-use Rattle.nb_teller.specs.Spelling.{HasSpelled, IsBlank, IsSpelled, IsWhole, Spelling}
+use Rattle.nb_teller.specs.Spelling.{HasSpelled, IsBlank, IsSpelled, IsWholeSpelling, Spelling}
 use Rattle.nb_teller.specs.Tellings.{any_lacks_route, told_records}
 use Rattle.nb_opens.proofs.CloseLemmas.{first_close-append}
 use Rattle.nb_teller.proofs.Tellers.{told_is}
@@ -45,7 +45,7 @@ module _ (a : Opening) (number now : ℕ) (link : Client) (o : Open) (old mid ne
   pub begin_may : MaySettle o after.told.value mid
   begin_may = may_by o link mid after.told.value (chain_kind a) k.ns spelled (k.comes (chain_kind a) ready (asks_kind a bytes asks))
 
-  module _ (can : CanOpen a) (speaker : o.speaker ≡ speaker_for a number) (kind : o.kind ≡ chain_kind a) (on : GoesOn (chain_ids o.chain) old mid) (same : s ≡ last.told.value) (whole : IsWhole s) where
+  module _ (can : CanOpen a) (speaker : o.speaker ≡ speaker_for a number) (kind : o.kind ≡ chain_kind a) (on : AreStillChained (chain_ids o.chain) old mid) (same : s ≡ last.told.value) (whole : IsWholeSpelling s) where
     closed_is : (c : Option Cause) → HasSpelled after.told.value c → first_close k.ns ≡ c
     closed_is c has = sym (spelled has.0).2 ∙ has.1
 
@@ -76,7 +76,7 @@ module _ (a : Opening) (number now : ℕ) (link : Client) (o : Open) (old mid ne
             call = shaped None has (λ h. calls_open o link None None old new (told_so_far before) (told_so_far last) k.ns refl h gives);
             no_close = closes_open o link None None old new (told_so_far before) (told_so_far last) k.ns refl None gives t.none;
           };
-          leaves = subst (GoesOn (chain_ids o.chain) old) (sym same_graph) on;
+          leaves = subst (AreStillChained (chain_ids o.chain) old) (sym same_graph) on;
         }
 
     back_so : (e : Ended) (more : List Notice) (left : Leaves o.chain mid new (told_so_far after) (told_so_far last) more) → HasSpelled after.told.value None → after.told.value.is_stuck ≡ true → e.cause ≡ no_route (server_by a) → first_close more ≡ Some e.cause →

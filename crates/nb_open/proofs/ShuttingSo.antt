@@ -29,7 +29,7 @@ use Rattle.nb_chains.proofs.ShapesOf.{above_shape}
 use Rattle.nb_chains.proofs.WaitingApart.{waiting_apart}
 use Rattle.nb_teller.specs.declared.speaker.Speaker.{Speaker}
 use Rattle.nb_teller.specs.declared.teller.Teller.{Teller}
-use Rattle.nb_teller.specs.Spelling.{IsBlank, IsSpelled, IsWhole, Spelling}
+use Rattle.nb_teller.specs.Spelling.{IsBlank, IsSpelled, IsWholeSpelling, Spelling}
 use Rattle.nb_teller.specs.Tellings.{told_records}
 use Rattle.nb_teller.proofs.Tellers.{told_is}
 use Rattle.nb_open.specs.declared.open.Open.{Open}
@@ -135,7 +135,7 @@ module _ (kind : ChainKind) (w : Chain) (o : Open) (cause : Cause) (link : Clien
 -- BOTH
 
 pub shuts_so : (kind : ChainKind) (o : Open) (waits : Option Chain) (cause : Cause) (link : Client) (old new : Objects Obj) (before last : Teller) (s : Spelling) → AreNoded rank_of_obj old → before.net.now ≡ link → before.who.now ≡ o.speaker → IsBlank before.told.value →
-    s ≡ last.told.value → IsWhole s → AwaitsFor kind waits old → (IsOpenChain o.chain old → WaitsApart waits o.chain → ShutsOr waits o.chain old new cause (told_so_far before) (told_so_far last)) → (l : Live) → IsOpenOf old o l → ShutsWith kind o waits cause old new s
+    s ≡ last.told.value → IsWholeSpelling s → AwaitsFor kind waits old → (IsOpenChain o.chain old → WaitsApart waits o.chain → ShutsOr waits o.chain old new cause (told_so_far before) (told_so_far last)) → (l : Live) → IsOpenOf old o l → ShutsWith kind o waits cause old new s
 shuts_so kind o None cause link old new before last s noded same_net same_who blank same whole awaits shuts l is =
     let k = shuts (lives_open old o (l, is)) tt in
     shuts_alone kind o cause link old new (told_so_far before) (told_so_far last) s k (told_is link o.speaker before last s (shutting_notices o.chain.top.0 o.chain.below cause) same_net same_who blank k.gives.given same whole)

@@ -14,7 +14,7 @@ use Rattle.nb_frames.specs.Frames.{KeepsObject, is_one_of}
 use Rattle.nb_stack.specs.Client.{Client}
 use Rattle.nb_machine.specs.CommandRecords.{no_route}
 use Rattle.nb_machine.specs.Kinds.{first_records}
-use Rattle.nb_traced.specs.Holdings.{AreJoined, Piece, lowest_of, objects_for, kinds}
+use Rattle.nb_traced.specs.Holdings.{AreJoined, GraphObject, lowest_of, objects_for, kinds}
 use Rattle.nb_machine.specs.Lives.{kind_number}
 use Rattle.nb_traced.specs.Outputs.{CallsOpen, IsNewest, own_serials}
 use Rattle.nb_traced.specs.Pieces.{AreGone, IsMaking, event_records, first_close_of, pieces_made}
@@ -38,12 +38,12 @@ abbrev pub IsLatest : Option Chain → Objects Obj → Type 0
 IsLatest None g = Unit {0}
 IsLatest (Some c) g = (y : ℕ) → object_lives g.book y ≡ true → y ≤ c.top.0
 
-abbrev pub waiting_pieces : ChainKind → Option Chain → List Piece
+abbrev pub waiting_pieces : ChainKind → Option Chain → List GraphObject
 waiting_pieces kind None = []
 waiting_pieces kind (Some c) = pieces_of kind c
 
 -- What is missing of its objects was made and plugged, after these pieces.
-pub record MakesObjects (first : List Piece) (kind : ChainKind) (number : ℕ) (waits : Option Chain) (o : Open) (old : Objects Obj) (s : Spelling) (mid : GraphState) : Type 0 where
+pub record MakesObjects (first : List GraphObject) (kind : ChainKind) (number : ℕ) (waits : Option Chain) (o : Open) (old : Objects Obj) (s : Spelling) (mid : GraphState) : Type 0 where
   pub events : List GraphEvent
   pub text : s.text ≡ out_texts (event_records events)
   pub makes : AllByRecursion IsMaking events

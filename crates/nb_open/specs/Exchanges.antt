@@ -15,7 +15,7 @@ use Rattle.nb_machine.specs.Kinds.{Keeps, fetched, granted, resolved}
 use Rattle.nb_machine.specs.Takings.{end_among}
 use Rattle.nb_traced.specs.Outputs.{CallsOpen, own_serials}
 use Rattle.nb_traced.specs.Pieces.{first_close_of}
-use Rattle.nb_chains.specs.Chains.{GoesOn, IsReleased, chain_ids}
+use Rattle.nb_chains.specs.Chains.{AreStillChained, IsReleased, chain_ids}
 use Rattle.nb_teller.specs.Spelling.{Spelling}
 use Rattle.nb_open.specs.declared.open.Open.{Open}
 use Rattle.nb_open.specs.declared.ended.Ended.{Ended}
@@ -38,7 +38,7 @@ pub record ExchangesOn (o : Open) (l : Live) (came : OpenInput) (link : Client) 
   pub keeps : Keeps (with_exchange l came link (without_graph records))
   pub no_end : end_among l.number (without_graph records) ≡ None
   pub lives : IsOpenOf new o (with_exchange l came link (without_graph records))
-  pub others : GoesOn (chain_ids o.chain) old new
+  pub others : AreStillChained (chain_ids o.chain) old new
   pub call : CallsOpen (kin_of o) way records (run_state old.book []) (run_state new.book [])
   pub no_close : first_close_of (own_serials (kin_of o)) records ≡ None
 

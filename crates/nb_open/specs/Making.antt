@@ -18,7 +18,7 @@ use Rattle.nb_traced.specs.Outputs.{IsNewest}
 use Rattle.nb_chains.specs.declared.chain.Chain.{Chain}
 use Rattle.nb_chains.specs.declared.kind.ChainKind.{ChainKind}
 use Rattle.nb_chains.specs.Calls.{BeginsChain}
-use Rattle.nb_chains.specs.Chains.{AreChained, Awaits, GoesOn, GrowsBy, IsReadyChain, IsReleased, chain_ids, completes_notices, last_serial, waits_notices}
+use Rattle.nb_chains.specs.Chains.{AreChained, Awaits, AreStillChained, GrowsBy, IsReadyChain, IsReleased, chain_ids, completes_notices, last_serial, waits_notices}
 use Rattle.nb_chains.specs.Giving.{MakingGives}
 use Rattle.nb_chains.specs.Kinds.{count_below}
 use Rattle.nb_teller.specs.Spelling.{Spelling}
@@ -77,7 +77,7 @@ pub record AsksChain (a : Opening) (c : Chain) (old new : Objects Obj) (now rec 
 
 -- its objects live on, or are gone
 abbrev pub GoesOnOr : Option Cause → Open → Objects Obj → Objects Obj → Type 0
-GoesOnOr None o g h = GoesOn (chain_ids o.chain) g h
+GoesOnOr None o g h = AreStillChained (chain_ids o.chain) g h
 GoesOnOr (Some cause) o g h = IsReleased o.chain g h
 
 -- The open sets out, or there is no way to its server.

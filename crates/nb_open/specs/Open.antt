@@ -15,7 +15,7 @@ use Rattle.nb_machine.specs.Lives.{OpenKind, tftp, dns, dhcp, ping, Live}
 use Rattle.nb_machine.specs.States.{net0}
 use Rattle.nb_machine.specs.Transfers.{Exchanged, transfer_of}
 use Rattle.nb_machine.specs.Cores.{CoreExchanged, look_up_of, ping_of}
-use Rattle.nb_traced.specs.Holdings.{Kin, Piece}
+use Rattle.nb_traced.specs.Holdings.{Kin, GraphObject}
 use Rattle.nb_chains.specs.declared.chain.Chain.{Chain}
 use Rattle.nb_chains.specs.declared.kind.ChainKind.{ChainKind}
 use Rattle.nb_chains.specs.declared.kind.ChainKind.TheVariants as chain
@@ -35,7 +35,7 @@ pub record IsFetching (c : Chain) (g : Objects Obj) (l : Live) : Type 0 where
   pub short : length (transfer_of l).request ≤ 1480
 
 -- a core asks that was begun so, whose calls were these exchanges
-pub record IsAsking {S B C : Type 0} (s : Service S B C) (kind : ℕ) (b : B) (c : Chain) (g : Objects Obj) (l : Live) : Type 0 where
+pub record IsAskingCore {S B C : Type 0} (s : Service S B C) (kind : ℕ) (b : B) (c : Chain) (g : Objects Obj) (l : Live) : Type 0 where
   pub below : c.below ≡ None
   pub calls : List C
   pub talks : Talks s kind (own_graph c g) c.top.0 b l.since calls
@@ -43,9 +43,9 @@ pub record IsAsking {S B C : Type 0} (s : Service S B C) (kind : ℕ) (b : B) (c
 
 abbrev pub IsUnderWay : OpenKind → Chain → Objects Obj → Live → Type 0
 IsUnderWay tftp c g l = IsFetching c g l
-IsUnderWay (dns id) c g l = IsAsking lookup_service (top_mark chain.Name) (look_up_of id l) c g l
-IsUnderWay (dhcp a) c g l = IsAsking lease_service (top_mark chain.Lease) a c g l
-IsUnderWay ping c g l = IsAsking ping_service (top_mark chain.Echo) (ping_of l) c g l
+IsUnderWay (dns id) c g l = IsAskingCore lookup_service (top_mark chain.Name) (look_up_of id l) c g l
+IsUnderWay (dhcp a) c g l = IsAskingCore lease_service (top_mark chain.Lease) a c g l
+IsUnderWay ping c g l = IsAskingCore ping_service (top_mark chain.Echo) (ping_of l) c g l
 
 -- the kind of its objects, and what carries its messages
 abbrev pub kind_for : OpenKind → ChainKind
@@ -68,7 +68,7 @@ AsksRight (dhcp a) server own = (server ≡ 4294967295) × (own ≡ 68)
 AsksRight ping server own = Unit {0}
 
 -- it has the machine's number, server, port and kind
-pub record IsCalled (o : Open) (l : Live) : Type 0 where
+pub record IsSpeakerOf (o : Open) (l : Live) : Type 0 where
   pub number : l.number ≡ o.speaker.number
   pub server : l.server ≡ o.speaker.server.0
   pub own : l.own ≡ o.speaker.own_port
@@ -80,7 +80,7 @@ pub record IsCalled (o : Open) (l : Live) : Type 0 where
 -- the open lives on this graph, and is this one of the machine's
 pub record IsOpenOf (g : Objects Obj) (o : Open) (l : Live) : Type 0 where
   pub chained : AreChained g (chain_ids o.chain)
-  pub called : IsCalled o l
+  pub called : IsSpeakerOf o l
   pub under_way : IsUnderWay l.kind o.chain g l
 
 -- so it is of some
@@ -88,11 +88,11 @@ abbrev pub LivesSome : Objects Obj → Open → Type 0
 LivesSome g o = (l : Live) × IsOpenOf g o l
 
 -- the objects of a chain, each with the number of its kind; below a Fetch stands a Tftp (4)
-abbrev pub pieces_below : Option ObjId → List Piece
+abbrev pub pieces_below : Option ObjId → List GraphObject
 pieces_below None = []
 pieces_below (Some x) = record { serial = x.0; kind = 4 } ∷ []
 
-abbrev pub pieces_of : ChainKind → Chain → List Piece
+abbrev pub pieces_of : ChainKind → Chain → List GraphObject
 pieces_of kind c = record { serial = c.top.0; kind = top_number kind } ∷ pieces_below c.below
 
 -- the open by its objects

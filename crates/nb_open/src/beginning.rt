@@ -1,6 +1,6 @@
 ghost use Rattle.std.specs.Prelude.{◌≡◌, ◌+◌, ◌<◌, ◌≤◌, ◌^◌, IfOk, IsTrue, ◌↔◌, None, Some, ℕ, length};
 ghost use Rattle.std.specs.Option.{option_map};
-ghost use Rattle.nb_chains.specs.Chains.{AreChained, Awaits, GoesOn, IsReadyChain, chain_ids};
+ghost use Rattle.nb_chains.specs.Chains.{AreChained, Awaits, AreStillChained, IsReadyChain, chain_ids};
 ghost use Rattle.nb_chains.specs.Kinds.{count_below};
 ghost use Rattle.nb_open.specs.Begins.{AwaitsFor, BeginsBeside, BeginsOpen};
 ghost use Rattle.nb_open.specs.Making.{AsksChain, MakesChain, StartsOpen, WaitsNew};
@@ -149,7 +149,7 @@ impl Opening<'_> {
     fn ask(&self, chain: Chain, graph: &mut Graph<Obj>, rec: u32, now: u64, out: &mut Teller<'_>)
         requires can { CanOpen self.now }
         requires chained { AreChained graph.old (chain_ids chain) }
-        ensures on { GoesOn (chain_ids chain) graph.old graph.new }
+        ensures on { AreStillChained (chain_ids chain) graph.old graph.new }
         ensures asks { AsksChain self.now chain graph.old graph.new now rec (told_so_far out.old) (told_so_far out.new) }
     {
         match self {

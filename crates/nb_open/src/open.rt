@@ -1,5 +1,5 @@
 ghost use Rattle.std.specs.Prelude.{◌≡◌, ◌≤◌, Some, length, IfOk};
-ghost use Rattle.nb_chains.specs.Chains.{AreChained, GoesOn, IsShutChain, chain_ids};
+ghost use Rattle.nb_chains.specs.Chains.{AreChained, AreStillChained, IsShutChain, chain_ids};
 ghost use Rattle.nb_ledger.specs.declared.event.Way.TheVariants as way;
 ghost use Rattle.nb_machine.specs.CommandRecords.{no_route};
 ghost use Rattle.nb_machine.specs.Lives.{Live, message, time as time_comes};
@@ -137,7 +137,7 @@ impl Open {
     /// The file that it has brought, if it has.
     fn collect(&self, graph: &mut Graph<Obj>) -> Option<Body>
         requires chained { AreChained graph.old (chain_ids self.now.chain) }
-        ensures on { GoesOn (chain_ids self.now.chain) graph.old graph.new }
+        ensures on { AreStillChained (chain_ids self.now.chain) graph.old graph.new }
         ensures shut { IsShutChain self.now.chain graph.old → IsShutChain self.now.chain graph.new }
         ensures book { graph.new.book ≡ graph.old.book }
         ensures hands { HandsFile self.now.chain result graph.old }

@@ -20,7 +20,7 @@ use Rattle.nb_machine.specs.Lives.{OpenInput, time as time_came, exchange, Live,
 use Rattle.nb_machine.specs.Kinds.{Keeps}
 use Rattle.nb_machine.specs.States.{net0}
 use Rattle.nb_machine.specs.Takings.{Over, AllTake, all_have, lives_on, is_over}
-use Rattle.nb_openlaws.specs.Standings.{live_opening, heard_call, heard_calls, AreApart}
+use Rattle.nb_openlaws.specs.Standings.{live_opening, heard_call, heard_calls, HaveOwnNumbers}
 use Rattle.nb_openlaws.specs.OpenEndings.{HadWay}
 use Rattle.nb_openlaws.specs.OpenReasons.{OpenReasons}
 use Rattle.nb_openlaws.proofs.OpenRecords.{all_append, AreLater, left, of_later, kept_puts}
@@ -104,7 +104,7 @@ taken_more es put more over r t = record {
 }
 
 -- time comes to all
-pub all_reasons : (devices : List Client) (now : ℕ) (ls : List Live) (put : List Out) (after : List Live) (over : List Over) → AllTake devices (time_came now) ls put after over → (es : List Event) → devices ≡ client es ∷ [] → AllCome es (time_came now) ls → AreApart ls →
+pub all_reasons : (devices : List Client) (now : ℕ) (ls : List Live) (put : List Out) (after : List Live) (over : List Over) → AllTake devices (time_came now) ls put after over → (es : List Event) → devices ≡ client es ∷ [] → AllCome es (time_came now) ls → HaveOwnNumbers ls →
     AllByRecursion Keeps ls → AllByRecursion (λ (l : Live). HadWay l.number es (live_opening l)) ls → IsAdvanced es → TakenSo es put over
 all_reasons devices now ls put after over all_have es d come apart kept ways a = record { reasons = no_reasons es a; answers = tt }
 all_reasons devices now ls0 put0 after0 over0 (lives_on l ls after link put more over got_it keeps none rest) es d come apart kept ways a =

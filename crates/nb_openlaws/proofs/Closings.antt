@@ -11,7 +11,7 @@ use Rattle.nb_machine.specs.Takings.{Over, AllTake, all_have, lives_on, is_over}
 use Rattle.nb_laws.specs.Events.{Event, puts}
 use Rattle.nb_laws.specs.Progress.{IsAdvanced}
 use Rattle.nb_laws.proofs.Tellings.{told, advanced_more}
-use Rattle.nb_openlaws.specs.Standings.{live_opening, AgreesLive, AreLive, lives_among, AreApart}
+use Rattle.nb_openlaws.specs.Standings.{live_opening, AgreesLive, AreLive, lives_among, HaveOwnNumbers}
 use Rattle.nb_openlaws.specs.OpenEndings.{EndsBecause}
 use Rattle.nb_openlaws.specs.OpenReasons.{OpenReasons}
 use Rattle.nb_openlaws.proofs.OpenRecords.{left}
@@ -53,7 +53,7 @@ others_live es k cause ls none a =
 
 -- all are closed
 pub closes_reasons : (devices : List Client) (cause : Cause) (ls : List Live) (put : List Out) (after : List Live) (over : List Over) → AllTake devices (close cause) ls put after over → is_ok_cause cause ≡ false →
-    (es : List Event) → AreLive es ls → AreApart ls → AreKept ls → IsAdvanced es → EndsFor cause es → OpenReasons es put
+    (es : List Event) → AreLive es ls → HaveOwnNumbers ls → AreKept ls → IsAdvanced es → EndsFor cause es → OpenReasons es put
 closes_reasons devices cause ls put after over all_have bad es a apart kept advanced why = no_reasons es advanced
 closes_reasons devices cause ls0 put0 after0 over0 (lives_on l ls after link put more over got keeps_so none rest) bad es a apart kept advanced why =
     let is = closed_put l.number cause link put (puts_so l (exchange (close cause) link put) keeps_so) in

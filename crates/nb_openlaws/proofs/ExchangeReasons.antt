@@ -37,7 +37,7 @@ use Rattle.nb_machine.specs.Lives.{OpenKind, tftp, dns, dhcp, ping, OpenInput, m
 use Rattle.nb_machine.specs.Kinds.{KeepsBy}
 use Rattle.nb_machine.specs.Transfers.{transfer_of, earlier, finds_none, end_records}
 use Rattle.nb_machine.specs.Takings.{end_among}
-use Rattle.nb_openlaws.specs.Standings.{heard_call, heard_calls, heard_marks, moment_in, told_tries, IsKindBy, HasOwnPort, IsOngoing}
+use Rattle.nb_openlaws.specs.Standings.{heard_call, heard_calls, heard_marks, moment_in, told_tries, IsKindBy, ComesToOwnPort, IsOngoing}
 use Rattle.nb_openlaws.specs.OpenEndings.{HadWay, EndsBecause, by_itself, by_lost_way}
 use Rattle.nb_openlaws.specs.OpenReasons.{OpenReasons}
 use Rattle.nb_openlaws.proofs.Takings.{IsNow, IsDueBy, way_stays, grown}
@@ -347,7 +347,7 @@ IsTaken (message rec port body now) = Unit {0}
 IsTaken (time_came now) = Unit {0}
 IsTaken (close cause) = ⊥
 
-pub exchange_so : (kind : OpenKind) (es : List Event) (l : Live) (x : Exchange) → IsTaken x.came → ComeAs kind es x.came l x.link → KeepsBy kind l → KeepsBy kind (continued l x) → AllByRecursion (IsOngoing kind l.number l.own) l.exchanges → HasOwnPort kind l.own x.came →
+pub exchange_so : (kind : OpenKind) (es : List Event) (l : Live) (x : Exchange) → IsTaken x.came → ComeAs kind es x.came l x.link → KeepsBy kind l → KeepsBy kind (continued l x) → AllByRecursion (IsOngoing kind l.number l.own) l.exchanges → ComesToOwnPort kind l.own x.came →
     ExchangeSo kind es l x
 exchange_so kind es l x taken come before keeps going own = by (last_as kind l x keeps going own)
   where

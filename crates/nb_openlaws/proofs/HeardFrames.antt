@@ -15,7 +15,7 @@ use Rattle.nb_machine.specs.States.{State, net0}
 use Rattle.nb_machine.specs.Network.{is_for_one}
 use Rattle.nb_laws.specs.Events.{Event, hears}
 use Rattle.nb_laws.specs.Lists.{time, Opening, counts_from, takes_reply, came_in, call_at}
-use Rattle.nb_openlaws.specs.Standings.{heard_call, live_opening, HasOwnPort, AgreesLive, AreLive, lives_among, AgreesState}
+use Rattle.nb_openlaws.specs.Standings.{heard_call, live_opening, ComesToOwnPort, AgreesLive, AreLive, lives_among, AgreesState}
 use Rattle.nb_openlaws.proofs.Takings.{or_first, or_second}
 use Rattle.nb_openlaws.proofs.UsedEvents.{IsUsed, live_one, no_call}
 
@@ -57,7 +57,7 @@ one_heard (dns id) l p d n now takes = refl
 one_heard (dhcp a) l p d n now takes = refl
 one_heard ping l p d n now takes = absurd (cc)
 
-pub own_of_datagram : (kind : OpenKind) (l : Live) (p : PacketParts) (d : UdpParts) (n now : ℕ) → takes_from kind l p d ≡ true → HasOwnPort kind l.own (message n d.src_port d.body now)
+pub own_of_datagram : (kind : OpenKind) (l : Live) (p : PacketParts) (d : UdpParts) (n now : ℕ) → takes_from kind l p d ≡ true → ComesToOwnPort kind l.own (message n d.src_port d.body now)
 own_of_datagram tftp l p d n now takes = tt
 own_of_datagram (dns id) l p d n now takes = tt
 own_of_datagram (dhcp a) l p d n now takes = tt
@@ -70,7 +70,7 @@ one_echoed (dns id) rec port now body is = absurd (cc)
 one_echoed (dhcp a) rec port now body is = absurd (cc)
 one_echoed ping rec port now body is = refl
 
-pub own_of_reply : (kind : OpenKind) (own rec port now : ℕ) (body : List ℕ) → own ≡ port → HasOwnPort kind own (message rec port body now)
+pub own_of_reply : (kind : OpenKind) (own rec port now : ℕ) (body : List ℕ) → own ≡ port → ComesToOwnPort kind own (message rec port body now)
 own_of_reply tftp own rec port now body is = tt
 own_of_reply (dns id) own rec port now body is = tt
 own_of_reply (dhcp a) own rec port now body is = tt

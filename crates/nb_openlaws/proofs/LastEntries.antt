@@ -39,7 +39,7 @@ use Rattle.nb_machine.specs.Transfers.{transfer_of, arrival_of, end_records, tra
 use Rattle.nb_machine.specs.Cores as cores
 use Rattle.nb_machine.specs.Cores.{look_up_of, ping_of, core_end, core_records, CoreExchanged, KeepsCore}
 use Rattle.nb_machine.specs.Kinds.{KeepsBy}
-use Rattle.nb_openlaws.specs.Standings.{heard_port, heard_call, moment_in, HasOwnPort, IsOngoing}
+use Rattle.nb_openlaws.specs.Standings.{heard_port, heard_call, moment_in, ComesToOwnPort, IsOngoing}
 use Rattle.nb_openlaws.proofs.OpenRecords.{snoc_one, no_snoc}
 use Rattle.nb_openlaws.proofs.OpenEntries.{IsFit, Did, did_transfer, ReadsAs, did_core, transfer_fit, all_front, all_last, each_front}
 
@@ -245,13 +245,13 @@ core_took {S} {B} {C} s kind l conv acts_in of xs0 calls0 x y c link call acts i
     }))
 
 last_core : {S B C : Type 0} (s : Service S B C) (kind : OpenKind) (l : Live) (conv : Entry → C) (acts_in : C → Acts) → CoreOf s kind l conv acts_in → (x : Exchange) (calls : List C) (ys : List Exchange) → CoreExchanged s l.number l.server calls ys → ys ≡ l.exchanges ++ x ∷ [] →
-    AllByRecursion (λ (z : C). IsCoreFit (acts_in z)) calls → ((h : List Entry) → calls ≡ map conv h → Promised kind l h) → AllByRecursion (IsOngoing kind l.number l.own) l.exchanges → HasOwnPort kind l.own x.came → LastAs kind l x
+    AllByRecursion (λ (z : C). IsCoreFit (acts_in z)) calls → ((h : List Entry) → calls ≡ map conv h → Promised kind l h) → AllByRecursion (IsOngoing kind l.number l.own) l.exchanges → ComesToOwnPort kind l.own x.came → LastAs kind l x
 last_core s kind l conv acts_in of x calls ys cores.at_first e fits promised going own = absurd (no_snoc l.exchanges x e)
 last_core s kind l conv acts_in of x calls ys (cores.takes_message calls0 xs0 link rec port body now acts before) e fits promised going own =
     let y = exchange (message rec port body now) link (core_records l.number l.server link acts) in
     let both = snoc_one xs0 l.exchanges y x e in
     let same : y ≡ x = both.1 in
-    let owns : HasOwnPort kind l.own (message rec port body now) = subst (λ (z : Exchange). HasOwnPort kind l.own z.came) (sym same) own in
+    let owns : ComesToOwnPort kind l.own (message rec port body now) = subst (λ (z : Exchange). ComesToOwnPort kind l.own z.came) (sym same) own in
     core_took s kind l conv acts_in of xs0 calls0 x y _ link (came (record { rec = rec; port = heard_port kind port; body = body }) now) acts (message rec port body now) refl both.0 same before fits
     (of.reads.by_message rec port body now acts owns) refl refl (λ h is. promised _ is) going
 last_core s kind l conv acts_in of x calls ys (cores.takes_time calls0 xs0 link now acts before) e fits promised going own =
@@ -264,7 +264,7 @@ last_core s kind l conv acts_in of x calls ys (cores.closes calls0 xs0 link caus
     subst (LastAs kind l) same (closed_as cause refl refl)
 
 -- of an open that has gone on so far
-pub last_as : (kind : OpenKind) (l : Live) (x : Exchange) → KeepsBy kind (continued l x) → AllByRecursion (IsOngoing kind l.number l.own) l.exchanges → HasOwnPort kind l.own x.came → LastAs kind l x
+pub last_as : (kind : OpenKind) (l : Live) (x : Exchange) → KeepsBy kind (continued l x) → AllByRecursion (IsOngoing kind l.number l.own) l.exchanges → ComesToOwnPort kind l.own x.came → LastAs kind l x
 last_as tftp l x k going own = last_transfer l x k.entries _ k.exchanged refl k.meets going
 last_as (dns id) l x k going own =
     last_core lookup_service (dns id) l (lookup_entry_of (host l.server)) (λ c. c.acts) (record { reads = reads_lookup id l.server l.own; ends = λ link h acts. refl; untries = λ call acts f. f }) x k.calls _ k.exchanged refl

@@ -11,7 +11,7 @@ use Rattle.nb_machine.specs.States.{State, with_live, later_by}
 use Rattle.nb_machine.specs.Takings.{Over, AllTake}
 use Rattle.nb_laws.specs.Events.{Event, waits}
 use Rattle.nb_laws.specs.Lists.{time, ms_of, made, Hardware, hardware, Opening, open_has_ended, call_at, tries, marks}
-use Rattle.nb_openlaws.specs.Standings.{heard_calls, heard_marks, live_opening, HasOwnPort, AreLive, lives_among, AreApart, AgreesState, told_tries}
+use Rattle.nb_openlaws.specs.Standings.{heard_calls, heard_marks, live_opening, ComesToOwnPort, AreLive, lives_among, HaveOwnNumbers, AgreesState, told_tries}
 use Rattle.nb_laws.proofs.Histories.{time_more}
 use Rattle.nb_laws.specs.Frames.{by_call}
 use Rattle.nb_machine.specs.Scripts.{net0_mac}
@@ -69,7 +69,7 @@ as_state es s t same lives a = record {
   mac_is = a.mac_is ∙ sym same.mac;
   identity_is = a.identity_is ∙ sym same.identity;
   each = subst (AreLive es) (sym lives) a.each;
-  apart = subst AreApart (sym lives) a.apart;
+  apart = subst HaveOwnNumbers (sym lives) a.apart;
   others = λ k away. a.others k (ap (lives_among k) (sym lives) ∙ away);
   unopened = a.unopened;
   unended = a.unended;
@@ -108,13 +108,13 @@ not_among es j (l ∷ ls) h more = both_false (l.number == j) (lives_among j ls)
 
 -- TIME COMES TO ALL
 
-own_at_time : (kind : OpenKind) (own now : ℕ) → HasOwnPort kind own (time_came now)
+own_at_time : (kind : OpenKind) (own now : ℕ) → ComesToOwnPort kind own (time_came now)
 own_at_time tftp own now = tt
 own_at_time (dns id) own now = tt
 own_at_time (dhcp a) own now = tt
 own_at_time ping own now = tt
 
-own_at_close : (kind : OpenKind) (own : ℕ) (cause : Cause) → HasOwnPort kind own (close cause)
+own_at_close : (kind : OpenKind) (own : ℕ) (cause : Cause) → ComesToOwnPort kind own (close cause)
 own_at_close tftp own cause = tt
 own_at_close (dns id) own cause = tt
 own_at_close (dhcp a) own cause = tt

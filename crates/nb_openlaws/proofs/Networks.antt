@@ -22,7 +22,7 @@ use Rattle.nb_machine.specs.Takings.{Over, AllTake, all_have, lives_on, is_over}
 use Rattle.nb_machine.specs.Network.{on_net0, Network, passes_by, brings, brings_reply, passes_time}
 use Rattle.nb_laws.specs.Events.{Event, hears, waits, used_by, written_by}
 use Rattle.nb_laws.specs.Lists.{time, ms_of, made, Hardware, hardware, call_at}
-use Rattle.nb_openlaws.specs.Standings.{AgreesLive, AreLive, has_live_number, lives_among, AreApart, AgreesState, told_tries}
+use Rattle.nb_openlaws.specs.Standings.{AgreesLive, AreLive, has_live_number, lives_among, HaveOwnNumbers, AgreesState, told_tries}
 use Rattle.nb_laws.proofs.Histories.{time_more}
 use Rattle.nb_laws.specs.Frames.{by_call}
 use Rattle.nb_machine.specs.Scripts.{net0_mac}
@@ -47,25 +47,25 @@ back_of es (x ∷ xs) ys h = back_of es xs ys h.1
 pub among_more : (j : ℕ) (xs ys : List Live) → lives_among j (xs ++ ys) ≡ (lives_among j xs || lives_among j ys)
 among_more j xs ys = list_any-append (has_live_number j) xs ys
 
-apart_front : (before : List Live) (l : Live) (behind : List Live) → AreApart (before ++ l ∷ behind) → lives_among l.number before ≡ false
+apart_front : (before : List Live) (l : Live) (behind : List Live) → HaveOwnNumbers (before ++ l ∷ behind) → lives_among l.number before ≡ false
 apart_front [] l behind h = refl
 apart_front (x ∷ before) l behind h =
     both_false (x.number == l.number) (lives_among l.number before)
     (flip_other l.number x.number (or_first (l.number == x.number) (lives_among x.number behind) (or_second (lives_among x.number before) (lives_among x.number (l ∷ behind)) (sym (among_more x.number before (l ∷ behind)) ∙ h.0))))
     (apart_front before l behind h.1)
 
-apart_back : (before : List Live) (l : Live) (behind : List Live) → AreApart (before ++ l ∷ behind) → lives_among l.number behind ≡ false
+apart_back : (before : List Live) (l : Live) (behind : List Live) → HaveOwnNumbers (before ++ l ∷ behind) → lives_among l.number behind ≡ false
 apart_back [] l behind h = h.0
 apart_back (x ∷ before) l behind h = apart_back before l behind h.1
 
-apart_kept : (before : List Live) (l m : Live) (behind : List Live) → m.number ≡ l.number → AreApart (before ++ l ∷ behind) → AreApart (before ++ m ∷ behind)
+apart_kept : (before : List Live) (l m : Live) (behind : List Live) → m.number ≡ l.number → HaveOwnNumbers (before ++ l ∷ behind) → HaveOwnNumbers (before ++ m ∷ behind)
 apart_kept [] l m behind e h = (ap (λ k. lives_among k behind) e ∙ h.0, h.1)
 apart_kept (x ∷ before) l m behind e h = (
   among_more x.number before (m ∷ behind) ∙ ap (λ k. lives_among x.number before || ((k == x.number) || lives_among x.number behind)) e ∙ sym (among_more x.number before (l ∷ behind)) ∙ h.0,
   apart_kept before l m behind e h.1,
 )
 
-apart_without : (before : List Live) (l : Live) (behind : List Live) → AreApart (before ++ l ∷ behind) → AreApart (before ++ behind)
+apart_without : (before : List Live) (l : Live) (behind : List Live) → HaveOwnNumbers (before ++ l ∷ behind) → HaveOwnNumbers (before ++ behind)
 apart_without [] l behind h = h.1
 apart_without (x ∷ before) l behind h =
     let both : (lives_among x.number before || lives_among x.number (l ∷ behind)) ≡ false = sym (among_more x.number before (l ∷ behind)) ∙ h.0 in (
@@ -76,7 +76,7 @@ apart_without (x ∷ before) l behind h =
     )
 
 apart_after : (devices : List Client) (input : OpenInput) (l : Live) (before behind : List Live) (put : List Out) (after : List Live) (over : List Over) → AllTake devices input (l ∷ []) put after over →
-    AreApart (before ++ l ∷ behind) → AreApart (before ++ (after ++ behind))
+    HaveOwnNumbers (before ++ l ∷ behind) → HaveOwnNumbers (before ++ (after ++ behind))
 apart_after devices input l before behind put after over (lives_on l0 ls0 after0 link put0 more over0 got keeps none all_have) h = apart_kept before l (continued l (exchange input link put0)) behind refl h
 apart_after devices input l before behind put after over (is_over l0 ls0 after0 link put0 more over0 cause got keeps some all_have) h = apart_without before l behind h
 
@@ -88,7 +88,7 @@ one_agrees es e s input before l behind put after over u further still a lives c
     let es2 = es1 ++ told put in
     let k = l.number in
     let each0 : AreLive es (before ++ l ∷ behind) = subst (AreLive es) lives a.each in
-    let apart0 : AreApart (before ++ l ∷ behind) = subst AreApart lives a.apart in
+    let apart0 : HaveOwnNumbers (before ++ l ∷ behind) = subst HaveOwnNumbers lives a.apart in
     let own = back_of es before (l ∷ behind) each0 in
     let t = all_taken s.devices input (l ∷ []) put after over all es1 (come, tt) (refl, tt) in
     let none_else : (j : ℕ) → (k == j) ≡ false → call_at j es e ≡ [] = λ j other.

@@ -34,7 +34,7 @@ use Rattle.nb_machine.specs.Transfers.{arrival_of, finds_none, earlier, end_reco
 use Rattle.nb_machine.specs.Cores as cores
 use Rattle.nb_machine.specs.Cores.{core_end, core_records, CoreExchanged}
 use Rattle.nb_machine.specs.Takings.{end_told, end_among}
-use Rattle.nb_openlaws.specs.Standings.{heard_port, heard_call, heard_calls, moment_in, told_try, told_tries, exchange_marks, heard_marks, HasOwnPort, IsOngoing}
+use Rattle.nb_openlaws.specs.Standings.{heard_port, heard_call, heard_calls, moment_in, told_try, told_tries, exchange_marks, heard_marks, ComesToOwnPort, IsOngoing}
 
 -- ENDS AMONG RECORDS
 
@@ -271,7 +271,7 @@ did_transfer k server own b h xs (closes es0 xs0 link cause before) each going =
 
 -- the calls of a core, as entries of what came to its open
 pub record ReadsAs {S B C : Type 0} (s : Service S B C) (kind : OpenKind) (server own : ℕ) (conv : Entry → C) (acts_in : C → Acts) : Type 0 where
-  pub by_message : (rec port : ℕ) (body : List ℕ) (now : ℕ) (acts : Acts) → HasOwnPort kind own (message rec port body now) →
+  pub by_message : (rec port : ℕ) (body : List ℕ) (now : ℕ) (acts : Acts) → ComesToOwnPort kind own (message rec port body now) →
       s.received (datagram_from rec port (host server) body) now acts ≡ conv (entry (came (received rec (heard_port kind port) body) now) acts)
   pub by_time : (now : ℕ) (acts : Acts) → s.timed now acts ≡ conv (entry (ticked now) acts)
   pub acts_are : (e : Entry) → acts_in (conv e) ≡ e.acts

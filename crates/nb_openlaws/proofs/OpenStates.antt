@@ -22,7 +22,7 @@ use Rattle.nb_machine.specs.States.{State, net0, with_opened, with_one_made}
 use Rattle.nb_machine.specs.Scripts.{net0_mac}
 use Rattle.nb_laws.specs.Events.{Event, puts}
 use Rattle.nb_laws.specs.Lists.{time, made, port_offset, Hardware, hardware, opening_at, openings, open_has_ended, calls, tries, marks}
-use Rattle.nb_openlaws.specs.Standings.{heard_calls, heard_marks, told_try, told_tries, IsKindBy, IsOngoing, live_opening, AgreesLive, AreLive, lives_among, AreApart, AgreesState}
+use Rattle.nb_openlaws.specs.Standings.{heard_calls, heard_marks, told_try, told_tries, IsKindBy, IsOngoing, live_opening, AgreesLive, AreLive, lives_among, HaveOwnNumbers, AgreesState}
 use Rattle.nb_laws.specs.Agreement.{IsStill, AreStill}
 use Rattle.nb_laws.proofs.Histories.{time_more, offset_more, hardware_more}
 use Rattle.nb_laws.proofs.Tellings.{told, made_more, openings_more, calls_more, marks_more, over_more, no_more, live_same, same_number}
@@ -142,7 +142,7 @@ among_last j (x ∷ ls) l h =
     let rest = among_last j ls l (or_second (x.number == j) (lives_among j (ls ++ l ∷ [])) h) in
     (both_false (x.number == j) (lives_among j ls) (or_first (x.number == j) (lives_among j (ls ++ l ∷ [])) h) rest.0, rest.1)
 
-apart_last : (es : List Event) (ls : List Live) (l : Live) → l.number ≡ made es → AreLive es ls → AreApart ls → AreApart (ls ++ l ∷ [])
+apart_last : (es : List Event) (ls : List Live) (l : Live) → l.number ≡ made es → AreLive es ls → HaveOwnNumbers ls → HaveOwnNumbers (ls ++ l ∷ [])
 apart_last es [] l e h a = (refl, tt)
 apart_last es (x ∷ ls) l e h a = (last ls a.0, apart_last es ls l e h.1 a.1)
   where

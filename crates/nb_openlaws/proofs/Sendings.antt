@@ -22,7 +22,7 @@ use Rattle.nb_laws.specs.Histories.{client}
 use Rattle.nb_laws.specs.Progress.{IsAdvanced, AdvancesSo}
 use Rattle.nb_laws.specs.Lists as lists
 use Rattle.nb_laws.specs.Lists.{hardware, file_blocks, Opening, openings, open_has_ended, calls, last_place}
-use Rattle.nb_laws.specs.Frames.{TriesSo, MayAskFor, by_transfer, IsSent, IsNewest, IsDue, stays_due, by_open, begun_by}
+use Rattle.nb_laws.specs.Frames.{TriesSo, MayAskFor, by_transfer, IsSent, IsMessageTried, IsDue, stays_due, by_open, begun_by}
 use Rattle.nb_laws.specs.Agreement.{AreAside, IsStill}
 use Rattle.nb_laws.proofs.Histories.{each_append, each_then_append, client_put}
 use Rattle.nb_laws.proofs.Tellings.{told, tries_later, still_advanced, advanced_more, blocks_same, place_more, kept, openings_more, calls_more, same_number}
@@ -87,7 +87,7 @@ may_send_on es quiet link k o gs aside same m =
 
 -- a message of an open that lives
 one_sent : (es : List Event) (link : Client) (k : ℕ) (o : Opening) (send : SendTo) (gs : List Received) → MaySend es link k o gs → MayAskFor (hardware es) k o gs send →
-    (s : IsSent k es (put_on link send (way_of link send))) × (NewestBy o gs send → IsNewest k es s.opening s.send)
+    (s : IsSent k es (put_on link send (way_of link send))) × (NewestBy o gs send → IsMessageTried k es s.opening s.send)
 one_sent es link k o send gs m asked = (
   record {
     opening = o;
@@ -106,7 +106,7 @@ try_after : (es : List Event) (k n : ℕ) → IsAdvanced es → IsAdvanced (es +
 try_after es k n a = advanced_more es (puts (tried k n)) (λ j. refl) (λ j. refl) (λ j. refl) a
 
 frame_reasons : (es : List Event) (k : ℕ) (try : Option ℕ) (bytes : List ℕ) (s : IsSent k (es ++ told (try_records k try)) bytes) →
-    ((n : ℕ) → try ≡ Some n → IsNewest k (es ++ told (try_records k try)) s.opening s.send) → IsDue k es → IsAdvanced es → OpenReasons es (try_records k try ++ (sent bytes ∷ []))
+    ((n : ℕ) → try ≡ Some n → IsMessageTried k (es ++ told (try_records k try)) s.opening s.send) → IsDue k es → IsAdvanced es → OpenReasons es (try_records k try ++ (sent bytes ∷ []))
 frame_reasons es k None bytes s newest d a = record {
   ends = (tt, tt);
   frames = (by_open k (subst (λ z. IsSent k z bytes) (append-nil es) s) d, tt);

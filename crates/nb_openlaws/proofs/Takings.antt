@@ -17,7 +17,7 @@ use Rattle.nb_laws.specs.Events.{Event, puts}
 use Rattle.nb_laws.specs.Frames.{IsDue, stays_due}
 use Rattle.nb_laws.specs.Lists.{time, made, port_offset, hardware, Opening, openings, open_has_ended, calls, tries, marks, mark_of}
 use Rattle.nb_openlaws.specs.OpenEndings.{HadWay}
-use Rattle.nb_openlaws.specs.Standings.{heard_call, moment_in, told_tries, heard_calls, exchange_marks, heard_marks, live_opening, IsKindBy, HasOwnPort, IsOngoing, AgreesLive, AreLive, lives_among, AreApart}
+use Rattle.nb_openlaws.specs.Standings.{heard_call, moment_in, told_tries, heard_calls, exchange_marks, heard_marks, live_opening, IsKindBy, ComesToOwnPort, IsOngoing, AgreesLive, AreLive, lives_among, HaveOwnNumbers}
 use Rattle.nb_laws.proofs.Tellings.{told, no_more}
 use Rattle.nb_openlaws.proofs.OpenRecords.{all_append, AreOf, ends_in, left, of_later, other_tries, other_ends, end_among_is, IsPutBy, kept_puts}
 
@@ -79,7 +79,7 @@ pub record HasCome (es : List Event) (input : OpenInput) (l : Live) : Type 0 whe
   pub tells : marks l.number es ≡ (tries 1 l.since ∷ heard_marks l.kind l.number l.exchanges) ++ map mark_of (heard_call l.kind input)
   pub goes_on : AllByRecursion (IsOngoing l.kind l.number l.own) l.exchanges
   pub now : IsNow input (time es)
-  pub own : HasOwnPort l.kind l.own input
+  pub own : ComesToOwnPort l.kind l.own input
   pub due : IsDueBy input l.number es
 
 abbrev pub AllCome : List Event → OpenInput → List Live → Type 0
@@ -238,13 +238,13 @@ pub record Taken (es es2 : List Event) (ls after : List Live) (over : List Over)
   pub ended : AreOver es2 over
   -- whose numbers are theirs
   pub theirs : (j : ℕ) → lives_among j ls ≡ false → overs_among j over ≡ false
-  pub apart : AreApart after
+  pub apart : HaveOwnNumbers after
   pub still : (j : ℕ) → lives_among j ls ≡ false → SameAt j es es2
   pub none_new : (j : ℕ) → lives_among j ls ≡ false → lives_among j after ≡ false
   pub gone : (j : ℕ) → lives_among j ls ≡ true → lives_among j after ≡ false → open_has_ended j es2 ≡ true
 
 pub all_taken : (devices : List Client) (came : OpenInput) (ls : List Live) (put : List Out) (after : List Live) (over : List Over) → AllTake devices came ls put after over →
-    (es : List Event) → AllCome es came ls → AreApart ls → Taken es (es ++ told put) ls after over
+    (es : List Event) → AllCome es came ls → HaveOwnNumbers ls → Taken es (es ++ told put) ls after over
 all_taken devices came ls put after over all_have es come apart = subst (λ z. Taken es z [] [] []) (sym (append-nil es)) (record {
   time_is = refl;
   made_is = refl;

@@ -5,7 +5,7 @@ use Rattle.nb_tftp.specs.History.{ticked}
 use Rattle.nb_machine.specs.Lives.{OpenInput, Live}
 use Rattle.nb_laws.specs.Events.{Event, starts, hears, waits, stops, puts}
 use Rattle.nb_laws.specs.Lists.{time, made, port_offset, hardware, opens_by, Opening, opening_at, openings, is_end_of, open_has_ended, live, came_in, call_at, calls, mark_of, mark_at, marks}
-use Rattle.nb_openlaws.specs.Standings.{heard_call, live_opening, IsKindBy, HasOwnPort, AgreesLive}
+use Rattle.nb_openlaws.specs.Standings.{heard_call, live_opening, IsKindBy, ComesToOwnPort, AgreesLive}
 use Rattle.nb_laws.proofs.Histories.{offset_more, hardware_more}
 use Rattle.nb_laws.proofs.Tellings.{made_more, openings_more, calls_more, marks_more, over_more, no_more, no_or}
 use Rattle.nb_openlaws.proofs.Takings.{SameAt, IsNow, IsDueBy, HasCome}
@@ -100,7 +100,7 @@ hardware_used es (waits n ms) u f = hardware_more es (waits n ms)
 hardware_used es (stops n) u f = hardware_more es (stops n)
 
 pub has_come : (es : List Event) (e : Event) (input : OpenInput) (l : Live) → IsUsed e → IsFurther e → AgreesLive es l → call_at l.number es e ≡ heard_call l.kind input → IsNow input (time (es ++ e ∷ [])) →
-    HasOwnPort l.kind l.own input → IsDueBy input l.number (es ++ e ∷ []) → HasCome (es ++ e ∷ []) input l
+    ComesToOwnPort l.kind l.own input → IsDueBy input l.number (es ++ e ∷ []) → HasCome (es ++ e ∷ []) input l
 has_come es e input l u further h one now own due =
     let k = l.number in record {
       made_so = subst (λ z. l.number < z) (sym (made_used es e u)) h.made_so;

@@ -81,17 +81,17 @@ IsKindBy h k (dhcp a) o = (a ≡ asker_by h k) × (o.server ≡ 4294967295) × (
 IsKindBy h k ping o = (o.port ≡ 0) × (o.target ≡ [])
 
 -- a message for a ping has its identifier
-abbrev pub HasOwnPort : OpenKind → (own : ℕ) → OpenInput → Type 0
-HasOwnPort tftp own input = Unit {0}
-HasOwnPort (dns id) own input = Unit {0}
-HasOwnPort (dhcp a) own input = Unit {0}
-HasOwnPort ping own (message rec port body now) = port ≡ own
-HasOwnPort ping own (time now) = Unit {0}
-HasOwnPort ping own (close cause) = Unit {0}
+abbrev pub ComesToOwnPort : OpenKind → (own : ℕ) → OpenInput → Type 0
+ComesToOwnPort tftp own input = Unit {0}
+ComesToOwnPort (dns id) own input = Unit {0}
+ComesToOwnPort (dhcp a) own input = Unit {0}
+ComesToOwnPort ping own (message rec port body now) = port ≡ own
+ComesToOwnPort ping own (time now) = Unit {0}
+ComesToOwnPort ping own (close cause) = Unit {0}
 
 -- an exchange after which the open goes on
 abbrev pub IsOngoing : OpenKind → (number own : ℕ) → Exchange → Type 0
-IsOngoing kind number own x = (end_among number x.put ≡ None) × HasOwnPort kind own x.came
+IsOngoing kind number own x = (end_among number x.put ≡ None) × ComesToOwnPort kind own x.came
 
 -- what the history says of an open that lives
 pub record AgreesLive (es : List Event) (l : Live) : Type 0 where
@@ -114,9 +114,9 @@ abbrev pub lives_among : ℕ → List Live → Bool
 lives_among k ls = list_any (has_live_number k) ls
 
 -- no two have one number
-abbrev pub AreApart : List Live → Type 0
-AreApart [] = Unit {0}
-AreApart (l ∷ ls) = (lives_among l.number ls ≡ false) × AreApart ls
+abbrev pub HaveOwnNumbers : List Live → Type 0
+HaveOwnNumbers [] = Unit {0}
+HaveOwnNumbers (l ∷ ls) = (lives_among l.number ls ≡ false) × HaveOwnNumbers ls
 
 -- The history says the time, how many opens were made, and of each open that lives all that has come to it and that it has tried;
 -- no other open lives, and of those to come nothing is told.
@@ -127,7 +127,7 @@ pub record AgreesState (es : List Event) (s : State) : Type 0 where
   pub mac_is : (hardware es).mac ≡ net0_mac s.devices
   pub identity_is : (hardware es).identity ≡ s.machine
   pub each : AreLive es s.live
-  pub apart : AreApart s.live
+  pub apart : HaveOwnNumbers s.live
   pub others : (k : ℕ) → lives_among k s.live ≡ false → live k es ≡ []
   pub unopened : (k : ℕ) → made es ≤ k → openings k es ≡ []
   pub unended : (k : ℕ) → made es ≤ k → open_has_ended k es ≡ false

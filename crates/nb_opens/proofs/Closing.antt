@@ -23,7 +23,7 @@ use Rattle.nb_nodes.specs.Conversations.{Conversation, Continues, RunsTo, unbegu
 use Rattle.nb_nodes.specs.Fetches.{gathers, closed_well, first_end, is_ok_close}
 use Rattle.nb_nodes.specs.Standing.{ObjStands}
 use Rattle.nb_opens.specs.Notices.{tells, closed_notices}
-use Rattle.nb_opens.specs.Pairs.{AreTwo, AreJoined, AreGoing, HasEnded, AreUnharvested}
+use Rattle.nb_opens.specs.Pairs.{AreTwo, ArePlugged, AreGoing, HasHandedOut, AreUnharvested}
 use Rattle.nb_opens.proofs.TalkLemmas.{TalkMeets}
 use Rattle.nb_opens.proofs.Going.{Case, closes-down}
 use Rattle.nb_opens.proofs.Starting.{started, case_of}
@@ -33,7 +33,7 @@ use Rattle.nb_opens.proofs.Ending.{all_told}
 
 -- Two that are going, with their traces: the Fetch gathers, and the transfer hasn't ended.
 pub record Goings (g : Objects Obj) (f t : ℕ) : Type 0 where
-  pub joined : AreJoined g f t
+  pub joined : ArePlugged g f t
   pub above : List (NodeEntry Obj Load)
   pub below : List (NodeEntry Obj Load)
   pub talk : Conversation
@@ -151,7 +151,7 @@ module _ (c : Case) (s : Scene) (a : List (NodeEntry Obj Load)) (v : Conversatio
 
 module _ (g a h : Objects Obj) (m n o : Heard) (now f t : ℕ) (z : Cause) where
   pub both_shut : (w : Goings g f t) → UserShut g a m n f t z w → AreNoded rank_of_obj h → WentOne ObjStands obj_nature now (Closes (port_at f 1) z ∷ []) a h n o
-      → HasEnded h f t None × Given m o (closed_notices f t z)
+      → HasHandedOut h f t None × Given m o (closed_notices f t z)
   both_shut w u noded k =
       let asks : List (Stage Obj Load) = Closes (port_at f 1) z ∷ [] in
       let st = started a h n o now f t asks w.above u.below w.talk u.two u.fetch u.tftp u.runs w.meets u.unharvested noded (tt, tt) k in
@@ -172,5 +172,5 @@ module _ (g a h : Objects Obj) (m n o : Heard) (now f t : ℕ) (z : Cause) where
       )
 
   pub close_does : AreGoing g f t → AreNoded rank_of_obj a → AreNoded rank_of_obj h → WentOne ObjStands obj_nature now (Closes (port_at f 0) z ∷ []) g a m n
-      → WentOne ObjStands obj_nature now (Closes (port_at f 1) z ∷ []) a h n o → HasEnded h f t None × Given m o (closed_notices f t z)
+      → WentOne ObjStands obj_nature now (Closes (port_at f 1) z ∷ []) a h n o → HasHandedOut h f t None × Given m o (closed_notices f t z)
   close_does going i j k l = let w = goings g f t going in both_shut w (user_shut g a m n now f t z w i k) j l

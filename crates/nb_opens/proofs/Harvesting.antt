@@ -13,7 +13,7 @@ use Rattle.nb_nodes.specs.Fetches.{FetchStands, FetchHarvests, closed_well, take
 use Rattle.nb_nodes.specs.Objects.{rank_of_obj, mark_of_obj}
 use Rattle.nb_nodes.specs.Standing.{ObjStands, ObjHarvests}
 use Rattle.nb_opens.specs.Notices.{serial}
-use Rattle.nb_opens.specs.Pairs.{HasEnded, body_in}
+use Rattle.nb_opens.specs.Pairs.{HasHandedOut, body_in}
 
 no_body : (body : Option (List ℕ)) → false ≡ is_some body → body ≡ None
 no_body None h = refl
@@ -48,7 +48,7 @@ from_node (obj.Http p) after r t body at s well taken zero h = absurd (omega (ar
 from_node (obj.Tcp p) after r t body at s well taken zero h = absurd (omega (arith, at))
 
 -- it is the body of the open
-pub harvests_body : (g h : Objects Obj) (f t : ℕ) (r : Option Load) (body : Option (List ℕ)) → AreNoded rank_of_obj g → Harvests ObjHarvests g h (serial f) r → HasEnded g f t body → body_in r ≡ body
+pub harvests_body : (g h : Objects Obj) (f t : ℕ) (r : Option Load) (body : Option (List ℕ)) → AreNoded rank_of_obj g → Harvests ObjHarvests g h (serial f) r → HasHandedOut g f t body → body_in r ≡ body
 harvests_body g h f t r body noded k e =
     let n = noded f e.shut.two.fetch_lives in
     let z : Some n.node ≡ Some k.before = sym n.is_node ∙ k.had in

@@ -22,7 +22,7 @@ use Rattle.nb_nodes.specs.declared.obj.Obj.{Obj}
 use Rattle.nb_nodes.specs.Objects.{obj_nature}
 use Rattle.nb_nodes.specs.Carried.{downs_of, end_closes, AsksNone}
 use Rattle.nb_nodes.specs.Conversations.{TakesWhole}
-use Rattle.nb_nodes.specs.Exchanges.{Service, Exchange, not_begun, asking, finished, after_calls, AsksAndGives, GivesAtEnd, Exchanges, takes_message, takes_time, is_ended, stays_idle, LeadsTo}
+use Rattle.nb_nodes.specs.Exchanges.{Service, AskerState, not_begun, asking, finished, after_calls, AsksAndGives, GivesAtEnd, AskerTakes, takes_message, takes_time, is_ended, stays_idle, AskerLeadsTo}
 use Rattle.nb_opens.specs.Entries.{entries_of}
 use Rattle.nb_opens.specs.Notices.{tells, sent_from, first_close}
 use Rattle.nb_opens.specs.AloneNotices.{alone_call, alone_end}
@@ -48,14 +48,14 @@ abbrev pub slots_at : Option Cause → ℕ → PortState
 slots_at None k = new_ports k
 slots_at (Some c) k = shut_slots k
 
-module _ {S B C : Type 0} (svc : Service S B C) (now x : ℕ) (end : Scene) (last : Exchange B C) (ds : List (Deed Obj Load)) where
+module _ {S B C : Type 0} (svc : Service S B C) (now x : ℕ) (end : Scene) (last : AskerState B C) (ds : List (Deed Obj Load)) where
   -- what a core's call asks for is done, and told in its order
-  pub record Done (v : Exchange B C) (ns : List Notice) (over : Option Cause) : Type 0 where
+  pub record Done (v : AskerState B C) (ns : List Notice) (over : Option Cause) : Type 0 where
     pub told : told_of ds ≡ ns
     pub seen : Seen end x (slots_at over)
     pub same : v ≡ last
 
-  closes_then : (s : Scene) (v : Exchange B C) (ns : List Notice) (j : ℕ) (by : Way) (over : Option Cause) → settles_by {N = Obj} {L = Load} by x ≡ Settles x ∷ [] → Seen s x new_ports
+  closes_then : (s : Scene) (v : AskerState B C) (ns : List Notice) (j : ℕ) (by : Way) (over : Option Cause) → settles_by {N = Obj} {L = Load} by x ≡ Settles x ∷ [] → Seen s x new_ports
       → Walk svc now x end last s (closes_of x (end_closes over) ++ Holds (port_at x j) by None ∷ []) v ns ds → Done v (ns ++ (alone_end x over ++ tells (Left (port_at x j)) ∷ [])) over
   closes_then s v ns j by None e h k =
       let z = at_rest svc now x end last ds s v _ (past_end svc now x end last ds s v ns j by e k) in
@@ -73,7 +73,7 @@ module _ {S B C : Type 0} (svc : Service S B C) (now x : ℕ) (end : Scene) (las
       let z = at_rest svc now x end last ds s2 v _ four in
       record { told = z.0; seen = subst (λ y. Seen y x (slots_at (Some c))) z.1 h2; same = z.2 }
 
-  pub call_done : (s : Scene) (v : Exchange B C) (m : Said) (acts : Acts) (given : List Said) (fx : Fx Obj Load) (j : ℕ) (by : Way) → settles_by {N = Obj} {L = Load} by x ≡ Settles x ∷ [] → Seen s x new_ports → AsksAndGives m acts given fx
+  pub call_done : (s : Scene) (v : AskerState B C) (m : Said) (acts : Acts) (given : List Said) (fx : Fx Obj Load) (j : ℕ) (by : Way) → settles_by {N = Obj} {L = Load} by x ≡ Settles x ∷ [] → Seen s x new_ports → AsksAndGives m acts given fx
       → Walk svc now x end last s (runs_of obj_nature x m true fx ++ Holds (port_at x j) by None ∷ []) v (tells (Entered (port_at x j) by) ∷ []) ds → Done v (alone_call x (port_at x j) by m.rec acts given) acts.over
   call_done s v m acts given fx j by e h asks k =
       let hs : List (Stage Obj Load) = Holds (port_at x j) by None ∷ [] in
@@ -92,21 +92,21 @@ module _ {S B C : Type 0} (svc : Service S B C) (now x : ℕ) (end : Scene) (las
         same = d.same;
       }
 
-module _ {S B C : Type 0} (svc : Service S B C) (now x : ℕ) (end : Scene) (last : Exchange B C) (ds : List (Deed Obj Load)) where
+module _ {S B C : Type 0} (svc : Service S B C) (now x : ℕ) (end : Scene) (last : AskerState B C) (ds : List (Deed Obj Load)) where
   -- the object is entered, and its node is called
-  pub record Called (s : Scene) (v : Exchange B C) (entry : Bool → Fx Obj Load → NodeEntry Obj Load) (m : Said) (j : ℕ) (by : Way) (left_over : Bool → Fx Obj Load → Option Said) : Type 0 where
+  pub record Called (s : Scene) (v : AskerState B C) (entry : Bool → Fx Obj Load → NodeEntry Obj Load) (m : Said) (j : ℕ) (by : Way) (left_over : Bool → Fx Obj Load → Option Said) : Type 0 where
     pub done : Bool
     pub fx : Fx Obj Load
-    pub next : Exchange B C
-    pub goes : Exchanges svc v (entry done fx) next
+    pub next : AskerState B C
+    pub goes : AskerTakes svc v (entry done fx) next
     pub walk : Walk svc now x end last s (runs_of obj_nature x m done fx ++ Holds (port_at x j) by (left_over done fx) ∷ []) next (tells (Entered (port_at x j) by) ∷ []) ds
 
-  pub called : (s : Scene) (gs : List (Stage Obj Load)) (v : Exchange B C) (entry : Bool → Fx Obj Load → NodeEntry Obj Load) (m : Said) (j : ℕ) (by : Way) (left_over : Bool → Fx Obj Load → Option Said) (k : Walk svc now x end last s gs v [] ds)
+  pub called : (s : Scene) (gs : List (Stage Obj Load)) (v : AskerState B C) (entry : Bool → Fx Obj Load → NodeEntry Obj Load) (m : Said) (j : ℕ) (by : Way) (left_over : Bool → Fx Obj Load → Option Said) (k : Walk svc now x end last s gs v [] ds)
       → EntersThen obj_nature now s [] entry (port_at x j) by m left_over [] k.left end → Called s v entry m j by left_over
   called s gs v entry m j by left_over k (done, fx, (es, e, uses)) =
       let i : NodeEntry Obj Load = entry done fx in
       let own : entries_of x (writes (Entered (port_at x j) by) ∷ it_calls x i ∷ es) ≡ i ∷ entries_of x es = rw (eq-eqb x x refl) refl in
-      let run : LeadsTo svc v (i ∷ entries_of x es) last = subst (λ z. LeadsTo svc v z last) (ap (entries_of x) e ∙ own) k.runs in
+      let run : AskerLeadsTo svc v (i ∷ entries_of x es) last = subst (λ z. AskerLeadsTo svc v z last) (ap (entries_of x) e ∙ own) k.runs in
       record {
         done = done;
         fx = fx;
@@ -120,28 +120,28 @@ pub whole_taken : (m : Said) (took : ℕ) → length m.bytes < 2 ^ 32 → took �
 whole_taken m took h e = all_left m took (omega (arith, h, e))
 
 -- The node ran out of memory, or its core's call asked for this.
-pub data Answers {S B C : Type 0} (svc : Service S B C) (b : B) (start : ℕ) (calls : List C) (m : Said) (call : Acts → C) (left_over : Bool → Fx Obj Load → Option Said) : Bool → Fx Obj Load → Exchange B C → Type 0 where
-  broke : (fx : Fx Obj Load) (w : Exchange B C) → Answers svc b start calls m call left_over false fx w
+pub data Answers {S B C : Type 0} (svc : Service S B C) (b : B) (start : ℕ) (calls : List C) (m : Said) (call : Acts → C) (left_over : Bool → Fx Obj Load → Option Said) : Bool → Fx Obj Load → AskerState B C → Type 0 where
+  broke : (fx : Fx Obj Load) (w : AskerState B C) → Answers svc b start calls m call left_over false fx w
   asked : (fx : Fx Obj Load) (acts : Acts) (given : List Said) → AsksAndGives m acts given fx → left_over true fx ≡ None → GivesAtEnd svc m.rec b (calls ++ call acts ∷ []) acts.over given
       → Answers svc b start calls m call left_over true fx (after_calls b start (calls ++ call acts ∷ []) acts)
 
-pub hears : {S B C : Type 0} (svc : Service S B C) (b : B) (start : ℕ) (calls : List C) (m : Said) (now : ℕ) (done : Bool) (fx : Fx Obj Load) (w : Exchange B C) → svc.takes 1 m ≡ true → length m.bytes < 2 ^ 32
-    → Exchanges svc (asking b start calls) (up 1 m now done fx) w → Answers svc b start calls m (svc.received m now) (λ done fx. rest m done fx) done fx w
+pub hears : {S B C : Type 0} (svc : Service S B C) (b : B) (start : ℕ) (calls : List C) (m : Said) (now : ℕ) (done : Bool) (fx : Fx Obj Load) (w : AskerState B C) → svc.takes 1 m ≡ true → length m.bytes < 2 ^ 32
+    → AskerTakes svc (asking b start calls) (up 1 m now done fx) w → Answers svc b start calls m (svc.received m now) (λ done fx. rest m done fx) done fx w
 hears svc b start calls m now false fx w is small k = broke fx w
 hears svc b start calls m now true fx _ is small (takes_message _ _ _ _ _ _ _ acts given _ effects takes gives) = asked fx acts given effects (whole_taken m fx.took small takes) gives
 hears svc b start calls m now true fx _ is small (is_ended _ _ fatal passes) = absurd (let z = fatal in cc)
 hears svc b start calls m now true fx _ is small (stays_idle _ _ idle nothing) = absurd (let z = sym (ap not is) ∙ idle in cc)
 
-pub hears_time : {S B C : Type 0} (svc : Service S B C) (b : B) (start : ℕ) (calls : List C) (now : ℕ) (done : Bool) (fx : Fx Obj Load) (w : Exchange B C)
-    → Exchanges svc (asking b start calls) (time now done fx) w → Answers svc b start calls silence (svc.timed now) (λ done fx. None) done fx w
+pub hears_time : {S B C : Type 0} (svc : Service S B C) (b : B) (start : ℕ) (calls : List C) (now : ℕ) (done : Bool) (fx : Fx Obj Load) (w : AskerState B C)
+    → AskerTakes svc (asking b start calls) (time now done fx) w → Answers svc b start calls silence (svc.timed now) (λ done fx. None) done fx w
 hears_time svc b start calls now false fx w k = broke fx w
 hears_time svc b start calls now true fx _ (takes_time _ _ _ _ _ acts given effects gives) = asked fx acts given effects refl gives
 hears_time svc b start calls now true fx _ (is_ended _ _ fatal passes) = absurd (let z = fatal in cc)
 hears_time svc b start calls now true fx _ (stays_idle _ _ idle nothing) = absurd (let z = idle in cc)
 
 -- a message that the core isn't given changes nothing
-pub ignores : {S B C : Type 0} (svc : Service S B C) (b : B) (start : ℕ) (calls : List C) (m : Said) (now : ℕ) (fx : Fx Obj Load) (w : Exchange B C) → svc.takes 1 m ≡ false
-    → Exchanges svc (asking b start calls) (up 1 m now true fx) w → AsksNone fx × TakesWhole m fx × (w ≡ asking b start calls)
+pub ignores : {S B C : Type 0} (svc : Service S B C) (b : B) (start : ℕ) (calls : List C) (m : Said) (now : ℕ) (fx : Fx Obj Load) (w : AskerState B C) → svc.takes 1 m ≡ false
+    → AskerTakes svc (asking b start calls) (up 1 m now true fx) w → AsksNone fx × TakesWhole m fx × (w ≡ asking b start calls)
 ignores svc b start calls m now fx _ is (takes_message _ _ _ _ _ _ _ acts given takes effects whole gives) = absurd (false≢true (sym is ∙ takes))
 ignores svc b start calls m now fx _ is (is_ended _ _ fatal passes) = absurd (let z = fatal in cc)
 ignores svc b start calls m now fx _ is (stays_idle _ _ idle nothing) = (nothing.0, nothing.1, refl)
@@ -151,14 +151,14 @@ meets_either : {S B C : Type 0} (svc : Service S B C) (o : Bool) (b : B) (start 
 meets_either svc true b start calls h = h
 meets_either svc false b start calls h = h
 
-module _ {S B C : Type 0} (svc : Service S B C) (kind : ℕ) (g h : Objects Obj) (m n : Heard) (now x : ℕ) (asks : List (Stage Obj Load)) (v : Exchange B C) (st : LoneStarted svc kind g h m n now x asks v) where
+module _ {S B C : Type 0} (svc : Service S B C) (kind : ℕ) (g h : Objects Obj) (m n : Heard) (now x : ℕ) (asks : List (Stage Obj Load)) (v : AskerState B C) (st : LoneStarted svc kind g h m n now x asks v) where
   -- an exchange under way after the call
   pub still_talks : (b : B) (start : ℕ) (calls : List C) → Seen (scene_of h.book) x new_ports → asking b start calls ≡ st.last → Talks svc kind h x b start calls
   still_talks b start calls seen same = record {
     lone = lone_seen h x new_ports seen st.held;
     trace = st.top;
     stands = st.stands;
-    run = subst (λ (w : Exchange B C). LeadsTo svc not_begun st.top w) (sym same) st.run;
+    run = subst (λ (w : AskerState B C). AskerLeadsTo svc not_begun st.top w) (sym same) st.run;
     meets = subst (MeetsAt svc) (sym same) st.meets;
     of_kind = st.of_kind;
   }
@@ -177,14 +177,14 @@ module _ {S B C : Type 0} (svc : Service S B C) (kind : ℕ) (g h : Objects Obj)
       let met : svc.meets b start all = meets_either svc (is_some acts.over) b start all (subst (MeetsAt svc) (sym same) st.meets) in
       comes_to_end acts c given met e gives told (lone_seen h x shut_slots seen st.held)
 
-  pub answers_so : (b : B) (start : ℕ) (calls : List C) (said : Said) (j : ℕ) (by : Way) (call : Acts → C) (left_over : Bool → Fx Obj Load → Option Said) (done : Bool) (fx : Fx Obj Load) (w : Exchange B C)
+  pub answers_so : (b : B) (start : ℕ) (calls : List C) (said : Said) (j : ℕ) (by : Way) (call : Acts → C) (left_over : Bool → Fx Obj Load → Option Said) (done : Bool) (fx : Fx Obj Load) (w : AskerState B C)
       → settles_by {N = Obj} {L = Load} by x ≡ Settles x ∷ [] → IsOpenLone g x → Answers svc b start calls said call left_over done fx w
       → Walk svc now x (scene_of h.book) st.last (scene_of g.book) (runs_of obj_nature x said done fx ++ Holds (port_at x j) by (left_over done fx) ∷ []) w (tells (Entered (port_at x j) by) ∷ []) st.deeds
       → AsksMore svc kind h x b start calls (port_at x j) by said.rec call (told_of st.deeds)
   answers_so b start calls said j by call left_over _ _ _ e lone (broke fx w) k =
       runs_out (ap first_close k.told ∙ fails-told now (scene_of g.book) (scene_of h.book) x said fx (Holds (port_at x j) by (left_over false fx) ∷ []) k.left (ap open_count (lone.ports 0)) k.uses)
   answers_so b start calls said j by call left_over _ _ _ e lone (asked fx acts given effects none gives) k =
-      let w : Exchange B C = after_calls b start (calls ++ call acts ∷ []) acts in
+      let w : AskerState B C = after_calls b start (calls ++ call acts ∷ []) acts in
       let runs : List (Stage Obj Load) = runs_of obj_nature x said true fx in
       let k2 = as_stages svc now x (scene_of h.book) st.last st.deeds (scene_of g.book) _ (runs ++ Holds (port_at x j) by None ∷ []) w (tells (Entered (port_at x j) by) ∷ []) (ap (λ z. runs ++ Holds (port_at x j) by z ∷ []) none) k in
       let d = call_done svc now x (scene_of h.book) st.last st.deeds (scene_of g.book) w said acts given fx j by e (seen_lone g x new_ports lone) effects k2 in

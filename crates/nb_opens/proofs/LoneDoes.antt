@@ -20,10 +20,10 @@ use Rattle.nb_nodes.specs.declared.obj.Obj.{Obj}
 use Rattle.nb_nodes.specs.declared.tag.Tag.TheVariants.{Begin}
 use Rattle.nb_nodes.specs.Tags.{tag_number}
 use Rattle.nb_nodes.specs.Objects.{obj_nature, rank_of_obj}
-use Rattle.nb_nodes.specs.Exchanges.{Service, Exchange, not_begun, asking, begins_service, AsksAndGives, Exchanges, is_begun, is_ended, stays_idle}
+use Rattle.nb_nodes.specs.Exchanges.{Service, AskerState, not_begun, asking, begins_service, AsksAndGives, AskerTakes, is_begun, is_ended, stays_idle}
 use Rattle.nb_nodes.specs.Standing.{ObjStands}
 use Rattle.nb_opens.specs.Notices.{tells, first_close}
-use Rattle.nb_opens.specs.Alones.{IsOpenLone, IsReady, AsksMore, Receives, is_taken, is_ignored, fails_before, ReceivesEach, TicksEach, Begins, starts, fails_at_once}
+use Rattle.nb_opens.specs.Alones.{IsOpenLone, IsUnasked, AsksMore, AsksOrIgnores, is_taken, is_ignored, fails_before, ReceivesEach, TicksEach, Begins, starts, fails_at_once}
 use Rattle.nb_opens.proofs.Effects.{runs_closes}
 use Rattle.nb_opens.proofs.GoingMore.{fails-told}
 use Rattle.nb_opens.proofs.LoneStarts.{IsKind, Seen, seen_lone, LoneStarted, lone_started, lone_told}
@@ -32,13 +32,13 @@ use Rattle.nb_opens.proofs.LoneCalls.{slots_at, call_done, called, whole_taken, 
 
 -- a message of no exchange: what the node answered
 module _ {S B C : Type 0} (svc : Service S B C) (known : B → List C → Type 0) (kind : ℕ) (law : IsKind svc known kind) (g h : Objects Obj) (m n : Heard) (now x : ℕ) (said : Said) where
-  abbrev Starts : List (Stage Obj Load) → Exchange B C → Type 0
+  abbrev Starts : List (Stage Obj Load) → AskerState B C → Type 0
   Starts asks v = LoneStarted svc kind g h m n now x asks v
 
-  ignored_so : (b : B) (start : ℕ) (calls : List C) (st : Starts (Offers (port_at x 1) said ∷ []) (asking b start calls)) (done : Bool) (fx : Fx Obj Load) (w : Exchange B C) → IsOpenLone g x → svc.takes 1 said ≡ false → length said.bytes < 2 ^ 32
-      → Exchanges svc (asking b start calls) (up 1 said now done fx) w
+  ignored_so : (b : B) (start : ℕ) (calls : List C) (st : Starts (Offers (port_at x 1) said ∷ []) (asking b start calls)) (done : Bool) (fx : Fx Obj Load) (w : AskerState B C) → IsOpenLone g x → svc.takes 1 said ≡ false → length said.bytes < 2 ^ 32
+      → AskerTakes svc (asking b start calls) (up 1 said now done fx) w
       → Walk svc now x (scene_of h.book) st.last (scene_of g.book) (runs_of obj_nature x said done fx ++ Holds (port_at x 1) way.Up (rest said done fx) ∷ []) w (tells (Entered (port_at x 1) way.Up) ∷ []) st.deeds
-      → Receives svc kind h x b start calls said now (told_of st.deeds)
+      → AsksOrIgnores svc kind h x b start calls said now (told_of st.deeds)
   ignored_so b start calls st false fx w lone none small goes k =
       fails_before (ap first_close k.told ∙ fails-told now (scene_of g.book) (scene_of h.book) x said fx (Holds (port_at x 1) way.Up (rest said false fx) ∷ []) k.left (ap open_count (lone.ports 0)) k.uses)
   ignored_so b start calls st true fx w lone none small goes k =
@@ -53,10 +53,10 @@ module _ {S B C : Type 0} (svc : Service S B C) (known : B → List C → Type 0
       is_ignored none z.0
       (still_talks svc kind g h m n now x (Offers (port_at x 1) said ∷ []) (asking b start calls) st b start calls (subst (λ y. Seen y x new_ports) z.1 (seen_lone g x new_ports lone)) (sym i.2 ∙ z.2))
 
-  received_so : (b : B) (start : ℕ) (calls : List C) (st : Starts (Offers (port_at x 1) said ∷ []) (asking b start calls)) (done : Bool) (fx : Fx Obj Load) (w : Exchange B C) (o : Bool) → IsOpenLone g x → svc.takes 1 said ≡ o → length said.bytes < 2 ^ 32
-      → Exchanges svc (asking b start calls) (up 1 said now done fx) w
+  received_so : (b : B) (start : ℕ) (calls : List C) (st : Starts (Offers (port_at x 1) said ∷ []) (asking b start calls)) (done : Bool) (fx : Fx Obj Load) (w : AskerState B C) (o : Bool) → IsOpenLone g x → svc.takes 1 said ≡ o → length said.bytes < 2 ^ 32
+      → AskerTakes svc (asking b start calls) (up 1 said now done fx) w
       → Walk svc now x (scene_of h.book) st.last (scene_of g.book) (runs_of obj_nature x said done fx ++ Holds (port_at x 1) way.Up (rest said done fx) ∷ []) w (tells (Entered (port_at x 1) way.Up) ∷ []) st.deeds
-      → Receives svc kind h x b start calls said now (told_of st.deeds)
+      → AsksOrIgnores svc kind h x b start calls said now (told_of st.deeds)
   received_so b start calls st done fx w true lone e small goes k =
       is_taken e
       (answers_so svc kind g h m n now x (Offers (port_at x 1) said ∷ []) (asking b start calls) st b start calls said 1 way.Up (svc.received said now) (λ done fx. rest said done fx) done fx w refl lone
@@ -66,18 +66,18 @@ module _ {S B C : Type 0} (svc : Service S B C) (known : B → List C → Type 0
   pub receives_each : length said.bytes < 2 ^ 32 → AreNoded rank_of_obj h → (k : WentOne ObjStands obj_nature now (Offers (port_at x 1) said ∷ []) g h m n) → ReceivesEach svc kind g h x said now (told_of (all_of k.deeds))
   receives_each small noded k = λ b start calls t.
       let asks : List (Stage Obj Load) = Offers (port_at x 1) said ∷ [] in
-      let v : Exchange B C = asking b start calls in
+      let v : AskerState B C = asking b start calls in
       let st = lone_started svc known kind law g h m n now x asks t.trace v t.lone t.stands t.run t.meets t.of_kind noded (tt, tt) k in
       let c = called svc now x (scene_of h.book) st.last st.deeds (scene_of g.book) asks v (λ done fx. up 1 said now done fx) said 1 way.Up (λ done fx. rest said done fx) st.walk
       (offer_up obj_nature now (scene_of g.book) (scene_of h.book) (port_at x 1) said [] st.walk.left (omega arith) (t.lone.ports 1) st.walk.uses) in
-      subst (Receives svc kind h x b start calls said now) (lone_told svc known kind law g h m n now x asks t.trace v t.lone t.stands t.run t.meets t.of_kind noded (tt, tt) k)
+      subst (AsksOrIgnores svc kind h x b start calls said now) (lone_told svc known kind law g h m n now x asks t.trace v t.lone t.stands t.run t.meets t.of_kind noded (tt, tt) k)
       (received_so b start calls st c.done c.fx c.next (svc.takes 1 said) t.lone refl small c.goes c.walk)
 
 module _ {S B C : Type 0} (svc : Service S B C) (known : B → List C → Type 0) (kind : ℕ) (law : IsKind svc known kind) (g h : Objects Obj) (m n : Heard) (now x : ℕ) where
   pub ticks_each : AreNoded rank_of_obj h → (k : WentOne ObjStands obj_nature now (Ticks x ∷ []) g h m n) → TicksEach svc kind g h x now (told_of (all_of k.deeds))
   ticks_each noded k = λ b start calls t.
       let asks : List (Stage Obj Load) = Ticks x ∷ [] in
-      let v : Exchange B C = asking b start calls in
+      let v : AskerState B C = asking b start calls in
       let st = lone_started svc known kind law g h m n now x asks t.trace v t.lone t.stands t.run t.meets t.of_kind noded (tt, tt) k in
       let c = called svc now x (scene_of h.book) st.last st.deeds (scene_of g.book) asks v (λ done fx. time now done fx) silence 4 way.Time (λ done fx. None) st.walk
       (tick_live obj_nature now (scene_of g.book) (scene_of h.book) x [] st.walk.left t.lone.lives st.walk.uses) in
@@ -85,14 +85,14 @@ module _ {S B C : Type 0} (svc : Service S B C) (known : B → List C → Type 0
       (answers_so svc kind g h m n now x asks v st b start calls silence 4 way.Time (svc.timed now) (λ done fx. None) c.done c.fx c.next refl t.lone (hears_time svc b start calls now c.done c.fx c.next c.goes) c.walk)
 
 -- the node begins, or runs out of memory
-data Began {S B C : Type 0} (svc : Service S B C) (b : B) (m : Said) (now : ℕ) : Bool → Fx Obj Load → Exchange B C → Type 0 where
-  broke_first : (fx : Fx Obj Load) (w : Exchange B C) → Began svc b m now false fx w
+data Began {S B C : Type 0} (svc : Service S B C) (b : B) (m : Said) (now : ℕ) : Bool → Fx Obj Load → AskerState B C → Type 0 where
+  broke_first : (fx : Fx Obj Load) (w : AskerState B C) → Began svc b m now false fx w
   asked_first : (fx : Fx Obj Load) → AsksAndGives m (svc.opening b) [] fx → Began svc b m now true fx (asking b now [])
 
 does_begin : {S B C : Type 0} (svc : Service S B C) (b : B) (m : Said) → m.tag ≡ tag_number Begin → svc.asked m.bytes ≡ Some b → begins_service svc m ≡ true
 does_begin {S} {B} svc b m tag ask = ap (λ z. z && is_some (svc.asked m.bytes)) (eq-eqb m.tag (tag_number Begin) tag) ∙ ap (λ (o : Option B). is_some o) ask
 
-began : {S B C : Type 0} (svc : Service S B C) (b : B) (m : Said) (now : ℕ) (done : Bool) (fx : Fx Obj Load) (w : Exchange B C) → m.tag ≡ tag_number Begin → svc.asked m.bytes ≡ Some b → Exchanges svc not_begun (down m now done fx) w → Began svc b m now done fx w
+began : {S B C : Type 0} (svc : Service S B C) (b : B) (m : Said) (now : ℕ) (done : Bool) (fx : Fx Obj Load) (w : AskerState B C) → m.tag ≡ tag_number Begin → svc.asked m.bytes ≡ Some b → AskerTakes svc not_begun (down m now done fx) w → Began svc b m now done fx w
 began svc b m now false fx w tag ask k = broke_first fx w
 began {S} {B} {C} svc b m now true fx _ tag ask (is_begun c _ _ _ tag2 ask2 effects) =
     let z = sym ask ∙ ask2 in
@@ -102,7 +102,7 @@ began svc b m now true fx _ tag ask (is_ended _ _ fatal passes) = absurd (let z 
 began svc b m now true fx _ tag ask (stays_idle _ _ idle nothing) = absurd (let z = sym (ap not (does_begin svc b m tag ask)) ∙ idle in cc)
 
 module _ {S B C : Type 0} (svc : Service S B C) (known : B → List C → Type 0) (kind : ℕ) (law : IsKind svc known kind) (g h : Objects Obj) (m n : Heard) (now x : ℕ) (said : Said) (b : B) where
-  begins_so : (st : LoneStarted svc kind g h m n now x (Offers (port_at x 0) said ∷ []) not_begun) (done : Bool) (fx : Fx Obj Load) (w : Exchange B C) → IsOpenLone g x → (svc.opening b).over ≡ None → Began svc b said now done fx w
+  begins_so : (st : LoneStarted svc kind g h m n now x (Offers (port_at x 0) said ∷ []) not_begun) (done : Bool) (fx : Fx Obj Load) (w : AskerState B C) → IsOpenLone g x → (svc.opening b).over ≡ None → Began svc b said now done fx w
       → Walk svc now x (scene_of h.book) st.last (scene_of g.book) (runs_of obj_nature x said done fx ++ Holds (port_at x 0) way.Down None ∷ []) w (tells (Entered (port_at x 0) way.Down) ∷ []) st.deeds
       → Begins svc kind h x b now said.rec (told_of st.deeds)
   begins_so st _ _ _ lone goes (broke_first fx w) k =
@@ -112,11 +112,11 @@ module _ {S B C : Type 0} (svc : Service S B C) (known : B → List C → Type 0
       starts d.told
       (still_talks svc kind g h m n now x (Offers (port_at x 0) said ∷ []) not_begun st b now [] (subst (λ (o : Option Cause). Seen (scene_of h.book) x (slots_at o)) goes d.seen) d.same)
 
-  pub ask_does : IsReady g x kind → said.tag ≡ tag_number Begin → svc.asked said.bytes ≡ Some b → (svc.opening b).over ≡ None → AreNoded rank_of_obj h
+  pub ask_does : IsUnasked g x kind → said.tag ≡ tag_number Begin → svc.asked said.bytes ≡ Some b → (svc.opening b).over ≡ None → AreNoded rank_of_obj h
       → WentOne ObjStands obj_nature now (Offers (port_at x 0) said ∷ []) g h m n → (ns : List Notice) × Given m n ns × Begins svc kind h x b now said.rec ns
   ask_does ready tag ask goes noded k =
       let asks : List (Stage Obj Load) = Offers (port_at x 0) said ∷ [] in
-      let v : Exchange B C = not_begun in
+      let v : AskerState B C = not_begun in
       let st = lone_started svc known kind law g h m n now x asks [] v ready.lone ready.stands refl tt ready.of_kind noded (tt, tt) k in
       let c = called svc now x (scene_of h.book) st.last st.deeds (scene_of g.book) asks v (λ done fx. down said now done fx) said 0 way.Down (λ done fx. None) st.walk
       (offer_down obj_nature now (scene_of g.book) (scene_of h.book) (port_at x 0) said [] st.walk.left refl (ready.lone.ports 0) st.walk.uses) in

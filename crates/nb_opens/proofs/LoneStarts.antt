@@ -25,7 +25,7 @@ use Rattle.nb_nodes.specs.declared.obj.Obj.{Obj}
 use Rattle.nb_nodes.specs.declared.obj.Obj.TheVariants as obj
 use Rattle.nb_nodes.specs.declared.stage.Stage.{Stage as CoreStage}
 use Rattle.nb_nodes.specs.Objects.{obj_nature, rank_of_obj, mark_of_obj, is_handed}
-use Rattle.nb_nodes.specs.Exchanges.{Service, Exchange, not_begun, asking, finished, called_off, LeadsTo, IsAt, before_it, during_it, after_it, without_it, StandsBy, StandsMeets}
+use Rattle.nb_nodes.specs.Exchanges.{Service, AskerState, not_begun, asking, finished, called_off, AskerLeadsTo, AskerIsAt, before_it, during_it, after_it, without_it, StandsBy, StandsMeets}
 use Rattle.nb_nodes.specs.LookupExchanges.{lookup_service}
 use Rattle.nb_nodes.specs.LeaseExchanges.{lease_service}
 use Rattle.nb_nodes.specs.EchoExchanges.{ping_service}
@@ -40,7 +40,7 @@ use Rattle.nb_opens.proofs.LoneCertain.{LookAsks, certain_look, LeaseAsks, certa
 use Rattle.nb_opens.proofs.LoneWalks.{Walk}
 
 -- the calls of an exchange meet the promises
-abbrev pub MeetsAt : {S B C : Type 0} → Service S B C → Exchange B C → Type 0
+abbrev pub MeetsAt : {S B C : Type 0} → Service S B C → AskerState B C → Type 0
 MeetsAt s not_begun = Unit {0}
 MeetsAt s (asking b start calls) = s.meets b start calls
 MeetsAt s (finished b start calls) = s.meets b start calls
@@ -105,13 +105,13 @@ ping_kind = record {
   hosts (obj.Http p) t e h = absurd (omega (arith, e))
   hosts (obj.Tcp p) t e h = absurd (omega (arith, e))
 
-meets_at : {S B C : Type 0} (s : Service S B C) (stage : CoreStage S) (v : Exchange B C) → StandsMeets s → IsAt s stage v → MeetsAt s v
+meets_at : {S B C : Type 0} (s : Service S B C) (stage : CoreStage S) (v : AskerState B C) → StandsMeets s → AskerIsAt s stage v → MeetsAt s v
 meets_at s _ _ met before_it = tt
 meets_at s _ _ met (during_it b start calls core stands alive) = met b start core calls stands
 meets_at s _ _ met (after_it b start calls h) = h
 meets_at s _ _ met without_it = tt
 
-calls_are : {S B C : Type 0} (s : Service S B C) (asks : B → List C → Type 0) (kind : ℕ) (v : Exchange B C) → IsKind s asks kind → MeetsAt s v → CallsAre asks v
+calls_are : {S B C : Type 0} (s : Service S B C) (asks : B → List C → Type 0) (kind : ℕ) (v : AskerState B C) → IsKind s asks kind → MeetsAt s v → CallsAre asks v
 calls_are s asks kind not_begun law h = tt
 calls_are s asks kind (asking b start calls) law h = law.known b start calls h
 calls_are s asks kind (finished b start calls) law h = law.known b start calls h
@@ -139,20 +139,20 @@ seen_closed s x j c f h o = record {
 }
 
 -- what a call is to be read from
-pub record LoneStarted {S B C : Type 0} (svc : Service S B C) (kind : ℕ) (g h : Objects Obj) (m n : Heard) (now x : ℕ) (asks : List (Stage Obj Load)) (v : Exchange B C) : Type 0 where
+pub record LoneStarted {S B C : Type 0} (svc : Service S B C) (kind : ℕ) (g h : Objects Obj) (m n : Heard) (now x : ℕ) (asks : List (Stage Obj Load)) (v : AskerState B C) : Type 0 where
   pub deeds : List (Deed Obj Load)
   pub told : Given m n (told_of deeds)
-  pub last : Exchange B C
+  pub last : AskerState B C
   pub walk : Walk svc now x (scene_of h.book) last (scene_of g.book) asks v [] deeds
   pub top : List (NodeEntry Obj Load)
   pub stands : ObjectStands ObjStands h x top
-  pub run : LeadsTo svc not_begun top last
+  pub run : AskerLeadsTo svc not_begun top last
   pub meets : MeetsAt svc last
   pub of_kind : IsOfKind h x kind
   pub held : holds h.book x ≡ 1
 
-module _ {S B C : Type 0} (svc : Service S B C) (known : B → List C → Type 0) (kind : ℕ) (law : IsKind svc known kind) (g h : Objects Obj) (m n : Heard) (now x : ℕ) (asks : List (Stage Obj Load)) (trace : List (NodeEntry Obj Load)) (v : Exchange B C) where
-  pub lone_started : IsOpenLone g x → ObjectStands ObjStands g x trace → LeadsTo svc not_begun trace v → MeetsAt svc v → IsOfKind g x kind → AreNoded rank_of_obj h → AreQuiet x asks
+module _ {S B C : Type 0} (svc : Service S B C) (known : B → List C → Type 0) (kind : ℕ) (law : IsKind svc known kind) (g h : Objects Obj) (m n : Heard) (now x : ℕ) (asks : List (Stage Obj Load)) (trace : List (NodeEntry Obj Load)) (v : AskerState B C) where
+  pub lone_started : IsOpenLone g x → ObjectStands ObjStands g x trace → AskerLeadsTo svc not_begun trace v → MeetsAt svc v → IsOfKind g x kind → AreNoded rank_of_obj h → AreQuiet x asks
       → WentOne ObjStands obj_nature now asks g h m n → LoneStarted svc kind g h m n now x asks v
   lone_started lone stands run meets is noded quiet k =
       let one = only_call obj_nature (scene_of g.book) (scene_of h.book) (record { now = now; asks = asks }) k.deeds k.each in
@@ -170,7 +170,7 @@ module _ {S B C : Type 0} (svc : Service S B C) (known : B → List C → Type 0
       let of_kind : IsOfKind h x kind = mark_stays obj_nature ObjStands (node_at g) (node_at h) x kind ds none hosts is in
       let node = noded x lives in
       let host = law.hosted node.node (trace ++ entries_of x ds) (of_kind node.node node.is_node) (top node.node node.is_node).0 in
-      let w : Exchange B C = host.1.exchange in
+      let w : AskerState B C = host.1.exchange in
       let met : MeetsAt svc w = meets_at svc host.0 w law.met host.1.at in
       record {
         deeds = ds;
@@ -192,7 +192,7 @@ module _ {S B C : Type 0} (svc : Service S B C) (known : B → List C → Type 0
       }
 
   -- what was told doesn't depend on what is under way
-  pub lone_told : (lone : IsOpenLone g x) (stands : ObjectStands ObjStands g x trace) (run : LeadsTo svc not_begun trace v) (meets : MeetsAt svc v) (is : IsOfKind g x kind) (noded : AreNoded rank_of_obj h) (quiet : AreQuiet x asks)
+  pub lone_told : (lone : IsOpenLone g x) (stands : ObjectStands ObjStands g x trace) (run : AskerLeadsTo svc not_begun trace v) (meets : MeetsAt svc v) (is : IsOfKind g x kind) (noded : AreNoded rank_of_obj h) (quiet : AreQuiet x asks)
       → (k : WentOne ObjStands obj_nature now asks g h m n) → told_of (lone_started lone stands run meets is noded quiet k).deeds ≡ told_of (all_of k.deeds)
   unfolding lone_started
   lone_told lone stands run meets is noded quiet k =

@@ -10,7 +10,7 @@ use Rattle.nb_ledger.specs.Ledger.{holds, rank}
 use Rattle.nb_graph.specs.Whole.{Objects, port_at}
 use Rattle.nb_graph.specs.Scene.{Scene, scene_of, shut_of, after_noted}
 use Rattle.nb_nodes.specs.declared.obj.Obj.{Obj}
-use Rattle.nb_opens.specs.Pairs.{AreTwo, AreJoined, AreShut}
+use Rattle.nb_opens.specs.Pairs.{AreTwo, ArePlugged, AreShut}
 
 -- Both live and nothing else does, their slots 2 and 3 are open, and the slots 0 and 1 of the Fetch and of the Tftp are so.
 pub record Sees (s : Scene) (f t : ℕ) (user link back below : PortState) : Type 0 where
@@ -138,7 +138,7 @@ down_unplugged s f t user link back below h =
     back_so (record s { port = port_but (port_at f 1) Shut s.port }) f t user Shut back below (link_so s f t user link back below h Shut) Shut
 
 -- what is seen of two that are joined
-pub sees_joined : (g : Objects Obj) (f t : ℕ) → AreJoined g f t → Sees (scene_of g.book) f t Open (Linked (port_at t 0)) (Linked (port_at f 1)) Open
+pub sees_joined : (g : Objects Obj) (f t : ℕ) → ArePlugged g f t → Sees (scene_of g.book) f t Open (Linked (port_at t 0)) (Linked (port_at f 1)) Open
 sees_joined g f t j = record {
   older = j.two.older;
   last = j.two.last;
@@ -175,7 +175,7 @@ two_seen h f t user link back below s fh th fr tr = record {
 }
 
 pub joined_seen : (h : Objects Obj) (f t : ℕ) → Sees (scene_of h.book) f t Open (Linked (port_at t 0)) (Linked (port_at f 1)) Open
-    → holds h.book f ≡ 1 → holds h.book t ≡ 1 → rank h.book f ≡ 5 → rank h.book t ≡ 2 → AreJoined h f t
+    → holds h.book f ≡ 1 → holds h.book t ≡ 1 → rank h.book f ≡ 5 → rank h.book t ≡ 2 → ArePlugged h f t
 joined_seen h f t s fh th fr tr = record {
   two = two_seen h f t Open (Linked (port_at t 0)) (Linked (port_at f 1)) Open s fh th fr tr;
   user = s.fetch_0;

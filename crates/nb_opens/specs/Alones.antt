@@ -17,7 +17,7 @@ use Rattle.nb_graph.specs.Trace.{NodeEntry, Said}
 use Rattle.nb_graph.specs.Whole.{Objects, port_at}
 use Rattle.nb_nodes.specs.declared.load.Load.{Load}
 use Rattle.nb_nodes.specs.declared.obj.Obj.{Obj}
-use Rattle.nb_nodes.specs.Exchanges.{Service, not_begun, asking, LeadsTo}
+use Rattle.nb_nodes.specs.Exchanges.{Service, not_begun, asking, AskerLeadsTo}
 use Rattle.nb_nodes.specs.Standing.{ObjStands}
 use Rattle.nb_opens.specs.Notices.{first_close}
 use Rattle.nb_opens.specs.AloneNotices.{alone_call, alone_ignored}
@@ -43,7 +43,7 @@ abbrev pub IsShutLone : Objects Obj → ℕ → Type 0
 IsShutLone g x = IsLone g x shut_slots
 
 -- nothing was asked of it yet
-pub record IsReady (g : Objects Obj) (x kind : ℕ) : Type 0 where
+pub record IsUnasked (g : Objects Obj) (x kind : ℕ) : Type 0 where
   pub lone : IsOpenLone g x
   pub stands : ObjectStands ObjStands g x []
   pub of_kind : IsOfKind g x kind
@@ -53,7 +53,7 @@ pub record Talks {S B C : Type 0} (s : Service S B C) (kind : ℕ) (g : Objects 
   pub lone : IsOpenLone g x
   pub trace : List (NodeEntry Obj Load)
   pub stands : ObjectStands ObjStands g x trace
-  pub run : LeadsTo s not_begun trace (asking b start calls)
+  pub run : AskerLeadsTo s not_begun trace (asking b start calls)
   pub meets : s.meets b start calls
   pub of_kind : IsOfKind g x kind
 
@@ -67,15 +67,15 @@ pub data AsksMore {S B C : Type 0} (s : Service S B C) (kind : ℕ) (g : Objects
   runs_out : first_close ns ≡ Some no_memory → AsksMore s kind g x b start calls p by rec call ns
 
 -- What a message from below does: it is a call of the core, or is none and changes nothing.
-pub data Receives {S B C : Type 0} (s : Service S B C) (kind : ℕ) (g : Objects Obj) (x : ℕ) (b : B) (start : ℕ) (calls : List C) (m : Said) (now : ℕ) (ns : List Notice) : Type 0 where
-  is_taken : s.takes 1 m ≡ true → AsksMore s kind g x b start calls (port_at x 1) way.Up m.rec (s.received m now) ns → Receives s kind g x b start calls m now ns
-  is_ignored : s.takes 1 m ≡ false → ns ≡ alone_ignored (port_at x 1) way.Up → Talks s kind g x b start calls → Receives s kind g x b start calls m now ns
-  fails_before : first_close ns ≡ Some no_memory → Receives s kind g x b start calls m now ns
+pub data AsksOrIgnores {S B C : Type 0} (s : Service S B C) (kind : ℕ) (g : Objects Obj) (x : ℕ) (b : B) (start : ℕ) (calls : List C) (m : Said) (now : ℕ) (ns : List Notice) : Type 0 where
+  is_taken : s.takes 1 m ≡ true → AsksMore s kind g x b start calls (port_at x 1) way.Up m.rec (s.received m now) ns → AsksOrIgnores s kind g x b start calls m now ns
+  is_ignored : s.takes 1 m ≡ false → ns ≡ alone_ignored (port_at x 1) way.Up → Talks s kind g x b start calls → AsksOrIgnores s kind g x b start calls m now ns
+  fails_before : first_close ns ≡ Some no_memory → AsksOrIgnores s kind g x b start calls m now ns
 
 -- the same for each exchange that may be under way, and what a time does
 abbrev pub ReceivesEach : {S B C : Type 0} → Service S B C → ℕ → Objects Obj → Objects Obj → ℕ → Said → ℕ → List Notice → Type 0
 ReceivesEach {S} {B} {C} s kind old new x m now ns =
-    (b : B) (start : ℕ) (calls : List C) → Talks s kind old x b start calls → Receives s kind new x b start calls m now ns
+    (b : B) (start : ℕ) (calls : List C) → Talks s kind old x b start calls → AsksOrIgnores s kind new x b start calls m now ns
 
 abbrev pub TicksEach : {S B C : Type 0} → Service S B C → ℕ → Objects Obj → Objects Obj → ℕ → ℕ → List Notice → Type 0
 TicksEach {S} {B} {C} s kind old new x now ns =

@@ -42,7 +42,7 @@ pub record AreTwo (g : Objects Obj) (f t : ℕ) : Type 0 where
   pub tftp_3 : port g.book t 3 ≡ Open
 
 -- the Tftp is plugged to the Fetch, and the outer ports are open
-pub record AreJoined (g : Objects Obj) (f t : ℕ) : Type 0 where
+pub record ArePlugged (g : Objects Obj) (f t : ℕ) : Type 0 where
   pub two : AreTwo g f t
   pub user : port g.book f 0 ≡ Open
   pub link : port g.book f 1 ≡ Linked (port_at t 0)
@@ -55,7 +55,7 @@ AreUnharvested g f t = IsOfKind g f 0 × IsOfKind g t 0
 
 -- nothing was asked of them yet
 pub record AreMade (g : Objects Obj) (f t : ℕ) : Type 0 where
-  pub joined : AreJoined g f t
+  pub joined : ArePlugged g f t
   pub fetch : ObjectStands ObjStands g f []
   pub tftp : ObjectStands ObjStands g t []
   pub unharvested : AreUnharvested g f t
@@ -79,7 +79,7 @@ body_in (Some (load.Text text)) = None
 -- A transfer is under way: it was begun so, at a time; these calls were made of it, with what it asked; and these bytes
 -- of the file have come.
 pub record Downloads (g : Objects Obj) (f t : ℕ) (b : Begun) (start : ℕ) (calls : List Entry) (body : List ℕ) : Type 0 where
-  pub joined : AreJoined g f t
+  pub joined : ArePlugged g f t
   pub above : List (NodeEntry Obj Load)
   pub below : List (NodeEntry Obj Load)
   pub fetch : ObjectStands ObjStands g f above
@@ -100,7 +100,7 @@ pub record AreShut (g : Objects Obj) (f t : ℕ) : Type 0 where
   pub below : port g.book t 1 ≡ Closed
 
 -- The open has ended, and the Fetch has this body to hand out, or none.
-pub record HasEnded (g : Objects Obj) (f t : ℕ) (body : Option (List ℕ)) : Type 0 where
+pub record HasHandedOut (g : Objects Obj) (f t : ℕ) (body : Option (List ℕ)) : Type 0 where
   pub shut : AreShut g f t
   pub above : List (NodeEntry Obj Load)
   pub fetch : ObjectStands ObjStands g f above
@@ -119,10 +119,10 @@ pub data CallDoes (g : Objects Obj) (f t : ℕ) (b : Begun) (start : ℕ) (calls
       ns ≡ call_notices f t p by rec acts → Downloads g f t b start (calls ++ entry call acts ∷ []) (body ++ given_of call acts.give) →
       CallDoes g f t b start calls body p by rec call ns
   is_over : (acts : Acts) (c : Cause) → Meets b start (calls ++ entry call acts ∷ []) → acts.over ≡ Some c → BodyFits (body ++ given_of call acts.give) →
-      ns ≡ call_notices f t p by rec acts → HasEnded g f t (body_at_end c (body ++ given_of call acts.give)) →
+      ns ≡ call_notices f t p by rec acts → HasHandedOut g f t (body_at_end c (body ++ given_of call acts.give)) →
       CallDoes g f t b start calls body p by rec call ns
   is_too_large : (acts : Acts) → Meets b start (calls ++ entry call acts ∷ []) → 268435456 < length (body ++ given_of call acts.give) →
-      ns ≡ large_notices f t p by rec acts → HasEnded g f t None →
+      ns ≡ large_notices f t p by rec acts → HasHandedOut g f t None →
       CallDoes g f t b start calls body p by rec call ns
   fails : first_close ns ≡ Some no_memory → CallDoes g f t b start calls body p by rec call ns
 

@@ -34,7 +34,7 @@ abbrev pub asks_end : Cause → Acts
 asks_end cause = record { sends = record { items = [] }; tried = None; advance = None; give = None; ready = false; over = Some cause }
 
 -- a call asks for at most one message, an echo, and gives no bytes up
-pub record AsksSimply (acts : Acts) : Type 0 where
+pub record AsksOneEcho (acts : Acts) : Type 0 where
   pub few : length acts.sends.items ≤ 1
   pub echo : AllByRecursion (λ send. send.proto ≡ 1) acts.sends.items
   pub gives : acts.give ≡ None

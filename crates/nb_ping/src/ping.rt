@@ -21,7 +21,7 @@ impl Model for Ping {
 
 impl Ping {
     ghost use Rattle.std.specs.Prelude.{◌≡◌, ◌∷◌, ◌++◌, [], ℕ, List, true, false};
-    ghost use Rattle.nb_ping.specs.Pings.{AsksSimply, Pinged, pinged, echo_request, asks_nothing, asks_try};
+    ghost use Rattle.nb_ping.specs.Pings.{AsksOneEcho, Pinged, pinged, echo_request, asks_nothing, asks_try};
     ghost use Rattle.nb_ping.specs.PingCalls.{PingEntry, ping_entry, echoed, waited, echo_reply, ping_ended};
     ghost use Rattle.nb_ping.specs.PingStands.{PingStands};
 
@@ -30,7 +30,7 @@ impl Ping {
         // The request is sent, under a timer, and no call stands after it.
         ensures request { acts.new ≡ asks_try (echo_request (pinged host ident)) 1 }
         ensures stands { PingStands (pinged host ident) now result [] }
-        ensures simple { AsksSimply acts.new }
+        ensures simple { AsksOneEcho acts.new }
     {
         acts.clear();
         let state = State::begun(host, ident, now);
@@ -44,7 +44,7 @@ impl Ping {
         // promises of all of them.
         ensures stands { (p : Pinged) (start : ℕ) (h : List PingEntry) → PingStands p start self.old h → ping_ended h ≡ false → PingStands p start self.new (h ++ ping_entry (echoed (echo_reply src ident) now) acts.new ∷ []) }
         // It asks for at most one message, an echo, and gives no bytes up.
-        ensures simple { AsksSimply acts.new }
+        ensures simple { AsksOneEcho acts.new }
         // After its end it ignores every call.
         ensures ended { (p : Pinged) (start : ℕ) (h : List PingEntry) → PingStands p start self.old h → ping_ended h ≡ true → PingStands p start self.new h × (acts.new ≡ asks_nothing) }
     {
@@ -55,7 +55,7 @@ impl Ping {
     /// It is this time, in milliseconds since the start of the run.
     pub fn time(&mut self, now: u64, acts: &mut Acts)
         ensures stands { (p : Pinged) (start : ℕ) (h : List PingEntry) → PingStands p start self.old h → ping_ended h ≡ false → PingStands p start self.new (h ++ ping_entry (waited now) acts.new ∷ []) }
-        ensures simple { AsksSimply acts.new }
+        ensures simple { AsksOneEcho acts.new }
         ensures ended { (p : Pinged) (start : ℕ) (h : List PingEntry) → PingStands p start self.old h → ping_ended h ≡ true → PingStands p start self.new h × (acts.new ≡ asks_nothing) }
     {
         acts.clear();

@@ -35,11 +35,11 @@ pub record IsReadByChunks : Type 0 where
   pub tail : (text : List ℕ) (r : Response) → Tail text r → chunked_read text ≡ r
 
 -- a response that is decided before the stream's end stays, whatever follows
-abbrev pub DecidedStays : Type 0
-DecidedStays = (stream later : List ℕ) (ended : Bool) → (response_read stream false).verdict ≢ more
+abbrev pub ReadDecidedStays : Type 0
+ReadDecidedStays = (stream later : List ℕ) (ended : Bool) → (response_read stream false).verdict ≢ more
     → response_read (stream ++ later) ended ≡ response_read stream false
 
 -- the body of a longer stream begins with that of the shorter one
-abbrev pub BodyGoesOn : Type 0
-BodyGoesOn = (stream later : List ℕ) (first ended : Bool) → (rest : List ℕ)
+abbrev pub ReadBodyGoesOn : Type 0
+ReadBodyGoesOn = (stream later : List ℕ) (first ended : Bool) → (rest : List ℕ)
     × ((response_read (stream ++ later) ended).bytes ≡ (response_read stream first).bytes ++ rest)

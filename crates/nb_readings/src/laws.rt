@@ -1,6 +1,6 @@
 //! Laws of the reading of a stream, each a function that does nothing.
 
-ghost use Rattle.nb_readings.specs.ReadingLaws.{IsTheReading, IsTheChunkedReading, IsReadFromTheFirst, IsReadByChunks, DecidedStays, BodyGoesOn};
+ghost use Rattle.nb_readings.specs.ReadingLaws.{IsTheReading, IsTheChunkedReading, IsReadFromTheFirst, IsReadByChunks, ReadDecidedStays, ReadBodyGoesOn};
 ghost use Rattle.nb_readings.specs.Ends.{EndsWellWhereWhole};
 
 /// The function of a stream is what the relation says, and nothing else is.
@@ -17,12 +17,12 @@ pub fn read_from_the_first()
 
 /// A response that is decided stays as it is, whatever follows: the least prefix that decides it is enough.
 pub fn decided_stays()
-    ensures { DecidedStays }
+    ensures { ReadDecidedStays }
 {}
 
 /// The body of a longer stream begins with that of the shorter one.
 pub fn body_goes_on()
-    ensures { BodyGoesOn }
+    ensures { ReadBodyGoesOn }
 {}
 
 /// The end is Ok exactly where the response is whole: a body or a move.

@@ -30,7 +30,7 @@ use Rattle.nb_command.specs.Device.{device_change}
 use Rattle.nb_stack.specs.declared.address.Addr.{Addr}
 use Rattle.nb_stack.specs.Client.{Client}
 use Rattle.nb_runner.specs.declared.world.World.{World}
-use Rattle.nb_runner.specs.World.{IsLinked, state_of, world_with}
+use Rattle.nb_runner.specs.World.{IsLinkOfState, state_of, world_with}
 use Rattle.nb_machine.specs.Queries.{Query, for_lease}
 use Rattle.nb_machine.proofs.Eithers.{full_either, images_either, pinged_either, looked_up_either}
 use Rattle.nb_machine.specs.Effects.{Effect, says, asks, goes, sleeps, shuts_device, inquires, on_images, concludes_at_once, Surroundings, settled_effect, effect_in, unless_full, sleeping_for, device_effect, plan_effect, plan_table, plan_up, set_up, planned_effect, planned_table, planned_up, words_effect, words_table, words_up, expansion, expanded_effect, expanded_table, expanded_up, expand_cause, effect, table_after, up_after, shown_words, shown_by, shown_as, truth_outcome, text_told, change_outcome, changed}
@@ -206,7 +206,7 @@ link_stays : (net : Client) (address : Option Addr) (up : Bool) → net.address 
 link_stays net address up a u =
     subst (λ x. ◌≡◌ {A = Client} (record net { address = x; up = up }) net) a (subst (λ y. ◌≡◌ {A = Client} (record net { address = net.address; up = y }) net) u refl)
 
-pub world_stays : (w : World) (table : TableLists) (up : Bool) → IsLinked w → table ≡ w.state.table → up ≡ w.state.up → world_with w table up ≡ w
+pub world_stays : (w : World) (table : TableLists) (up : Bool) → IsLinkOfState w → table ≡ w.state.table → up ≡ w.state.up → world_with w table up ≡ w
 world_stays w table up linked e u =
     rw (e, u) (ap (λ (net : Client). record { w = w.w; machine = w.machine; time = w.time; net = net; opens = w.opens; state = w.state; outer = w.outer }) (link_stays w.net _ w.state.up linked.address linked.up))
 

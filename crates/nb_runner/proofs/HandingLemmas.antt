@@ -12,7 +12,7 @@ use Rattle.nb_image.specs.Parts.{PartText, PieceText, parts, kernel_parts, initr
 use Rattle.nb_image.proofs.PartsLemmas.{parts_length, piece_is, pieces_length}
 use Rattle.nb_runner.specs.declared.handing.Handing.{Handing}
 use Rattle.nb_machine.specs.Conclusions.{part_records, piece_record}
-use Rattle.nb_runner.specs.Handings.{IsShort, AreShort, IsAt}
+use Rattle.nb_runner.specs.Handings.{IsShortImage, AreShortImages, IsAtPiece}
 
 -- of all elements of both lists, and of an element
 pub all_append : {A : Type 0} (P : A → Type 0) (xs ys : List A) → AllByRecursion P xs → AllByRecursion P ys → AllByRecursion P (xs ++ ys)
@@ -41,32 +41,32 @@ all_option P (y ∷ ys) zero p = (p.0, tt)
 all_option P (y ∷ ys) (suc k) p = all_option P ys k p.1
 
 -- an image more
-put_short : (place : Option ℕ) (image : Image) (images : List Image) → IsShort image → AreShort images → AreShort (put_image place image images)
-put_short None image images q p = all_append IsShort images (image ∷ []) p (q, tt)
-put_short (Some i) image images q p = all_set IsShort images i image p q
+put_short : (place : Option ℕ) (image : Image) (images : List Image) → IsShortImage image → AreShortImages images → AreShortImages (put_image place image images)
+put_short None image images q p = all_append IsShortImage images (image ∷ []) p (q, tt)
+put_short (Some i) image images q p = all_set IsShortImage images i image p q
 
-pub with_short : (image : Image) (images : List Image) → IsShort image → AreShort images → AreShort (with_image image images)
+pub with_short : (image : Image) (images : List Image) → IsShortImage image → AreShortImages images → AreShortImages (with_image image images)
 with_short image images q p = put_short (image_place image.name images) image images q p
 
 -- a part has at most 268,435,456 bytes
 abbrev IsSmall : PartText → Type 0
 IsSmall p = length p.bytes ≤ 268435456
 
-kernel_small : (images : List Image) → AreShort images → AllByRecursion IsSmall (flat_map kernel_parts images)
+kernel_small : (images : List Image) → AreShortImages images → AllByRecursion IsSmall (flat_map kernel_parts images)
 kernel_small [] p = tt
 kernel_small (i ∷ images) p = (p.0.name, (p.0.body, (p.0.args, kernel_small images p.1)))
 
-initrd_small : (n : ℕ) (images : List Image) → AreShort images → AllByRecursion IsSmall (flat_map initrd_parts (enumerate_from n images))
+initrd_small : (n : ℕ) (images : List Image) → AreShortImages images → AllByRecursion IsSmall (flat_map initrd_parts (enumerate_from n images))
 initrd_small n [] p = tt
 initrd_small n (i ∷ images) p = (p.0.name, (p.0.body, initrd_small (n + 1) images p.1))
 
-parts_small : (kernel : ℕ) (images : List Image) → AreShort images → AllByRecursion IsSmall (parts kernel images)
+parts_small : (kernel : ℕ) (images : List Image) → AreShortImages images → AllByRecursion IsSmall (parts kernel images)
 parts_small kernel images p =
     all_append IsSmall (flat_map kernel_parts (option_to_list (slice_get images kernel))) (others_parts (remove images kernel))
-    (kernel_small (option_to_list (slice_get images kernel)) (all_option IsShort images kernel p))
-    (initrd_small 0 (remove images kernel) (all_remove IsShort images kernel p))
+    (kernel_small (option_to_list (slice_get images kernel)) (all_option IsShortImage images kernel p))
+    (initrd_small 0 (remove images kernel) (all_remove IsShortImage images kernel p))
 
-pub part_small : (kernel : ℕ) (images : List Image) (k : ℕ) (p : PartText) → AreShort images → slice_get (parts kernel images) k ≡ Some p → length p.bytes ≤ 268435456
+pub part_small : (kernel : ℕ) (images : List Image) (k : ℕ) (p : PartText) → AreShortImages images → slice_get (parts kernel images) k ≡ Some p → length p.bytes ≤ 268435456
 part_small kernel images k p short h = all_at IsSmall (parts kernel images) k p (parts_small kernel images short) h
 
 -- from a place on: what stands there, and the rest
@@ -165,7 +165,7 @@ first_piece None = tt
 first_piece (Some p) = rw (records_of_part p, pieces_length p.bytes) (some_count (length p.bytes))
 
 -- a hand-off begins
-pub begins_at : (list : ImageList) (kernel : ℕ) → kernel < length list.images → AreShort list.images → IsAt list (record { kernel = kernel; part = 0; piece = 0 })
+pub begins_at : (list : ImageList) (kernel : ℕ) → kernel < length list.images → AreShortImages list.images → IsAtPiece list (record { kernel = kernel; part = 0; piece = 0 })
 begins_at list kernel within short = record {
   kernel = within;
   part = omega arith;
@@ -175,8 +175,8 @@ begins_at list kernel within short = record {
 }
 
 -- after a part comes the next, at its first piece
-pub at_next : (list : ImageList) (h : Handing) → IsAt list h → h.part < length (parts h.kernel list.images) →
-    IsAt list (record { kernel = h.kernel; part = h.part + 1; piece = 0 })
+pub at_next : (list : ImageList) (h : Handing) → IsAtPiece list h → h.part < length (parts h.kernel list.images) →
+    IsAtPiece list (record { kernel = h.kernel; part = h.part + 1; piece = 0 })
 at_next list h at within = record {
   kernel = at.kernel;
   part = omega arith;
@@ -186,8 +186,8 @@ at_next list h at within = record {
 }
 
 -- within a part comes the next piece
-pub at_piece : (list : ImageList) (h : Handing) (p : PartText) → IsAt list h → slice_get (parts h.kernel list.images) h.part ≡ Some p →
-    h.piece + 1 < length (part_records p) → IsAt list (record { kernel = h.kernel; part = h.part; piece = h.piece + 1 })
+pub at_piece : (list : ImageList) (h : Handing) (p : PartText) → IsAtPiece list h → slice_get (parts h.kernel list.images) h.part ≡ Some p →
+    h.piece + 1 < length (part_records p) → IsAtPiece list (record { kernel = h.kernel; part = h.part; piece = h.piece + 1 })
 at_piece list h p at is within = record {
   kernel = at.kernel;
   part = at.part;
@@ -218,6 +218,6 @@ flat_few (p ∷ ps) small =
     omega (arith, one, flat_few ps small.1, length-append (part_records p) (flat_map part_records ps))
 
 -- a hand-off of few images has few records
-pub handoff_few : (kernel : ℕ) (images : List Image) → kernel < length images → AreShort images → length images ≤ 32 → length (flat_map part_records (parts kernel images)) ≤ 266305
+pub handoff_few : (kernel : ℕ) (images : List Image) → kernel < length images → AreShortImages images → length images ≤ 32 → length (flat_map part_records (parts kernel images)) ≤ 266305
 handoff_few kernel images within short few =
     omega (arith, flat_few (parts kernel images) (parts_small kernel images short), parts_length images kernel within, few)

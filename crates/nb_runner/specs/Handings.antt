@@ -10,25 +10,25 @@ use Rattle.nb_runner.specs.declared.handing.Handing.{Handing}
 use Rattle.nb_machine.specs.Conclusions.{part_records}
 
 -- an image's texts are short, and its body is an image's
-pub record IsShort (image : Image) : Type 0 where
+pub record IsShortImage (image : Image) : Type 0 where
   pub name : length image.name ≤ 268435456
   pub body : length image.body ≤ 268435456
   pub args : length image.args ≤ 268435456
 
-abbrev pub AreShort : List Image → Type 0
-AreShort images = AllByRecursion IsShort images
+abbrev pub AreShortImages : List Image → Type 0
+AreShortImages images = AllByRecursion IsShortImage images
 
 -- the records of the pieces that are still to come
 abbrev pub records_left : List Image → Handing → List Out
 records_left images h = drop h.piece (flat_map part_records (drop h.part (parts h.kernel images)))
 
 -- a hand-off stands at a piece of one of its parts, or after them all
-pub record IsAt (list : ImageList) (h : Handing) : Type 0 where
+pub record IsAtPiece (list : ImageList) (h : Handing) : Type 0 where
   pub kernel : h.kernel < length list.images
   pub part : h.part ≤ length (parts h.kernel list.images)
   pub piece : IfSome (slice_get (parts h.kernel list.images) h.part) (λ p. h.piece < length (part_records p))
   pub behind : slice_get (parts h.kernel list.images) h.part ≡ None → h.piece ≡ 0
-  pub short : AreShort list.images
+  pub short : AreShortImages list.images
 
 -- the next record was put, or there is none
 pub record PutsNext (images : List Image) (old new : Handing) (before after : Logged) : Type 0 where
@@ -37,5 +37,5 @@ pub record PutsNext (images : List Image) (old new : Handing) (before after : Lo
   pub puts : Puts before after (out_texts (next ∷ []))
 
 abbrev pub HandsOn : Bool → ImageList → Handing → Handing → Logged → Logged → Type 0
-HandsOn true list old new before after = IsAt list new × PutsNext list.images old new before after
+HandsOn true list old new before after = IsAtPiece list new × PutsNext list.images old new before after
 HandsOn false list old new before after = (records_left list.images old ≡ []) × (new ≡ old) × (after ≡ before)

@@ -8,8 +8,8 @@ use Rattle.nb_imagecmd.specs.declared.outcome.ImageOutcome.TheVariants as outcom
 use Rattle.nb_machine.specs.Conclusions as defs
 use Rattle.nb_machine.specs.Effects.{Effect, concludes_at_once}
 use Rattle.nb_runner.specs.CommandWords.{IsAskedWell}
-use Rattle.nb_runner.specs.Handings.{AreShort}
-use Rattle.nb_runner.specs.Intents.{MayAsk, intent_effect}
+use Rattle.nb_runner.specs.Handings.{AreShortImages}
+use Rattle.nb_runner.specs.Intents.{IsAskable, intent_effect}
 use Rattle.nb_runner.specs.declared.images.Conclusion.{Conclusion}
 use Rattle.nb_runner.specs.declared.images.Conclusion.TheVariants as conclusion
 use Rattle.nb_runner.specs.declared.images.ImageDeed.{ImageDeed}
@@ -30,7 +30,7 @@ image_deed_effect (Concludes c) list = concludes_at_once (conclusion_of c list)
 -- images whose texts are short
 pub record MayFollow (list : ImageList) : Type 0 where
   pub named : HasShortNames list
-  pub short : AreShort list.images
+  pub short : AreShortImages list.images
 
 -- What holds of a conclusion of a script of this depth: one that fails leaves the list, one that boots names a place of it, the
 -- lines that it prints are short, and a script that runs within isn't the ninth.
@@ -43,7 +43,7 @@ IsConcludedWell (conclusion.Runs script replace) depth before after = MayFollow 
 
 -- and of a deed, where so many opens were made
 abbrev pub IsDeedWell : ImageDeed → ℕ → ℕ → ImageList → ImageList → Type 0
-IsDeedWell (Intends intent) depth opens before after = MayAsk opens intent × (after ≡ before)
+IsDeedWell (Intends intent) depth opens before after = IsAskable opens intent × (after ≡ before)
 IsDeedWell (Concludes c) depth opens before after = IsConcludedWell c depth before after
 
 -- what an outcome says of the list that it leaves

@@ -41,10 +41,10 @@ CanAsk (asked.Address setting name by) = is_lookup_name name ≡ true
 CanAsk (asked.Host errand name by) = (is_lookup_name name ≡ true) × FitsErrand errand
 
 -- what is asked for may be, where so many opens were made
-abbrev pub MayAsk : ℕ → Intent → Type 0
-MayAsk opens (intent.Over cause) = Unit {0}
-MayAsk opens (intent.Asks query) = (opens < 16384) × CanAsk query
-MayAsk opens (intent.Fetches wanted) = CanFetch opens wanted
+abbrev pub IsAskable : ℕ → Intent → Type 0
+IsAskable opens (intent.Over cause) = Unit {0}
+IsAskable opens (intent.Asks query) = (opens < 16384) × CanAsk query
+IsAskable opens (intent.Fetches wanted) = CanFetch opens wanted
 
 -- of all servers those of TFTP are asked
 abbrev pub is_of_tftp : UriTarget → Bool

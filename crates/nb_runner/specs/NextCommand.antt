@@ -44,7 +44,7 @@ pub record HasRefused (s : Running) (table : TableLists) (ws : List (List ℕ)) 
   pub is_ready : IsReady s ws
 
 -- a command is to begin, and 4,096 began in this step
-pub record IsFull (s : Running) : Type 0 where
+pub record IsStepFull (s : Running) : Type 0 where
   pub name : List ℕ
   pub args : List (List ℕ)
   pub comes : coming s ≡ beginning name args
@@ -56,7 +56,7 @@ pub record HasPassed (s t : Running) : Type 0 where
   pub nearer : moves_in t < moves_in s
 
 -- the script is left with this cause, after what it passes first
-pub record IsLeft (s : Running) (cause : Cause) : Type 0 where
+pub record IsScriptLeft (s : Running) (cause : Cause) : Type 0 where
   pub last : Running
   pub passes : PassesOn s last
   pub comes : coming last ≡ leaving cause
@@ -74,7 +74,7 @@ IsExpansion next.Full table written = ⊥
 
 abbrev pub IsNext : Next → TableLists → Running → Running → Type 0
 IsNext next.Passed table s t = HasPassed s t
-IsNext (next.Left cause) table s t = (t ≡ s) × IsLeft s cause
+IsNext (next.Left cause) table s t = (t ≡ s) × IsScriptLeft s cause
 IsNext (next.Begins ws) table s t = (t ≡ s) × HasCommand s table ws
 IsNext (next.Refused ws cause) table s t = (t ≡ s) × HasRefused s table ws cause
-IsNext next.Full table s t = (t ≡ s) × IsFull s
+IsNext next.Full table s t = (t ≡ s) × IsStepFull s

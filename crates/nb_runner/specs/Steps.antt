@@ -18,10 +18,10 @@ Does ws o (Some cause) s t old new = (o.leaves ≡ true) × (cause ≡ o.cause) 
     × Puts old new (out_texts (command_records s ws o ++ (leave s.depth cause ∷ [])))
 
 -- `goto` is put, and the script goes on after the line at the label's place, or in its list where there is none
-abbrev pub GoesTo : ShownWords → Option ℕ → Running → Running → Logged → Logged → Type 0
-GoesTo ws (Some line) s t old new = (t ≡ behind_line s line)
+abbrev pub GoesToLabel : ShownWords → Option ℕ → Running → Running → Logged → Logged → Type 0
+GoesToLabel ws (Some line) s t old new = (t ≡ behind_line s line)
     × Puts old new (out_texts (command_records s ws (refused ok)))
-GoesTo ws None s t old new = (t ≡ further s no_label) × Puts old new (out_texts (command_records s ws (refused no_label)))
+GoesToLabel ws None s t old new = (t ≡ further s no_label) × Puts old new (out_texts (command_records s ws (refused no_label)))
 
 -- a script of this depth, before its first line, where so many commands began in this step
 abbrev pub begun_script : ℕ → Option (List ℕ) → List Line → ℕ → Running

@@ -43,7 +43,7 @@ abbrev pub world_with : World → TableLists → Bool → World
 world_with w table up = record { w = w.w; machine = w.machine; time = w.time; net = link_by table up w.net; opens = w.opens; state = state_of table w.state.images up; outer = w.outer }
 
 -- the link is the one that the settings and the device's state say
-pub record IsLinked (w : World) : Type 0 where
+pub record IsLinkOfState (w : World) : Type 0 where
   pub address : w.net.address ≡ address_in_table w.state.table
   pub up : w.net.up ≡ w.state.up
 

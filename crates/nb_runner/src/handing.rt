@@ -1,6 +1,6 @@
 ghost use Rattle.std.specs.Prelude.{◌≡◌, ◌<◌, ◌∷◌, [], true, false, length};
 ghost use Rattle.nb_record.specs.Logged.{Puts};
-ghost use Rattle.nb_runner.specs.Handings.{IsAt, HandsOn, records_left};
+ghost use Rattle.nb_runner.specs.Handings.{IsAtPiece, HandsOn, records_left};
 ghost use Rattle.nb_machine.specs.Conclusions.{handoff_records};
 
 use nb_image::{Handoff, Images};
@@ -31,7 +31,7 @@ impl Handing {
 
     /// Puts the next piece. False where all was put.
     pub fn put_piece(&mut self, images: &Images, log: &mut Log) -> bool
-        requires { IsAt images.now self.old }
+        requires { IsAtPiece images.now self.old }
         ensures { HandsOn result images.now self.old self.new log.old log.new }
     {
         let handoff = Handoff {

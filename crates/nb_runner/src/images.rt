@@ -10,7 +10,7 @@ ghost use Rattle.nb_imagecmd.specs.Promises.{HasShortNames};
 ghost use Rattle.nb_imagecmd.specs.declared.error.ImageFailure.TheVariants as failure;
 ghost use Rattle.nb_machine.specs.Effects.{Surroundings, image_outcome_effect, images_effect, taken_effect};
 ghost use Rattle.nb_imagecmd.specs.Executing.{script_taken};
-ghost use Rattle.nb_runner.specs.Handings.{AreShort};
+ghost use Rattle.nb_runner.specs.Handings.{AreShortImages};
 ghost use Rattle.nb_runner.specs.ImageDeeds.{FitsOutcome, HasShortArgs, image_deed_effect, IsDeedWell, IsUnmoved, MayFollow};
 ghost use Rattle.nb_runner.specs.World.{surroundings_in, world_with_images};
 
@@ -85,7 +85,7 @@ impl World {
     ) -> Result<ImageDeed, NoMemory>
         requires few { self.old.opens ≤ 16384 }
         requires named { HasShortNames self.old.state.images }
-        requires short { AreShort self.old.state.images.images }
+        requires short { AreShortImages self.old.state.images.images }
         requires args { HasShortArgs command.now }
         ensures value { IfOk result (λ d. images_effect (surroundings_in self.old (option_copied own.entry) depth) command.now
             ≡ image_deed_effect d self.new.state.images) }

@@ -5,9 +5,9 @@ ghost use Rattle.nb_settings.specs.Tables.{look};
 ghost use Rattle.nb_settings.specs.declared.setting.OwnedKey.TheVariants.{Tag};
 ghost use Rattle.nb_runner.specs.CommandWords.{errand_of, onward_of, FitsErrand, FitsOnward, IsAskedWell, IsForInquiry, IsForLease};
 ghost use Rattle.nb_machine.specs.Effects.{Surroundings, asked_effect, at_host, inquires, looked_up_effect, name_effect, named_host, onward_effect, plan_effect, plan_table, plan_up, unless_full};
-ghost use Rattle.nb_runner.specs.Intents.{query_of, intent_effect, is_of_tftp, looked_up_table, CanAsk, MayAsk};
+ghost use Rattle.nb_runner.specs.Intents.{query_of, intent_effect, is_of_tftp, looked_up_table, CanAsk, IsAskable};
 ghost use Rattle.nb_machine.specs.Queries.{dns_in, with_domain, domain_bytes};
-ghost use Rattle.nb_runner.specs.World.{IsLinked, state_of, with_state, world_with};
+ghost use Rattle.nb_runner.specs.World.{IsLinkOfState, state_of, with_state, world_with};
 
 use crate::World;
 use crate::command::{MAX_OPENS, full_opens};
@@ -76,7 +76,7 @@ fn unless_full(opens: u16, query: Query) -> Intent
     requires few { opens ≤ 16384 }
     requires can { CanAsk query }
     ensures value { intent_effect result ≡ unless_full opens (inquires (query_of query)) }
-    ensures may { MayAsk opens result }
+    ensures may { IsAskable opens result }
 {
     if opens == MAX_OPENS {
         return Intent::Over(full_opens());
@@ -89,7 +89,7 @@ fn intend_onward(opens: u16, onward: Onward) -> Intent
     requires few { opens ≤ 16384 }
     requires fits { FitsOnward onward }
     ensures value { intent_effect result ≡ unless_full opens (onward_effect (onward_of onward)) }
-    ensures may { MayAsk opens result }
+    ensures may { IsAskable opens result }
 {
     if opens == MAX_OPENS {
         return Intent::Over(full_opens());
@@ -111,7 +111,7 @@ fn intend_named(
     requires few { opens ≤ 16384 }
     requires fits { FitsErrand errand }
     ensures value { IfOk result (λ i. intent_effect i ≡ named_host opens table.now (errand_of errand) (with_domain table.now text.now)) }
-    ensures may { IfOk result (λ i. MayAsk opens i) }
+    ensures may { IfOk result (λ i. IsAskable opens i) }
 {
     let name = with_domain(alloc, table, text)?;
     if !is_name(name.as_slice()) {
@@ -137,7 +137,7 @@ fn intend_host(
     requires few { opens ≤ 16384 }
     requires fits { FitsErrand errand }
     ensures value { IfOk result (λ i. intent_effect i ≡ at_host opens table.now text.now (errand_of errand)) }
-    ensures may { IfOk result (λ i. MayAsk opens i) }
+    ensures may { IfOk result (λ i. IsAskable opens i) }
 {
     match number(text) {
         Some(server) => Ok(intend_onward(opens, errand.at(server))),
@@ -155,7 +155,7 @@ fn intend_name(
 ) -> Result<Intent, NoMemory>
     requires { opens ≤ 16384 }
     ensures value { IfOk result (λ i. intent_effect i ≡ name_effect opens table.now setting.now (with_domain table.now text.now)) }
-    ensures may { IfOk result (λ i. MayAsk opens i) }
+    ensures may { IfOk result (λ i. IsAskable opens i) }
 {
     let name = with_domain(alloc, table, text)?;
     if !is_name(name.as_slice()) {
@@ -184,7 +184,7 @@ fn intend_lease(
     requires lease { IsForLease plan.now }
     requires few { opens ≤ 16384 }
     ensures value { IfOk result (λ i. plan_effect opens state.old.table plan.now ≡ intent_effect i) }
-    ensures may { IfOk result (λ i. MayAsk opens i) }
+    ensures may { IfOk result (λ i. IsAskable opens i) }
     ensures after { OnOk result (state.new ≡ state_of (plan_table plan.now state.old.table) state.old.images (plan_up plan.now state.old.up)) }
     ensures same { OnErr result (state.new ≡ state.old) }
 {
@@ -205,7 +205,7 @@ fn intend_address(
 ) -> Result<Intent, NoMemory>
     requires { opens ≤ 16384 }
     ensures value { IfOk result (λ i. intent_effect i ≡ looked_up_effect opens table.old setting.now text.now) }
-    ensures may { IfOk result (λ i. MayAsk opens i) }
+    ensures may { IfOk result (λ i. IsAskable opens i) }
     ensures after { OnOk result (table.new ≡ looked_up_table setting.now text.now table.old) }
     ensures same { OnErr result (table.new ≡ table.old) }
 {
@@ -232,7 +232,7 @@ pub(crate) fn intend_file(
     requires few { opens ≤ 16384 }
     requires fits { IsAskedWell asking }
     ensures value { (x : Surroundings) → x.opens ≡ opens → x.table ≡ table.now → IfOk result (λ i. intent_effect i ≡ asked_effect asking.target x asking) }
-    ensures may { IfOk result (λ i. MayAsk opens i) }
+    ensures may { IfOk result (λ i. IsAskable opens i) }
 {
     if !is_of_tftp(&asking.target) {
         return Ok(Intent::Over(Plain::NoScheme.cause()));
@@ -256,13 +256,13 @@ impl World {
     /// What a command comes to that asks for something by one exchange. What it does at once is done, and the link follows.
     pub fn intend(&mut self, alloc: Global, plan: &CommandPlan) -> Result<Intent, NoMemory>
         requires inquiring { IsForInquiry plan.now }
-        requires linked { IsLinked self.old }
+        requires linked { IsLinkOfState self.old }
         requires few { self.old.opens ≤ 16384 }
         ensures value { IfOk result (λ i. plan_effect self.old.opens self.old.state.table plan.now ≡ intent_effect i) }
-        ensures may { IfOk result (λ i. MayAsk self.old.opens i) }
+        ensures may { IfOk result (λ i. IsAskable self.old.opens i) }
         ensures after { OnOk result
             (self.new ≡ world_with self.old (plan_table plan.now self.old.state.table) (plan_up plan.now self.old.state.up)) }
-        ensures linked { IsLinked self.new }
+        ensures linked { IsLinkOfState self.new }
         ensures same { OnErr result (self.new ≡ self.old) }
     {
         let intent = self.intended(alloc, plan)?;
@@ -275,7 +275,7 @@ impl World {
         requires inquiring { IsForInquiry plan.now }
         requires few { self.old.opens ≤ 16384 }
         ensures value { IfOk result (λ i. plan_effect self.old.opens self.old.state.table plan.now ≡ intent_effect i) }
-        ensures may { IfOk result (λ i. MayAsk self.old.opens i) }
+        ensures may { IfOk result (λ i. IsAskable self.old.opens i) }
         ensures after { OnOk result (self.new ≡ with_state self.old (state_of (plan_table plan.now self.old.state.table) self.old.state.images (plan_up plan.now self.old.state.up))) }
         ensures same { OnErr result (self.new ≡ self.old) }
     {

@@ -12,7 +12,7 @@ ghost use Rattle.nb_machine.specs.Running.{Running, first_script, script_within,
 ghost use Rattle.nb_runner.specs.declared.running.Next.TheVariants as next;
 ghost use Rattle.nb_machine.specs.Effects.{shown_as};
 ghost use Rattle.nb_machine.specs.CommandRecords.{command_record, command_records, prints};
-ghost use Rattle.nb_runner.specs.Steps.{Does, GoesTo, begun_script};
+ghost use Rattle.nb_runner.specs.Steps.{Does, GoesToLabel, begun_script};
 ghost use Rattle.nb_runner.specs.NextCommand.{IsReady, IsNext, IsExpansion, list_of};
 ghost use Rattle.nb_runner.specs.CommandWords.{done_of};
 
@@ -417,7 +417,7 @@ impl RunningScript {
     /// Does `goto` of this label: goes on after it, or fails where there is none.
     pub fn go_to(&mut self, words: &[Word], label: &[u8], log: &mut Log)
         requires { IsReady self.old words.now }
-        ensures { GoesTo (shown_as true words.now) (label_place label.now self.old.code) self.old self.new log.old log.new }
+        ensures { GoesToLabel (shown_as true words.now) (label_place label.now self.old.code) self.old self.new log.old log.new }
     {
         match self.label(label) {
             Some(line) => {

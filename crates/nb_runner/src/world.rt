@@ -4,7 +4,7 @@ ghost use Rattle.nb_command.specs.Printed.{most_printed};
 ghost use Rattle.nb_settings.specs.Tables.{TableLists};
 ghost use Rattle.nb_machine.specs.Effects.{plan_effect, plan_table, plan_up};
 ghost use Rattle.nb_runner.specs.CommandWords.{deed_effect, IsLocal, PrintsAtMost};
-ghost use Rattle.nb_runner.specs.World.{IsLinked, bare_world, world_of, world_with};
+ghost use Rattle.nb_runner.specs.World.{IsLinkOfState, bare_world, world_of, world_with};
 ghost use Rattle.nb_machine.specs.Starting.{own_port};
 
 use crate::OuterScripts;
@@ -101,11 +101,11 @@ impl World {
     /// Carries a command out that asks for no file. The link follows what it changed.
     pub fn carry_out(&mut self, alloc: Global, plan: &CommandPlan) -> Result<Deed, NoMemory>
         requires local { IsLocal plan.now }
-        requires linked { IsLinked self.old }
+        requires linked { IsLinkOfState self.old }
         ensures value { IfOk result (λ deed. (opens : ℕ) → plan_effect opens self.old.state.table plan.now ≡ deed_effect deed) }
         ensures after { OnOk result
             (self.new ≡ world_with self.old (plan_table plan.now self.old.state.table) (plan_up plan.now self.old.state.up)) }
-        ensures linked { IsLinked self.new }
+        ensures linked { IsLinkOfState self.new }
         ensures same { OnErr result (self.new ≡ self.old) }
         ensures printed { IfOk result (λ deed. PrintsAtMost deed (most_printed plan.now)) }
     {

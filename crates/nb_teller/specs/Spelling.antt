@@ -69,8 +69,8 @@ abbrev pub HasSpelled : Spelling → Option Cause → Type 0
 HasSpelled s cause = (s.is_lost ≡ false) × (s.closed ≡ cause) × (cause ≡ Some no_memory → ⊥)
 
 -- so it is with some first close, or none
-abbrev pub IsWhole : Spelling → Type 0
-IsWhole s = HasSpelled s s.closed
+abbrev pub IsWholeSpelling : Spelling → Type 0
+IsWholeSpelling s = HasSpelled s s.closed
 
 -- these records were added, unless some are lost
 abbrev pub SpellsMore : Spelling → Spelling → List Out → Type 0

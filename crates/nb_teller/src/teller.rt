@@ -4,7 +4,7 @@ ghost use Rattle.nb_nodes.specs.declared.tag.Tag.TheVariants as tag;
 ghost use Rattle.nb_stack.specs.Client.{Client};
 ghost use Rattle.nb_teller.specs.declared.speaker.Speaker.{Speaker as TheSpeaker};
 ghost use Rattle.nb_machine.specs.Sendings.{send_records};
-ghost use Rattle.nb_teller.specs.Spelling.{heard_by, IsBlank, IsWhole, SpellsMessage};
+ghost use Rattle.nb_teller.specs.Spelling.{heard_by, IsBlank, IsWholeSpelling, SpellsMessage};
 ghost use Rattle.nb_teller.specs.Tellings.{message_records};
 ghost use Rattle.nb_teller.specs.Speakers.{datagram_of};
 
@@ -74,7 +74,7 @@ impl<'a> Teller<'a> {
 
     /// An error where memory ran out, in the graph or here.
     pub fn check(&self) -> Result<(), NoMemory>
-        ensures { OnOk result (IsWhole self.now.told.value) }
+        ensures { OnOk result (IsWholeSpelling self.now.told.value) }
     {
         match self.told.first_close() {
             Ok(_) => Ok(()),
@@ -85,7 +85,7 @@ impl<'a> Teller<'a> {
     /// What was told. An error where memory ran out, in the graph or here.
     pub fn finish(self) -> Result<Box<Spelled>, NoMemory>
         ensures told { IfOk result (λ told. told.value ≡ self.entry.told.value) }
-        ensures whole { IfOk result (λ told. IsWhole told.value) }
+        ensures whole { IfOk result (λ told. IsWholeSpelling told.value) }
     {
         self.check()?;
         Ok(self.told)

@@ -13,10 +13,10 @@ use Rattle.nb_ledger.specs.GraphRun.{GraphState}
 use Rattle.nb_frames.specs.Frames.{is_one_of}
 use Rattle.nb_frames.specs.Within.{IsEventWithin}
 use Rattle.nb_traced.specs.Holdings.{Holdings, lowest_of, serials}
-use Rattle.nb_traced.specs.Pieces.{AreInner, BeginsBy, IsCallOn, IsInner, IsMaking, IsOutsideWay, event_records}
+use Rattle.nb_traced.specs.Pieces.{AreInner, BeginsBy, IsCallOn, IsInnerEvent, IsMaking, IsOutsideWay, event_records}
 use Rattle.nb_traced.specs.Outputs.{Arrived, Traced, arrived, last_step, own_serials, at_first, apart, replies, commands, makes, opens, calls, ends, ends_with_all, gives_up}
 use Rattle.nb_traced.specs.LowestObjects.{GraphSoFar, graph_so_far, graph_by, graph_moves, is_it, no_graph}
-use Rattle.nb_traced.specs.Entries.{Arrival, came_to, entries, entries_from, entry_at, entry_in}
+use Rattle.nb_traced.specs.Entries.{EntryArrival, came_to, entries, entries_from, entry_at, entry_in}
 use Rattle.nb_traced.proofs.EventLemmas.{all_each, all_first, all_last, all_map}
 use Rattle.nb_traced.proofs.Serials.{not_one, one_in_either}
 use Rattle.nb_traced.proofs.RecordLemmas.{aparts_aside, puts_aside}
@@ -47,7 +47,7 @@ others_none k g (o ∷ outs) none = ap (λ z. z ++ entries_from k (graph_by g o)
 -- the event isn't an entry of that object from outside, if there is one
 abbrev IsInnerOf : Option ℕ → GraphEvent → Type 0
 IsInnerOf None e = Unit {0}
-IsInnerOf (Some y) e = IsInner y e
+IsInnerOf (Some y) e = IsInnerEvent y e
 
 not_entered_up : (l : Option ℕ) (p : Port) → IsInnerOf l (Entered p way.Up) → is_it l p.obj.0 ≡ false
 not_entered_up None p h = refl
@@ -87,7 +87,7 @@ entered_once k x g p way.Time is object out = ap (λ o. cond (is_it o p.obj.0 &&
 entered_once k x g p way.Down is object out = absurd out
 entered_once k x g p way.Close is object out = absurd out
 
-within_inner : (own : ℕ → Bool) (y : ℕ) (e : GraphEvent) → own y ≡ false → IsEventWithin own e → IsInner y e
+within_inner : (own : ℕ → Bool) (y : ℕ) (e : GraphEvent) → own y ≡ false → IsEventWithin own e → IsInnerEvent y e
 within_inner own y (Made x kind) n w = tt
 within_inner own y (Held x) n w = tt
 within_inner own y (LetGo x) n w = tt
@@ -124,7 +124,7 @@ inner_all (Some y) es h = h y
 came_append : (k : ℕ) (xs ys : List Arrived) → came_to k (xs ++ ys) ≡ came_to k xs ++ came_to k ys
 came_append k [] ys = refl
 came_append k (a ∷ xs) ys =
-    let this : List Arrival = if a.whose == k then record { number = a.number; way = way_number a.way } ∷ [] else [] in
+    let this : List EntryArrival = if a.whose == k then record { number = a.number; way = way_number a.way } ∷ [] else [] in
     ap (λ z. this ++ z) (came_append k xs ys) ∙ sym (append_assoc this (came_to k xs) (came_to k ys))
 
 came_other : (k n : ℕ) (outs : List Out) (by : Option Way) → (n ≡ k → ⊥) → came_to k (arrived outs n by) ≡ []
@@ -183,7 +183,7 @@ module _ (k n x : ℕ) (ids : List ℕ) (by : Option Way) (outs added : List Out
   inner_of owner (Some y) is lowests whose other =
       let theirs : owner y ≡ Some k = lowests k y is in
       let not_own : is_one_of ids y ≡ false = not_one ids y (λ e. elim (whose y e) [ inl f ↦ other (some_same n k (sym f ∙ theirs)) | inr f ↦ none_some (owner y) k f theirs ]) in
-      all_map (IsEventWithin (is_one_of ids)) (IsInner y) (c.front ++ c.back) (λ e w. within_inner (is_one_of ids) y e not_own w) c.within
+      all_map (IsEventWithin (is_one_of ids)) (IsInnerEvent y) (c.front ++ c.back) (λ e w. within_inner (is_one_of ids) y e not_own w) c.within
 
   call_enters : (owner : ℕ → Option ℕ) → ((j y : ℕ) → the_graph.lowest j ≡ Some y → owner y ≡ Some j) → the_graph.lowest n ≡ Some x → ((y : ℕ) → is_one_of ids y ≡ true → (owner y ≡ Some n) ⊎ (owner y ≡ None)) →
       entries_from k the_graph added ≡ came_to k (arrived outs n by)
@@ -200,7 +200,7 @@ more_entered k outs added came new a b = entries_then k outs added ∙ ap (λ z.
 none_entered : (k : ℕ) (outs added : List Out) (came : List Arrived) → entries k outs ≡ came_to k came → entries_from k (graph_so_far outs) added ≡ [] → entries k (outs ++ added) ≡ came_to k came
 none_entered k outs added came a b = entries_then k outs added ∙ ap (λ z. z ++ entries_from k (graph_so_far outs) added) a ∙ ap (λ z. came_to k came ++ z) b ∙ append-nil (came_to k came)
 
-before_end : (k : ℕ) (g : GraphSoFar) (added last : List Out) (came : List Arrival) → entries_from k g added ≡ came → AllByRecursion IsNotOfGraph last → entries_from k g (added ++ last) ≡ came
+before_end : (k : ℕ) (g : GraphSoFar) (added last : List Out) (came : List EntryArrival) → entries_from k g added ≡ came → AllByRecursion IsNotOfGraph last → entries_from k g (added ++ last) ≡ came
 before_end k g added last came is none = entries_append k g added last ∙ ap (λ z. entries_from k g added ++ z) (others_none k (fold graph_by g added) last none) ∙ append-nil (entries_from k g added) ∙ is
 
 first_entries : (k : ℕ) → entries k [] ≡ []

@@ -6,11 +6,11 @@ use Rattle.nb_terms.specs.declared.cause.Cause.{Cause}
 use Rattle.nb_defs.specs.Records.{Out, step, opened, ended}
 use Rattle.nb_ledger.specs.GraphRun.{GraphState}
 use Rattle.nb_frames.specs.Frames.{is_one_of}
-use Rattle.nb_traced.specs.Holdings.{Holdings, Kin, Piece, lowest_of, serials}
+use Rattle.nb_traced.specs.Holdings.{Holdings, Kin, GraphObject, lowest_of, serials}
 use Rattle.nb_traced.specs.Pieces.{first_close_of}
 use Rattle.nb_traced.specs.Outputs.{own_serials}
 use Rattle.nb_traced.specs.Runs.{LeadsBy}
-use Rattle.nb_traced.specs.Openings.{HaveNoCommand, WasMadeLast, HasOpened, IsNoEnd, GoesOn, IsNumberedBelow}
+use Rattle.nb_traced.specs.Openings.{HaveNoCommand, WasMadeLast, HasOpened, IsNoEnd, HasNoEnd, IsNumberedBelow}
 use Rattle.nb_traced.specs.LowestObjects.{graph_so_far}
 use Rattle.nb_traced.proofs.EventLemmas.{all_append, all_first, all_last, all_map, all_zip}
 use Rattle.nb_traced.proofs.Serials.{AreRising, not_one}
@@ -25,12 +25,12 @@ pub record Lives (outs : List Out) (s : GraphState) (owner : ℕ → Option ℕ)
   pub begun : HasOpened outs o.number o.pieces since
   pub leads : LeadsBy begun.has.state since s
   pub unclosed : first_close_of (own_serials o) since ≡ None
-  pub goes_on : GoesOn o.number outs
+  pub goes_on : HasNoEnd o.number outs
   pub owned : (x : ℕ) → is_one_of (own_serials o) x ≡ true → owner x ≡ Some o.number
   pub lowest : (graph_so_far outs).lowest o.number ≡ Some (lowest_of (own_serials o))
 
 -- an object that waits lives, was made since the last COMMAND, and is no open's yet
-pub record Waits (outs : List Out) (s : GraphState) (owner : ℕ → Option ℕ) (p : Piece) : Type 0 where
+pub record Waits (outs : List Out) (s : GraphState) (owner : ℕ → Option ℕ) (p : GraphObject) : Type 0 where
   pub made : WasMadeLast outs p
   pub lives : s.live p.serial ≡ true
   pub below : p.serial ≤ s.made
@@ -138,7 +138,7 @@ unended n k (step number) h a = tt
 unended n k _ h a = tt
 
 -- an open of a later number hasn't ended, and hasn't begun
-pub goes_on_new : (n k : ℕ) (outs : List Out) → n ≤ k → AllByRecursion (IsNumberedBelow n) outs → GoesOn k outs
+pub goes_on_new : (n k : ℕ) (outs : List Out) → n ≤ k → AllByRecursion (IsNumberedBelow n) outs → HasNoEnd k outs
 goes_on_new n k outs h a = all_map (IsNumberedBelow n) (IsNoEnd k) outs (λ o b. unended n k o h b) a
 
 unopened : (n k : ℕ) (o : Out) → n ≤ k → IsNumberedBelow n o → IsNoOpening k o
@@ -151,7 +151,7 @@ unopened_new n k outs h a = all_map (IsNumberedBelow n) (IsNoOpening k) outs (λ
 
 -- ONE MORE STEP
 
-pub opened_then : (outs added : List Out) (k : ℕ) (pieces : List Piece) (since : List Out) → HasOpened outs k pieces since → HasOpened (outs ++ added) k pieces (since ++ added)
+pub opened_then : (outs added : List Out) (k : ℕ) (pieces : List GraphObject) (since : List Out) → HasOpened outs k pieces since → HasOpened (outs ++ added) k pieces (since ++ added)
 opened_then outs added k pieces since b = record {
   before = b.before;
   kind = b.kind;
@@ -167,7 +167,7 @@ pub lowest_then : (outs added : List Out) (k : ℕ) → AllByRecursion (IsNoOpen
 lowest_then outs added k none = ap (λ g. g.lowest k) (so_far_append outs added) ∙ lowest_stays k (graph_so_far outs) added none
 
 pub lives_on : (outs added : List Out) (s t : GraphState) (owner : ℕ → Option ℕ) (o : Kin) → Lives outs s owner o → LeadsBy s added t → first_close_of (own_serials o) added ≡ None →
-    GoesOn o.number added → AllByRecursion (IsNoOpening o.number) added → Lives (outs ++ added) t owner o
+    HasNoEnd o.number added → AllByRecursion (IsNoOpening o.number) added → Lives (outs ++ added) t owner o
 unfolding opened_then
 lives_on outs added s t owner o l leads unclosed goes_on unopened = record {
   since = l.since ++ added;
@@ -184,7 +184,7 @@ pub record Called (own : ℕ → Bool) (outs added : List Out) (s t : GraphState
   pub leads : LeadsBy s added t
   pub others : LeavesOthers own s t
   pub closes : (ids : List ℕ) → ((x : ℕ) → own x ≡ true → is_one_of ids x ≡ false) → first_close_of ids added ≡ None
-  pub goes_on : (k : ℕ) → GoesOn k added
+  pub goes_on : (k : ℕ) → HasNoEnd k added
   pub no_command : HaveNoCommand added
   pub no_opening : (k : ℕ) → AllByRecursion (IsNoOpening k) added
   pub rests : t.stack ≡ []
@@ -200,7 +200,7 @@ pub strangers_live : (own : ℕ → Bool) (outs added : List Out) (s t : GraphSt
 strangers_live own outs added s t owner os c a b = all_zip (Lives outs s owner) (IsStranger own owner) (Lives (outs ++ added) t owner) os (λ o l strange.
     lives_on outs added s t owner o l c.leads (c.closes (own_serials o) (λ x is. not_one (own_serials o) x (λ mine. strange x is (l.owned x mine)))) (c.goes_on o.number) (c.no_opening o.number)) a b
 
-pub waits_on : (own : ℕ → Bool) (outs added : List Out) (s t : GraphState) (owner : ℕ → Option ℕ) (ps : List Piece) → Called own outs added s t →
+pub waits_on : (own : ℕ → Bool) (outs added : List Out) (s t : GraphState) (owner : ℕ → Option ℕ) (ps : List GraphObject) → Called own outs added s t →
     ((x : ℕ) → own x ≡ true → owner x ≡ None → ⊥) → AllByRecursion (Waits outs s owner) ps → AllByRecursion (Waits (outs ++ added) t owner) ps
 waits_on own outs added s t owner ps c taken a = all_map (Waits outs s owner) (Waits (outs ++ added) t owner) ps (λ p w. record {
   made = made_last_then outs added p w.made c.no_command;
@@ -215,7 +215,7 @@ pub ended_strangers : (outs : List Out) (s : GraphState) (owner : ℕ → Option
 ended_strangers outs s owner k cause os a b = all_zip (Lives outs s owner) (IsAnother k) (Lives (outs ++ (ended k cause ∷ [])) s owner) os (λ o l n.
     lives_on outs (ended k cause ∷ []) s s owner o l (ended_leads k cause s) refl ((λ e. n (sym e)), tt) (tt, tt)) a b
 
-pub ended_waits : (outs : List Out) (s : GraphState) (owner : ℕ → Option ℕ) (k : ℕ) (cause : Cause) (ps : List Piece) → AllByRecursion (Waits outs s owner) ps → AllByRecursion (Waits (outs ++ (ended k cause ∷ [])) s owner) ps
+pub ended_waits : (outs : List Out) (s : GraphState) (owner : ℕ → Option ℕ) (k : ℕ) (cause : Cause) (ps : List GraphObject) → AllByRecursion (Waits outs s owner) ps → AllByRecursion (Waits (outs ++ (ended k cause ∷ [])) s owner) ps
 ended_waits outs s owner k cause ps a = all_map (Waits outs s owner) (Waits (outs ++ (ended k cause ∷ [])) s owner) ps (λ p w. record {
   made = made_last_then outs (ended k cause ∷ []) p w.made ((λ z. z), tt);
   lives = w.lives;

@@ -6,7 +6,7 @@ use Rattle.nb_ledger.specs.declared.port.Port.{Port}
 use Rattle.nb_ledger.specs.declared.port.PortState.TheVariants as port
 use Rattle.nb_ledger.specs.GraphRun.{GraphState}
 use Rattle.nb_graph.specs.Whole.{port_at}
-use Rattle.nb_traced.specs.Holdings.{Piece, AreJoined, kinds, lowest_of, serials}
+use Rattle.nb_traced.specs.Holdings.{GraphObject, AreJoined, kinds, lowest_of, serials}
 use Rattle.nb_traced.specs.Outputs.{IsNewest}
 use Rattle.nb_traced.specs.Openings.{HasPieces}
 use Rattle.nb_traced.proofs.Serials.{at_serial, lowest_in}
@@ -36,13 +36,13 @@ joined_same s (x ∷ (w ∷ ws)) (y ∷ (z ∷ zs)) many low a b =
     let rest = joined_same s (w ∷ ws) (z ∷ zs) (omega (arith, many)) low a.2 b.2 in
     ap (λ v. v ∷ (w ∷ ws)) (upper_same s x y w z (head_same w z ws zs rest) a.1 b.1) ∙ ap (λ v. y ∷ v) rest
 
-as_many : (ps qs : List Piece) → kinds ps ≡ kinds qs → length (serials ps) ≡ length (serials qs)
+as_many : (ps qs : List GraphObject) → kinds ps ≡ kinds qs → length (serials ps) ≡ length (serials qs)
 as_many [] [] e = refl
 as_many [] (q ∷ qs) e = absurd (none_one q.kind (kinds qs) e)
 as_many (p ∷ ps) [] e = absurd (none_one p.kind (kinds ps) (sym e))
 as_many (p ∷ ps) (q ∷ qs) e = ap suc (as_many ps qs (tail_same p.kind q.kind (kinds ps) (kinds qs) e))
 
-pieces_same : (ps qs : List Piece) → serials ps ≡ serials qs → kinds ps ≡ kinds qs → ps ≡ qs
+pieces_same : (ps qs : List GraphObject) → serials ps ≡ serials qs → kinds ps ≡ kinds qs → ps ≡ qs
 pieces_same [] [] a b = refl
 pieces_same [] (q ∷ qs) a b = absurd (none_one q.kind (kinds qs) b)
 pieces_same (p ∷ ps) [] a b = absurd (none_one p.kind (kinds ps) (sym b))
@@ -52,10 +52,10 @@ pieces_same (p ∷ ps) (q ∷ qs) a b =
     ∙ ap (λ z. record { serial = q.serial; kind = z } ∷ ps) (head_same p.kind q.kind (kinds ps) (kinds qs) b) ∙ ap (λ z. q ∷ z) rest
 
 -- the lowest of some is no older than that of others
-no_older : (s : GraphState) (ps qs : List Piece) → IsNewest s (lowest_of (serials ps)) → AllByRecursion (λ q. s.live q.serial ≡ true) qs → (qs ≡ [] → ⊥) → lowest_of (serials qs) ≤ lowest_of (serials ps)
+no_older : (s : GraphState) (ps qs : List GraphObject) → IsNewest s (lowest_of (serials ps)) → AllByRecursion (λ q. s.live q.serial ≡ true) qs → (qs ≡ [] → ⊥) → lowest_of (serials qs) ≤ lowest_of (serials ps)
 no_older s ps qs newest lives some = newest (lowest_of (serials qs)) (at_serial (λ x. s.live x ≡ true) qs lives (lowest_of (serials qs)) (lowest_in qs some))
 
-pub pieces_are_one : (before : List Out) (kind : ℕ) (ps qs : List Piece) → HasPieces before kind ps → HasPieces before kind qs → ps ≡ qs
+pub pieces_are_one : (before : List Out) (kind : ℕ) (ps qs : List GraphObject) → HasPieces before kind ps → HasPieces before kind qs → ps ≡ qs
 pieces_are_one before kind ps qs a b =
     let same : b.state ≡ a.state = one_state before b.state a.state b.led a.led in
     let are : kinds ps ≡ kinds qs = a.of_kind ∙ sym b.of_kind in

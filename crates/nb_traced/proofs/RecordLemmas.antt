@@ -11,10 +11,10 @@ use Rattle.nb_ledger.specs.declared.event.GraphEvent.TheVariants.{Made, Held, Le
 use Rattle.nb_ledger.specs.GraphRun.{GraphState, GraphRunOf}
 use Rattle.nb_frames.specs.Within.{IsEventWithin}
 use Rattle.nb_frames.specs.Frames.{is_one_of}
-use Rattle.nb_traced.specs.Holdings.{Piece}
+use Rattle.nb_traced.specs.Holdings.{GraphObject}
 use Rattle.nb_traced.specs.Pieces.{IsMaking, IsOfOpen, IsApart, event_records, made_by, pieces_made, close_cause, first_or, first_close_of}
 use Rattle.nb_traced.specs.Runs.{LeadsBy, event_in, events_in}
-use Rattle.nb_traced.specs.Openings.{IsCommand, HaveNoCommand, made_record, WasMadeLast, WasFreed, IsNoEnd, GoesOn}
+use Rattle.nb_traced.specs.Openings.{IsCommand, HaveNoCommand, made_record, WasMadeLast, WasFreed, IsNoEnd, HasNoEnd}
 use Rattle.nb_traced.proofs.EventLemmas.{all_append, Spells}
 use Rattle.nb_traced.proofs.StateLemmas.{live_by, step_changes}
 
@@ -174,20 +174,20 @@ no_end_aside k (ended number cause) h = absurd h
 no_end_aside k (step number) h = tt
 no_end_aside k _ h = tt
 
-pub goes_on_aside : (k : ℕ) (outs : List Out) → AreAside outs → GoesOn k outs
+pub goes_on_aside : (k : ℕ) (outs : List Out) → AreAside outs → HasNoEnd k outs
 goes_on_aside k [] h = tt
 goes_on_aside k (o ∷ outs) h = (no_end_aside k o h.0, goes_on_aside k outs h.1)
 
-pub goes_on_events : (k : ℕ) (es : List GraphEvent) → GoesOn k (event_records es)
+pub goes_on_events : (k : ℕ) (es : List GraphEvent) → HasNoEnd k (event_records es)
 goes_on_events k [] = tt
 goes_on_events k (e ∷ es) = (tt, goes_on_events k es)
 
-pub goes_on_then : (k : ℕ) (xs ys : List Out) → GoesOn k xs → GoesOn k ys → GoesOn k (xs ++ ys)
+pub goes_on_then : (k : ℕ) (xs ys : List Out) → HasNoEnd k xs → HasNoEnd k ys → HasNoEnd k (xs ++ ys)
 goes_on_then k xs ys a b = all_append (IsNoEnd k) xs ys a b
 
 -- WHAT IS MADE
 
-pub made_last_then : (outs added : List Out) (p : Piece) → WasMadeLast outs p → HaveNoCommand added → WasMadeLast (outs ++ added) p
+pub made_last_then : (outs added : List Out) (p : GraphObject) → WasMadeLast outs p → HaveNoCommand added → WasMadeLast (outs ++ added) p
 made_last_then outs added p m none = record {
   earlier = m.earlier;
   since = m.since ++ added;

@@ -9,7 +9,7 @@ use Rattle.nb_ledger.specs.declared.event.GraphEvent.{GraphEvent}
 use Rattle.nb_ledger.specs.GraphRun.{GraphState, GraphRunOf}
 use Rattle.nb_frames.specs.Frames.{is_one_of}
 use Rattle.nb_frames.specs.Within.{IsEventWithin}
-use Rattle.nb_traced.specs.Holdings.{Holdings, Kin, Piece, AreJoined, kinds, lowest_of, no_holdings, objects_for, serials}
+use Rattle.nb_traced.specs.Holdings.{Holdings, Kin, GraphObject, AreJoined, kinds, lowest_of, no_holdings, objects_for, serials}
 use Rattle.nb_traced.specs.Pieces.{AreGone, IsMaking, event_records, first_close_of, pieces_made}
 use Rattle.nb_traced.specs.Outputs.{Arrived, CallsOpen, IsNewest, ShutsOpen, Traced, own_serials, at_first, apart, replies, commands, makes, opens, calls, ends, ends_with_all, gives_up}
 use Rattle.nb_traced.specs.Runs.{HasLedTo, LeadsBy}
@@ -76,7 +76,7 @@ kept_aside outs added h a aside calm = record {
   held = a.held;
 }
 
-new_waits : (outs : List Out) (s : GraphState) (made : ℕ) (owner : ℕ → Option ℕ) (ps : List Piece) → ((x : ℕ) → made < x → owner x ≡ None) → AllByRecursion (WasMadeLast outs) ps →
+new_waits : (outs : List Out) (s : GraphState) (made : ℕ) (owner : ℕ → Option ℕ) (ps : List GraphObject) → ((x : ℕ) → made < x → owner x ≡ None) → AllByRecursion (WasMadeLast outs) ps →
     AllByRecursion (λ p. s.live p.serial ≡ true) ps → AllByRecursion (λ p. made < p.serial) ps → AllByRecursion (λ p. p.serial ≤ s.made) ps → AllByRecursion (Waits outs s owner) ps
 new_waits outs s made owner [] unmade a b c d = tt
 new_waits outs s made owner (p ∷ ps) unmade a b c d = (record { made = a.0; lives = b.0; below = d.0; free = unmade p.serial c.0 }, new_waits outs s made owner ps unmade a.1 b.1 c.1 d.1)
@@ -127,12 +127,12 @@ owner_own ids k f x e = ap (λ b. if b then Some k else f x) e
 owner_other : (ids : List ℕ) (k : ℕ) (f : ℕ → Option ℕ) (x : ℕ) → is_one_of ids x ≡ false → with_owner ids k f x ≡ f x
 owner_other ids k f x e = ap (λ b. if b then Some k else f x) e
 
-opened_waits : (outs added : List Out) (s : GraphState) (owner : ℕ → Option ℕ) (ids : List ℕ) (k : ℕ) (ps : List Piece) → HaveNoCommand added → ((x : ℕ) → is_one_of (serials ps) x ≡ true → is_one_of ids x ≡ false) →
+opened_waits : (outs added : List Out) (s : GraphState) (owner : ℕ → Option ℕ) (ids : List ℕ) (k : ℕ) (ps : List GraphObject) → HaveNoCommand added → ((x : ℕ) → is_one_of (serials ps) x ≡ true → is_one_of ids x ≡ false) →
     AllByRecursion (Waits outs s owner) ps → AllByRecursion (Waits (outs ++ added) s (with_owner ids k owner)) ps
 opened_waits outs added s owner ids k ps none other a = all_zip (Waits outs s owner) (λ p. is_one_of ids p.serial ≡ false) (Waits (outs ++ added) s (with_owner ids k owner)) ps (λ p w n.
     record { made = made_last_then outs added p w.made none; lives = w.lives; below = w.below; free = owner_other ids k owner p.serial n ∙ w.free }) a (each_serial (λ x. is_one_of ids x ≡ false) ps other)
 
-module _ (outs : List Out) (h : Holdings) (first : List Piece) (o : Kin) (kind server port own : ℕ) (target : List ℕ) (a : Kept outs h) (led : HasLedTo outs h.state)
+module _ (outs : List Out) (h : Holdings) (first : List GraphObject) (o : Kin) (kind server port own : ℕ) (target : List ℕ) (a : Kept outs h) (led : HasLedTo outs h.state)
     (waits : h.waits ≡ first ++ o.pieces) (are : kinds o.pieces ≡ objects_for kind) (some : o.pieces ≡ [] → ⊥) (joined : AreJoined h.state (own_serials o))
     (newest : IsNewest h.state (lowest_of (own_serials o))) (later : h.begun ≤ o.number) where
   abbrev opening : List Out
@@ -296,7 +296,7 @@ kept_calls outs added h before after o by s a living call none =
     }
 
 -- an open ends: what it had is gone, with all of what waits or none of it
-module _ (outs added : List Out) (h : Holdings) (before after : List Kin) (o : Kin) (s : GraphState) (cause : Cause) (own : ℕ → Bool) (still : List Piece) (a : Kept outs h) (living : h.living ≡ before ++ o ∷ after)
+module _ (outs added : List Out) (h : Holdings) (before after : List Kin) (o : Kin) (s : GraphState) (cause : Cause) (own : ℕ → Bool) (still : List GraphObject) (a : Kept outs h) (living : h.living ≡ before ++ o ∷ after)
     (c : Called own outs added h.state s) (whose : (x : ℕ) → own x ≡ true → (a.owner x ≡ Some o.number) ⊎ (a.owner x ≡ None)) (mine : (x : ℕ) → is_one_of (own_serials o) x ≡ true → own x ≡ true)
     (gone : (x : ℕ) → own x ≡ true → s.live x ≡ false) (waits : AllByRecursion (Waits (outs ++ added) s a.owner) still) (rising : AreRising still)
     (waits_still : (x : ℕ) → own x ≡ false → is_one_of (serials h.waits) x ≡ true → is_one_of (serials still) x ≡ true) where

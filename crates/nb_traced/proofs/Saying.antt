@@ -11,11 +11,11 @@ use Rattle.nb_ledger.specs.declared.event.GraphEvent.{GraphEvent}
 use Rattle.nb_ledger.specs.declared.event.GraphEvent.TheVariants.{Entered}
 use Rattle.nb_ledger.specs.GraphRun.{GraphState}
 use Rattle.nb_frames.specs.Frames.{is_one_of}
-use Rattle.nb_traced.specs.Holdings.{Holdings, Kin, Piece, lowest_of, serials}
-use Rattle.nb_traced.specs.Pieces.{AreGone, EndsWithin, IsApart, IsCallOn, IsOfOpen, event_records, first_close_of}
+use Rattle.nb_traced.specs.Holdings.{Holdings, Kin, GraphObject, lowest_of, serials}
+use Rattle.nb_traced.specs.Pieces.{AreGone, EndsEntering, IsApart, IsCallOn, IsOfOpen, event_records, first_close_of}
 use Rattle.nb_traced.specs.Outputs.{Arrived, Traced, own_serials, at_first, apart, replies, commands, makes, opens, calls, ends, ends_with_all, gives_up}
 use Rattle.nb_traced.specs.Runs.{HasLedTo, LeadsBy}
-use Rattle.nb_traced.specs.Openings.{HasPieces, EndsAs, WasFreed, IsNoEnd, GoesOn, IsOfLiving, LeavesNone, IsNumberedBelow}
+use Rattle.nb_traced.specs.Openings.{HasPieces, EndsAs, WasFreed, IsNoEnd, HasNoEnd, IsOfLiving, LeavesNone, IsNumberedBelow}
 use Rattle.nb_traced.specs.LowestObjects.{GraphSoFar, graph_so_far, graph_by, first_in}
 use Rattle.nb_traced.specs.Places.{FrameStands, IsWithinOpen, by_open, by_step}
 use Rattle.nb_traced.proofs.EventLemmas.{event_records_append}
@@ -30,7 +30,7 @@ use Rattle.nb_traced.proofs.Rules.{beside, has_pieces, kept, newest_is}
 
 -- an OPEN has its objects, of which the lowest is the newest of all that live, and its number is above all before it
 pub record OpensSo (before : List Out) (k kind : ℕ) : Type 0 where
-  pub pieces : List Piece
+  pub pieces : List GraphObject
   pub has : HasPieces before kind pieces
   pub newest : first_in (graph_so_far before).living ≡ Some (lowest_of (serials pieces))
   pub rising : AllByRecursion (IsNumberedBelow k) before
@@ -132,7 +132,7 @@ put_no_end k (script what depth cause) h = absurd h
 put_no_end k (part kind index offset bytes) h = absurd h
 put_no_end k (done status) h = absurd h
 
-events_go_on : (k : ℕ) (es : List GraphEvent) → GoesOn k (event_records es)
+events_go_on : (k : ℕ) (es : List GraphEvent) → HasNoEnd k (event_records es)
 events_go_on k [] = tt
 events_go_on k (e ∷ es) = (tt, events_go_on k es)
 
@@ -181,7 +181,7 @@ entered_runs outs front init p way all =
 
 module _ (outs : List Out) (s0 : GraphState) (owner : ℕ → Option ℕ) (o : Kin) (l : Lives outs s0 owner o) (ids : List ℕ) (by : Option Way) (added : List Out) (s t : GraphState)
     (c : IsCallOn o.number ids (lowest_of (own_serials o)) by added s t) where
-  stands_within : EndsWithin (lowest_of (own_serials o)) c.front → IsWithinOpen o.number (outs ++ event_records c.front)
+  stands_within : EndsEntering (lowest_of (own_serials o)) c.front → IsWithinOpen o.number (outs ++ event_records c.front)
   stands_within e = record {
     pieces = o.pieces;
     since = l.since ++ event_records c.front;
@@ -195,7 +195,7 @@ module _ (outs : List Out) (s0 : GraphState) (owner : ℕ → Option ℕ) (o : K
     };
   }
 
-  inside_says : (c.puts ≡ []) ⊎ EndsWithin (lowest_of (own_serials o)) c.front → EachSays (outs ++ event_records c.front) c.puts
+  inside_says : (c.puts ≡ []) ⊎ EndsEntering (lowest_of (own_serials o)) c.front → EachSays (outs ++ event_records c.front) c.puts
   inside_says (inl none) = subst (EachSays (outs ++ event_records c.front)) (sym none) tt
   inside_says (inr e) = puts_say o.number (outs ++ event_records c.front) c.puts (stands_within e) c.of_open
 

@@ -10,7 +10,7 @@ use Rattle.nb_ledger.specs.declared.event.GraphEvent.TheVariants.{Made, Held, Le
 use Rattle.nb_ledger.specs.GraphRun.{GraphState, GraphRunOf, Step, OnStack, Running, MustClose, MustEnter, MustUnplug, MustFree, ClosesPort, alone, linked, peer, but_at, with_port_state, with_stack, owed, object_count}
 use Rattle.nb_frames.specs.Within.{IsEventWithin}
 use Rattle.nb_frames.specs.Frames.{is_one_of}
-use Rattle.nb_traced.specs.Holdings.{Piece, serials}
+use Rattle.nb_traced.specs.Holdings.{GraphObject, serials}
 use Rattle.nb_traced.specs.Pieces.{IsMaking, made_by, pieces_made}
 use Rattle.nb_traced.proofs.Serials.{AreRising, one_first, one_later}
 
@@ -174,7 +174,7 @@ pub record Makes (es : List GraphEvent) (s t : GraphState) : Type 0 where
   pub rising : AreRising (pieces_made es)
   pub only : (y : ℕ) → t.live y ≡ true → (s.live y ≡ true) ⊎ (is_one_of (serials (pieces_made es)) y ≡ true)
 
-new_from : (n m : ℕ) (ps : List Piece) → n ≤ m → AllByRecursion (λ p. m < p.serial) ps → AllByRecursion (λ p. n < p.serial) ps
+new_from : (n m : ℕ) (ps : List GraphObject) → n ≤ m → AllByRecursion (λ p. m < p.serial) ps → AllByRecursion (λ p. n < p.serial) ps
 new_from n m [] h a = tt
 new_from n m (p ∷ ps) h a = (omega (arith, a.0), new_from n m ps h a.1)
 

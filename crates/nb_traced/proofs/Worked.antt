@@ -12,7 +12,7 @@ use Rattle.nb_ledger.specs.declared.event.GraphEvent.TheVariants.{Made, Held, Le
 use Rattle.nb_ledger.specs.GraphRun.{GraphState, GraphRunOf, Running, alone, but_at, ports_but, new_ports, with_port_state, with_stack, owed, object_count, freed}
 use Rattle.nb_graph.specs.Whole.{port_at}
 use Rattle.nb_frames.specs.Frames.{is_one_of}
-use Rattle.nb_traced.specs.Holdings.{Holdings, Kin, Piece, no_holdings, no_state}
+use Rattle.nb_traced.specs.Holdings.{Holdings, Kin, GraphObject, no_holdings, no_state}
 use Rattle.nb_traced.specs.Pieces.{IsCallOn, AreGone, BeginsBy, event_records}
 use Rattle.nb_traced.specs.Outputs.{Traced, last_step, at_first, apart, commands, makes, opens, calls, ends}
 use Rattle.nb_traced.specs.Example.{ping_made, ping_asks, ping_begins, ping_ends, two_pings, one_ends, came_to_two, came_to_both}
@@ -60,7 +60,7 @@ newest_made x n f up below y is = elim (cases_eq y x) [
 none_lives : (y : ℕ) → no_state.live y ≡ true → y ≤ 0
 none_lives y is = absurd (false≢true is)
 
-some_pieces : (p : Piece) (ps : List Piece) → p ∷ ps ≡ [] → ⊥
+some_pieces : (p : GraphObject) (ps : List GraphObject) → p ∷ ps ≡ [] → ⊥
 some_pieces p ps e = cc
 
 -- a message or a time comes to the object x by p, and it sends

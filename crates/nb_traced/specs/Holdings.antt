@@ -6,21 +6,21 @@ use Rattle.nb_ledger.specs.GraphRun.{GraphState}
 use Rattle.nb_graph.specs.Whole.{port_at}
 
 -- an object, by its serial and the number of its kind
-pub record Piece : Type 0 where
+pub record GraphObject : Type 0 where
   pub serial : ℕ
   pub kind : ℕ
 
 -- the objects of an open that lives, the top one first; the last one talks to the network
 pub record Kin : Type 0 where
   pub number : ℕ
-  pub pieces : List Piece
+  pub pieces : List GraphObject
 
 -- The state to which a legal run has led; the objects of the opens that live; those that wait for their open, in the order in which
 -- they were made; and the least number that the next open may have.
 pub record Holdings : Type 0 where
   pub state : GraphState
   pub living : List Kin
-  pub waits : List Piece
+  pub waits : List GraphObject
   pub begun : ℕ
 
 -- no object was made yet
@@ -30,10 +30,10 @@ no_state = record { made = 0; live = λ _. false; holds = λ _. 0; port = λ _ _
 abbrev pub no_holdings : Holdings
 no_holdings = record { state = no_state; living = []; waits = []; begun = 0 }
 
-abbrev pub serials : List Piece → List ℕ
+abbrev pub serials : List GraphObject → List ℕ
 serials ps = map (λ p. p.serial) ps
 
-abbrev pub kinds : List Piece → List ℕ
+abbrev pub kinds : List GraphObject → List ℕ
 kinds ps = map (λ p. p.kind) ps
 
 -- the last of them, which talks to the network

@@ -8,7 +8,7 @@ use Rattle.nb_ledger.specs.Flat.{flat}
 use Rattle.nb_ledger.specs.declared.event.GraphEvent.TheVariants.{Made, Freed}
 use Rattle.nb_ledger.specs.GraphRun.{GraphState}
 use Rattle.nb_frames.specs.Frames.{is_one_of}
-use Rattle.nb_traced.specs.Holdings.{Piece, AreJoined, kinds, lowest_of, objects_for, serials}
+use Rattle.nb_traced.specs.Holdings.{GraphObject, AreJoined, kinds, lowest_of, objects_for, serials}
 use Rattle.nb_traced.specs.Pieces.{first_close_of}
 use Rattle.nb_traced.specs.Outputs.{IsNewest}
 use Rattle.nb_traced.specs.Runs.{HasLedTo}
@@ -25,14 +25,14 @@ HaveNoCommand outs = AllByRecursion (λ o. IsCommand o → ⊥) outs
 -- WHICH OBJECTS IT HAS
 
 -- the record by which this object is made, and that by which it is freed
-abbrev pub made_record : Piece → Out
+abbrev pub made_record : GraphObject → Out
 made_record p = graph (flat (Made (record { 0 = p.serial }) p.kind))
 
 abbrev pub freed_record : ℕ → Out
 freed_record x = graph (flat (Freed (record { 0 = x })))
 
 -- this object was made in these records, after the last COMMAND of them
-pub record WasMadeLast (before : List Out) (p : Piece) : Type 0 where
+pub record WasMadeLast (before : List Out) (p : GraphObject) : Type 0 where
   pub earlier : List Out
   pub since : List Out
   pub all : before ≡ earlier ++ (made_record p ∷ since)
@@ -40,7 +40,7 @@ pub record WasMadeLast (before : List Out) (p : Piece) : Type 0 where
 
 -- The objects of an open of this kind that begins after these records: those that its kind has, each made for it, each plugged to the
 -- next, and each alive. No object that lives was made after the lowest.
-pub record HasPieces (before : List Out) (kind : ℕ) (pieces : List Piece) : Type 0 where
+pub record HasPieces (before : List Out) (kind : ℕ) (pieces : List GraphObject) : Type 0 where
   pub of_kind : kinds pieces ≡ objects_for kind
   pub some : pieces ≡ [] → ⊥
   pub made : AllByRecursion (WasMadeLast before) pieces
@@ -53,7 +53,7 @@ pub record HasPieces (before : List Out) (kind : ℕ) (pieces : List Piece) : Ty
 -- each OPEN of an output has its objects
 abbrev pub OpensHavePieces : List Out → Type 0
 OpensHavePieces outs = (before after : List Out) (k kind server port own : ℕ) (target : List ℕ) →
-    outs ≡ before ++ (opened k kind server port own target ∷ after) → (pieces : List Piece) × HasPieces before kind pieces
+    outs ≡ before ++ (opened k kind server port own target ∷ after) → (pieces : List GraphObject) × HasPieces before kind pieces
 
 -- if this record begins or ends an open, its number is below that
 abbrev pub IsNumberedBelow : ℕ → Out → Type 0
@@ -68,7 +68,7 @@ NumbersRise outs = (before after : List Out) (k kind server port own : ℕ) (tar
     outs ≡ before ++ (opened k kind server port own target ∷ after) → AllByRecursion (IsNumberedBelow k) before
 
 -- Open k has begun in these records: its OPEN, its objects, and what stands after it.
-pub record HasOpened (outs : List Out) (k : ℕ) (pieces : List Piece) (since : List Out) : Type 0 where
+pub record HasOpened (outs : List Out) (k : ℕ) (pieces : List GraphObject) (since : List Out) : Type 0 where
   pub before : List Out
   pub kind : ℕ
   pub server : ℕ
@@ -92,18 +92,18 @@ IsNoEnd k (ended number cause) = number ≡ k → ⊥
 IsNoEnd k (step number) = Unit {0}
 IsNoEnd k _ = Unit {0}
 
-abbrev pub GoesOn : ℕ → List Out → Type 0
-GoesOn k outs = AllByRecursion (IsNoEnd k) outs
+abbrev pub HasNoEnd : ℕ → List Out → Type 0
+HasNoEnd k outs = AllByRecursion (IsNoEnd k) outs
 
 -- Open k ends after these records with this cause: it began in them and hasn't ended, the first close of a port of its objects since
 -- has the cause, and each of them was freed since.
 pub record EndsAs (before : List Out) (k : ℕ) (cause : Cause) : Type 0 where
-  pub pieces : List Piece
+  pub pieces : List GraphObject
   pub since : List Out
   pub begun : HasOpened before k pieces since
   pub first : first_close_of (serials pieces) since ≡ Some cause
   pub freed : AllByRecursion (λ p. WasFreed since p.serial) pieces
-  pub goes_on : GoesOn k before
+  pub goes_on : HasNoEnd k before
 
 -- each ENDED of an output stands so
 abbrev pub EndsAreTheirs : List Out → Type 0
@@ -114,11 +114,11 @@ EndsAreTheirs outs = (before after : List Out) (k : ℕ) (cause : Cause) → out
 -- the object is one of an open that has begun in these records and hasn't ended
 pub record IsOfLiving (outs : List Out) (x : ℕ) : Type 0 where
   pub number : ℕ
-  pub pieces : List Piece
+  pub pieces : List GraphObject
   pub since : List Out
   pub begun : HasOpened outs number pieces since
   pub is_piece : is_one_of (serials pieces) x ≡ true
-  pub goes_on : GoesOn number outs
+  pub goes_on : HasNoEnd number outs
 
 -- each object that lives is
 pub record LeavesNone (outs : List Out) : Type 0 where

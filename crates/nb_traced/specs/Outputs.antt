@@ -8,7 +8,7 @@ use Rattle.nb_ledger.specs.declared.event.GraphEvent.{GraphEvent}
 use Rattle.nb_ledger.specs.GraphRun.{GraphState, GraphRunOf}
 use Rattle.nb_frames.specs.Frames.{is_one_of}
 use Rattle.nb_frames.specs.Within.{IsEventWithin}
-use Rattle.nb_traced.specs.Holdings.{Holdings, Kin, Piece, AreJoined, kinds, lowest_of, no_holdings, objects_for, serials}
+use Rattle.nb_traced.specs.Holdings.{Holdings, Kin, GraphObject, AreJoined, kinds, lowest_of, no_holdings, objects_for, serials}
 use Rattle.nb_traced.specs.Pieces.{AreGone, AreInner, IsApart, IsCallOn, IsMaking, event_records, first_close_of, pieces_made}
 
 -- a message or a time entered the lowest object of this open from outside, in the step of this number
@@ -41,7 +41,7 @@ own_serials o = serials o.pieces
 abbrev pub CallsOpen : Kin → Option Way → List Out → GraphState → GraphState → Type 0
 CallsOpen o by records s t = IsCallOn o.number (own_serials o) (lowest_of (own_serials o)) by records s t
 
-abbrev pub ShutsOpen : Kin → List Piece → List Out → GraphState → GraphState → Type 0
+abbrev pub ShutsOpen : Kin → List GraphObject → List Out → GraphState → GraphState → Type 0
 ShutsOpen o waits records s t = IsCallOn o.number (own_serials o ++ serials waits) (lowest_of (own_serials o)) None records s t
 
 -- The output has led the graph here, and these came to the opens from outside, each with its way, in this order.
@@ -60,7 +60,7 @@ pub data Traced : List Out → Holdings → List Arrived → Type 0 where
       Traced (outs ++ event_records es) (record h { state = s; waits = h.waits ++ pieces_made es }) came
   -- an open begins: its objects, as its kind has them, were made for it, each plugged to the next, and the lowest is the newest of all; no earlier
   -- open had its number or a greater one
-  opens : (outs : List Out) (h : Holdings) (came : List Arrived) (first : List Piece) (o : Kin) (kind server port own : ℕ) (target : List ℕ) → Traced outs h came → h.waits ≡ first ++ o.pieces →
+  opens : (outs : List Out) (h : Holdings) (came : List Arrived) (first : List GraphObject) (o : Kin) (kind server port own : ℕ) (target : List ℕ) → Traced outs h came → h.waits ≡ first ++ o.pieces →
       kinds o.pieces ≡ objects_for kind → (o.pieces ≡ [] → ⊥) → AreJoined h.state (own_serials o) → IsNewest h.state (lowest_of (own_serials o)) → h.begun ≤ o.number →
       Traced (outs ++ (opened o.number kind server port own target ∷ [])) (record h { living = h.living ++ o ∷ []; waits = first; begun = o.number + 1 }) came
   -- a call on the objects of an open that goes on: no port of theirs is closed

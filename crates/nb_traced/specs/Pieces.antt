@@ -13,7 +13,7 @@ use Rattle.nb_ledger.specs.declared.event.GraphEvent.TheVariants.{Made, Held, Le
 use Rattle.nb_ledger.specs.GraphRun.{GraphState, GraphRunOf}
 use Rattle.nb_frames.specs.Frames.{is_one_of}
 use Rattle.nb_frames.specs.Within.{IsEventWithin}
-use Rattle.nb_traced.specs.Holdings.{Piece}
+use Rattle.nb_traced.specs.Holdings.{GraphObject}
 
 -- the records of these events
 abbrev pub event_records : List GraphEvent → List Out
@@ -52,23 +52,23 @@ IsApart (opened number kind server port own target) = ⊥
 IsApart (ended number cause) = ⊥
 
 -- this event is no entry of x from outside, by a message from below or a time
-abbrev pub IsInner : ℕ → GraphEvent → Type 0
-IsInner x (Entered p Up) = p.obj.0 ≡ x → ⊥
-IsInner x (Entered p Time) = p.obj.0 ≡ x → ⊥
-IsInner x (Entered p Down) = Unit {0}
-IsInner x (Entered p Close) = Unit {0}
-IsInner x (Made y kind) = Unit {0}
-IsInner x (Held y) = Unit {0}
-IsInner x (LetGo y) = Unit {0}
-IsInner x (Plugged p q) = Unit {0}
-IsInner x (Left p) = Unit {0}
-IsInner x (Dropped p) = Unit {0}
-IsInner x (Closed p cause) = Unit {0}
-IsInner x (Unplugged p q) = Unit {0}
-IsInner x (Freed y) = Unit {0}
+abbrev pub IsInnerEvent : ℕ → GraphEvent → Type 0
+IsInnerEvent x (Entered p Up) = p.obj.0 ≡ x → ⊥
+IsInnerEvent x (Entered p Time) = p.obj.0 ≡ x → ⊥
+IsInnerEvent x (Entered p Down) = Unit {0}
+IsInnerEvent x (Entered p Close) = Unit {0}
+IsInnerEvent x (Made y kind) = Unit {0}
+IsInnerEvent x (Held y) = Unit {0}
+IsInnerEvent x (LetGo y) = Unit {0}
+IsInnerEvent x (Plugged p q) = Unit {0}
+IsInnerEvent x (Left p) = Unit {0}
+IsInnerEvent x (Dropped p) = Unit {0}
+IsInnerEvent x (Closed p cause) = Unit {0}
+IsInnerEvent x (Unplugged p q) = Unit {0}
+IsInnerEvent x (Freed y) = Unit {0}
 
 abbrev pub AreInner : ℕ → List GraphEvent → Type 0
-AreInner x es = AllByRecursion (IsInner x) es
+AreInner x es = AllByRecursion (IsInnerEvent x) es
 
 -- a message from below, or a time
 abbrev pub IsOutsideWay : Way → Type 0
@@ -83,7 +83,7 @@ BeginsBy x None front = AreInner x front
 BeginsBy x (Some way) front = (p : Port) × (front ≡ Entered p way ∷ []) × (p.obj.0 ≡ x) × IsOutsideWay way
 
 -- the last of these events is an entry of x, which runs
-pub record EndsWithin (x : ℕ) (front : List GraphEvent) : Type 0 where
+pub record EndsEntering (x : ℕ) (front : List GraphEvent) : Type 0 where
   pub init : List GraphEvent
   pub port : Port
   pub way : Way
@@ -104,7 +104,7 @@ pub record IsCallOn (k : ℕ) (ids : List ℕ) (x : ℕ) (by : Option Way) (reco
   pub begins : BeginsBy x by front
   pub inner : AreInner x back
   -- what it sends stands within an entry of x, as the innermost
-  pub inside : (puts ≡ []) ⊎ EndsWithin x front
+  pub inside : (puts ≡ []) ⊎ EndsEntering x front
 
 -- the cause of a close of a port of one of these
 abbrev pub close_cause : List ℕ → Out → Option Cause
@@ -134,7 +134,7 @@ IsMaking (Closed p cause) = ⊥
 IsMaking (Unplugged p q) = ⊥
 IsMaking (Freed x) = ⊥
 
-abbrev pub made_by : GraphEvent → List Piece
+abbrev pub made_by : GraphEvent → List GraphObject
 made_by (Made x kind) = record { serial = x.0; kind = kind } ∷ []
 made_by (Held x) = []
 made_by (Plugged p q) = []
@@ -146,7 +146,7 @@ made_by (Closed p cause) = []
 made_by (Unplugged p q) = []
 made_by (Freed x) = []
 
-abbrev pub pieces_made : List GraphEvent → List Piece
+abbrev pub pieces_made : List GraphEvent → List GraphObject
 pieces_made [] = []
 pieces_made (e ∷ es) = made_by e ++ pieces_made es
 

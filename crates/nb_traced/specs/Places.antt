@@ -1,16 +1,16 @@
 -- Where the records of opens stand among the entries of their lowest objects. Our own.
 use Rattle.std.specs.Prelude.{◌≡◌, ℕ, List, [], ◌∷◌, ◌++◌, Some}
 use Rattle.nb_defs.specs.Records.{Out, step, sent, text, command, result, script, opened, tried, advanced, ended, graph, part, done}
-use Rattle.nb_traced.specs.Holdings.{Piece, lowest_of, serials}
+use Rattle.nb_traced.specs.Holdings.{GraphObject, lowest_of, serials}
 use Rattle.nb_traced.specs.LowestObjects.{graph_so_far}
-use Rattle.nb_traced.specs.Entries.{IsWithin, IsOutside}
-use Rattle.nb_traced.specs.Openings.{GoesOn, HasOpened, HasPieces}
+use Rattle.nb_traced.specs.Entries.{RunsInEntry, IsOutside}
+use Rattle.nb_traced.specs.Openings.{HasNoEnd, HasOpened, HasPieces}
 
 -- what the records say is the lowest object of an open is the last of its objects
 abbrev pub LowestAreTheirs : List Out → Type 0
 LowestAreTheirs outs = (before after : List Out) (k kind server port own : ℕ) (target : List ℕ) →
     outs ≡ before ++ (opened k kind server port own target ∷ after) →
-    (pieces : List Piece) × HasPieces before kind pieces × ((graph_so_far outs).lowest k ≡ Some (lowest_of (serials pieces)))
+    (pieces : List GraphObject) × HasPieces before kind pieces × ((graph_so_far outs).lowest k ≡ Some (lowest_of (serials pieces)))
 
 -- no two opens have the same
 abbrev pub LowestAreOwn : List Out → Type 0
@@ -18,11 +18,11 @@ LowestAreOwn outs = (j k x : ℕ) → (graph_so_far outs).lowest j ≡ Some x �
 
 -- an open of these records that hasn't ended, within whose lowest object's entry what comes next stands
 pub record IsWithinOpen (k : ℕ) (outs : List Out) : Type 0 where
-  pub pieces : List Piece
+  pub pieces : List GraphObject
   pub since : List Out
   pub begun : HasOpened outs k pieces since
-  pub goes_on : GoesOn k outs
-  pub within : IsWithin k outs
+  pub goes_on : HasNoEnd k outs
+  pub within : RunsInEntry k outs
 
 -- where a FRAME stands: within an entry of the lowest object of an open; or directly after a STEP, where no entry runs
 pub data FrameStands (before : List Out) : Type 0 where

@@ -6,7 +6,7 @@ ghost use Rattle.nb_terms.specs.declared.cause.Cause.{Cause};
 ghost use Rattle.nb_ledger.specs.GraphRun.{GraphState};
 ghost use Rattle.nb_traced.specs.Entries.{came_to, entries, IsOutside};
 ghost use Rattle.nb_traced.specs.Example.{came_to_both, came_to_two, one_ends, two_pings};
-ghost use Rattle.nb_traced.specs.Holdings.{Holdings, Piece};
+ghost use Rattle.nb_traced.specs.Holdings.{Holdings, GraphObject};
 ghost use Rattle.nb_traced.specs.Openings.{CommandsLeaveNone, EndsAreTheirs, HasPieces, LeavesTheirs, NumbersRise, OpensHavePieces};
 ghost use Rattle.nb_traced.specs.Outputs.{Arrived, Traced};
 ghost use Rattle.nb_traced.specs.Places.{AdvancesStand, FramesStand, LowestAreOwn, LowestAreTheirs, OthersStandOutside, TriesStand};
@@ -34,7 +34,7 @@ pub fn numbers_rise()
 
 /// Which objects those are, the records leave open nowhere.
 pub fn pieces_are_one()
-    ensures { (before : List Out) (kind : ℕ) (some others : List Piece) → HasPieces before kind some
+    ensures { (before : List Out) (kind : ℕ) (some others : List GraphObject) → HasPieces before kind some
         → HasPieces before kind others → some ≡ others }
 {}
 

@@ -1,6 +1,6 @@
 ghost use Rattle.std.specs.Prelude.{◌≡◌, ◌<◌, ◌++◌, [], ◌∷◌, ℕ, List, Option, true};
 ghost use Rattle.std.specs.Option.{option_map};
-ghost use Rattle.nb_chains.specs.Chains.{AreChained, GoesOn};
+ghost use Rattle.nb_chains.specs.Chains.{AreChained, AreStillChained};
 ghost use Rattle.nb_frames.specs.Frames.{is_one_of};
 ghost use Rattle.nb_graph.specs.Deeds.{Closes, Wants};
 ghost use Rattle.nb_graph.specs.Lived.{ObjectStands};
@@ -49,7 +49,7 @@ impl WebChain {
         out: &mut O,
     )
         requires { AreChained graph.old (web_ids self) }
-        ensures on { GoesOn (web_ids self) graph.old graph.new }
+        ensures on { AreStillChained (web_ids self) graph.old graph.new }
         ensures does { DoesWeb self now (begins_web self rec host (first.now ++ second.now)) graph.old graph.new
             (O.events out.old) (O.events out.new) }
     {
@@ -78,7 +78,7 @@ impl WebChain {
         out: &mut O,
     )
         requires { AreChained graph.old (web_ids self) }
-        ensures on { GoesOn (web_ids self) graph.old graph.new }
+        ensures on { AreStillChained (web_ids self) graph.old graph.new }
         ensures does { DoesWeb self now (receives_web self rec arrival.now) graph.old graph.new
             (O.events out.old) (O.events out.new) }
     {
@@ -99,7 +99,7 @@ impl WebChain {
     /// Time has come to `now`, in milliseconds.
     pub fn time<O: Outside>(self, graph: &mut Graph<Obj>, now: u64, out: &mut O)
         requires { AreChained graph.old (web_ids self) }
-        ensures on { GoesOn (web_ids self) graph.old graph.new }
+        ensures on { AreStillChained (web_ids self) graph.old graph.new }
         ensures does { DoesWeb self now (ticks_web self) graph.old graph.new (O.events out.old) (O.events out.new) }
     {
         graph.has_nodes();
@@ -111,7 +111,7 @@ impl WebChain {
     /// The user closes the open with this cause: both ports of the Fetch.
     pub fn close<O: Outside>(self, graph: &mut Graph<Obj>, cause: &Cause, now: u64, out: &mut O)
         requires { AreChained graph.old (web_ids self) }
-        ensures on { GoesOn (web_ids self) graph.old graph.new }
+        ensures on { AreStillChained (web_ids self) graph.old graph.new }
         ensures closes { ClosesWeb self graph.old graph.new cause.now (O.events out.old) (O.events out.new) }
     {
         graph.has_nodes();
@@ -129,7 +129,7 @@ impl WebChain {
     /// The bytes of the file that it has brought, if it has. They are handed out once.
     pub fn collect(self, graph: &mut Graph<Obj>) -> Option<Body>
         requires { AreChained graph.old (web_ids self) }
-        ensures on { GoesOn (web_ids self) graph.old graph.new }
+        ensures on { AreStillChained (web_ids self) graph.old graph.new }
         ensures body { AreOfWeb self graph.old → (t : List (NodeEntry TheObj TheLoad))
             → ObjectStands ObjStands graph.old self.fetch.0 t → result ≡ brought t }
         ensures shut { IsShutWeb self graph.old → IsShutWeb self graph.new }

@@ -7,13 +7,13 @@ use Rattle.nb_readings.specs.Readings.{response_read}
 use Rattle.nb_webs.specs.Webs.{response_come}
 
 -- a file, another place, or a refusal
-pub data Entry : Type 0 where
-  file : (bytes : List ℕ) → Entry
-  elsewhere : (text : List ℕ) → Entry
-  refusal : (code : ℕ) → Entry
+pub data StoreEntry : Type 0 where
+  file : (bytes : List ℕ) → StoreEntry
+  elsewhere : (text : List ℕ) → StoreEntry
+  refusal : (code : ℕ) → StoreEntry
 
 -- a response is that of an entry
-pub data IsOfEntry : Response → Entry → Type 0 where
+pub data IsOfEntry : Response → StoreEntry → Type 0 where
   of_file : (bytes : List ℕ) → IsOfEntry (response body bytes) (file bytes)
   of_move : (text given : List ℕ) → IsOfEntry (response (moved text) given) (elsewhere text)
   of_refusal : (code : ℕ) (given : List ℕ) → IsOfEntry (response (status code) given) (refusal code)
@@ -25,14 +25,14 @@ pub record CarriesStream (stream : List ℕ) (isn : ℕ) (calls : List TcpCall) 
   pub carried : Carry stream isn (asking []) calls
 
 -- A server is honest to a connection: one stream is carried, whose response is that of the entry.
-pub record ServesEntry (entry : Entry) (isn : ℕ) (calls : List TcpCall) : Type 0 where
+pub record ServesEntry (entry : StoreEntry) (isn : ℕ) (calls : List TcpCall) : Type 0 where
   pub stream : List ℕ
   pub carries : CarriesStream stream isn calls
   pub serves : IsOfEntry (response_read stream true) entry
 
 -- Of an honest server a response that is decided is that of its entry.
 abbrev pub HonestResponsesAreTheirs : Type 0
-HonestResponsesAreTheirs = (entry : Entry) (isn : ℕ) (calls : List TcpCall) → ServesEntry entry isn calls
+HonestResponsesAreTheirs = (entry : StoreEntry) (isn : ℕ) (calls : List TcpCall) → ServesEntry entry isn calls
     → (response_come isn calls).verdict ≢ more → IsOfEntry (response_come isn calls) entry
 
 -- What has come decided from an honest server of a file is its body, byte for byte.

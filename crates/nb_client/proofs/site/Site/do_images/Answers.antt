@@ -3,7 +3,7 @@ use Rattle.std.specs.Option.{option_copied}
 use Rattle.nb_image.specs.Images.{ImageList}
 use Rattle.nb_machine.specs.Effects.{Surroundings, concludes_at_once, images_effect}
 use Rattle.nb_runner.specs.ImageDeeds.{IsConcludedWell, MayFollow, conclusion_of, image_deed_effect}
-use Rattle.nb_runner.specs.Intents.{MayAsk, intent_effect}
+use Rattle.nb_runner.specs.Intents.{IsAskable, intent_effect}
 use Rattle.nb_runner.specs.World.{surroundings_in, world_with_images}
 use Rattle.nb_runner.specs.declared.images.ImageDeed.{ImageDeed}
 use Rattle.nb_runner.specs.declared.world.World.{World}
@@ -28,7 +28,7 @@ intend-requires-clause-may c =
     let now = c.args.self.now in
     let next = c.do_images.new.self in
     let well = deed_intends c.in_ok-deed.deed c.in-Intends.intent _ now.world.opens now.world.state.images next.state.images c.in-Intends.is c.in_ok-deed.ensures.well in
-    subst (λ (w : World). MayAsk w.opens c.in-Intends.intent) (sym c.in_ok-deed.ensures.after) well.0
+    subst (λ (w : World). IsAskable w.opens c.in-Intends.intent) (sym c.in_ok-deed.ensures.after) well.0
 
 pub returns-in-Intends-clause-moves : goal.returns-in-Intends-clause-moves
 returns-in-Intends-clause-moves c =

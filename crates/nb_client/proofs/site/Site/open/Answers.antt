@@ -7,7 +7,7 @@ use Rattle.nb_open.specs.Begins.{waiting_pieces}
 use Rattle.nb_runner.specs.World.{with_ended_open}
 use Rattle.nb_runner.specs.declared.world.World.{World}
 use Rattle.nb_client.specs.Asked.{beside_kind, live_asked}
-use Rattle.nb_client.specs.Beginnings.{BeginsBy, LetsGo, asked_kind}
+use Rattle.nb_client.specs.Beginnings.{BeginsNext, DropsWaiting, asked_kind}
 use Rattle.nb_client.specs.Openings.{Opened}
 use Rattle.nb_client.specs.Snapshots.{state_of_world}
 use Rattle.nb_client.specs.Soundness.{IsBacked, snapshot_at}
@@ -35,7 +35,7 @@ returns-in-None c =
     let held = c.in_ok-pending.ensures in
     let second : c.get-2.result.now.asked ≡ asked = ap (λ (p : Pending). p.asked) (c.get-2.ensures ∙ held) in
     let third : c.get-3.result.now.asked ≡ asked = ap (λ (p : Pending). p.asked) (c.get-3.ensures ∙ held) in
-    let b : BeginsBy o (beside_kind asked) c.args.waits now begun made = subst (λ a. BeginsBy o (beside_kind a) c.args.waits now begun made) third c.in_ok-made.ensures.begins in
+    let b : BeginsNext o (beside_kind asked) c.args.waits now begun made = subst (λ a. BeginsNext o (beside_kind a) c.args.waits now begun made) third c.in_ok-made.ensures.begins in
     let is : IsOpeningFor asked o w = record {
       live = λ live. c.opening_of-opening.ensures.live live ∙ ap (live_asked (state_of_world w live)) second;
       kind = c.opening_of-opening.ensures.kind ∙ ap asked_kind second;
@@ -65,7 +65,7 @@ returns-in-Some c =
     let first = ap (λ (p : Pending). p.asked) (c.get.ensures ∙ held) in
     let second : c.get-2.result.now.asked ≡ asked = ap (λ (p : Pending). p.asked) (c.get-2.ensures ∙ held) in
     let third : c.get-3.result.now.asked ≡ asked = ap (λ (p : Pending). p.asked) (c.get-3.ensures ∙ held) in
-    let b : BeginsBy o (beside_kind asked) c.args.waits now begun made = subst (λ a. BeginsBy o (beside_kind a) c.args.waits now begun made) third c.in_ok-made.ensures.begins in
+    let b : BeginsNext o (beside_kind asked) c.args.waits now begun made = subst (λ a. BeginsNext o (beside_kind a) c.args.waits now begun made) third c.in_ok-made.ensures.begins in
     let is : IsOpeningFor asked o w = record {
       live = λ live. c.opening_of-opening.ensures.live live ∙ ap (live_asked (state_of_world w live)) second;
       kind = c.opening_of-opening.ensures.kind ∙ ap asked_kind second;
@@ -76,9 +76,9 @@ returns-in-Some c =
     let new = c.turn_back.new.out in
     if_ok_so {Q = λ st. Opened asked (waiting_pieces (asked_kind asked) c.args.waits) shown script now (snapshot_at after st) c.args.out.now new} c.turn_back.result
     (λ used world lets st there.
-    let kept : LetsGo (beside_kind asked) made.waits (w.opens + 1) begun after (result cause ∷ []) c.put_opened.new.log new =
-    subst (λ (v : World). LetsGo (beside_kind asked) made.waits (v.opens + 1) begun after (result cause ∷ []) c.put_opened.new.log new) b.world
-    (subst (λ k. LetsGo k made.waits (begun.world.opens + 1) begun after (result cause ∷ []) c.put_opened.new.log new) (c.kind_beside-kind.ensures ∙ ap beside_kind first) lets) in
+    let kept : DropsWaiting (beside_kind asked) made.waits (w.opens + 1) begun after (result cause ∷ []) c.put_opened.new.log new =
+    subst (λ (v : World). DropsWaiting (beside_kind asked) made.waits (v.opens + 1) begun after (result cause ∷ []) c.put_opened.new.log new) b.world
+    (subst (λ k. DropsWaiting k made.waits (begun.world.opens + 1) begun after (result cause ∷ []) c.put_opened.new.log new) (c.kind_beside-kind.ensures ∙ ap beside_kind first) lets) in
     subst (λ x. Opened asked (waiting_pieces (asked_kind asked) c.args.waits) shown script now x c.args.out.now new)
     (sym (same_snapshot _ _ (used ∙ b.used) (world ∙ ap with_ended_open b.world) refl (there ∙ ap (λ (s : Running). stage.Running (with_result s cause)) c.entered-script.ensures)))
     (opened_back asked o c.args.waits made.waits shown script now begun after cause c.requires.sound is b.world (has_begun asked o c.args.waits now begun made (Some cause) c.in-Some.is b) puts kept))

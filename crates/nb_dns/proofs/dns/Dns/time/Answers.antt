@@ -4,7 +4,7 @@ use Rattle.nb_dns.specs.LookupStands.{LookupStands}
 use Rattle.nb_dns.proofs.StandsLemmas.{clock_stands}
 use Rattle.nb_dns.proofs.SimpleLemmas.{clock_simple}
 use Rattle.nb_terms.specs.declared.acts.Acts.{Acts}
-use Rattle.nb_dns.specs.Lookups.{AsksSimply}
+use Rattle.nb_dns.specs.Lookups.{AsksOneQuery}
 use Rattle.nb_dns.proofs.dns.Dns.time.Goals as goal
 
 pub returns-clause-stands : goal.returns-clause-stands
@@ -14,4 +14,4 @@ returns-clause-stands c = λ l start h stands going.
 
 pub returns-clause-simple : goal.returns-clause-simple
 returns-clause-simple c =
-    subst (λ (acts : Acts). AsksSimply acts) (sym c.clock.ensures.acts) (clock_simple c.self.inside.state c.args.now)
+    subst (λ (acts : Acts). AsksOneQuery acts) (sym c.clock.ensures.acts) (clock_simple c.self.inside.state c.args.now)

@@ -1,6 +1,6 @@
 use Rattle.std.proofs.Common.{◌≡◌, ◌==◌, ◌&&◌, true, false, List, ◌∙◌, ap, sym}
 use Rattle.std.proofs.lemmas.Bool.{ne_eqb, false≢true}
-use Rattle.nb_disk.specs.Histories.{Opened, DiskCall}
+use Rattle.nb_disk.specs.Histories.{SessionNumbers, DiskCall}
 use Rattle.nb_graph.specs.Trace.{said, down}
 use Rattle.nb_conns.proofs.DialogueLemmas.{nothing_said}
 use Rattle.nb_drivenodes.specs.UnitTalks.{UnitTalk, IsUnitAt, is_quiet_unit, takes_blocks, stage_is_working}
@@ -12,7 +12,7 @@ use Rattle.nb_drivenodes.proofs.logical_unit.LogicalUnit.ask.Goals as goal
 pub returns-then-msg-from-clause-leads : goal.returns-then-msg-from-clause-leads
 returns-then-msg-from-clause-leads g c = λ now.
     let m = said c.args.msg.now in
-    let none : (d : UnitTalk) → IsUnitAt c.args.self.now.stage d → ((o : Opened) (calls : List DiskCall) → ((m.tag == 13) && takes_blocks o calls m.a m.b) ≡ false) → is_quiet_unit d (down m now true c.args.fx.now) ≡ true =
+    let none : (d : UnitTalk) → IsUnitAt c.args.self.now.stage d → ((o : SessionNumbers) (calls : List DiskCall) → ((m.tag == 13) && takes_blocks o calls m.a m.b) ≡ false) → is_quiet_unit d (down m now true c.args.fx.now) ≡ true =
     λ d at off. quiet-down-unit c.args.self.now.stage m now c.args.fx.now d (λ e. absurd (false≢true (sym (ap stage_is_working e) ∙ c.requires.works))) (λ kk x o calls e st on. off o calls) at in
     let idle = nothing_said c.args.fx.now c.requires.nothing in
     elim c.then-msg-from.branch [

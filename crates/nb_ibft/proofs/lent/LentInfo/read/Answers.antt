@@ -1,7 +1,7 @@
 use Rattle.std.proofs.Common.{◌≡◌, ℕ, ◌<◌, ◌≤◌, ◌^◌, List, ◌++◌, length, slice_index, refl, ap, ◌∙◌, arith}
 use Rattle.std.proofs.lemmas.List.{length-append}
 use Rattle.nb_wire.proofs.BytesLaws.{splits_of}
-use Rattle.nb_ibft.specs.Infos.{Info, IsShort}
+use Rattle.nb_ibft.specs.Infos.{Info, IsShortText}
 use Rattle.nb_ibft.specs.Tables.{header_text, control_text, initiator_text, addresses_text, host_text, texts_text, texts_place, host_place, disks_place, total_length}
 use Rattle.nb_ibft.specs.Places.{slots}
 use Rattle.nb_ibft.proofs.FieldLemmas.{part_cut, address_read}
@@ -12,10 +12,10 @@ use Rattle.nb_ibft.proofs.lent.LentInfo.read.Goals as goal
 place_fits : (i : Info) → length i.targets ≤ 2 → texts_place i < 2 ^ 16
 place_fits i few = omega (arith, few)
 
-host_fits : (i : Info) → length i.targets ≤ 2 → IsShort i.initiator → host_place i < 2 ^ 16
+host_fits : (i : Info) → length i.targets ≤ 2 → IsShortText i.initiator → host_place i < 2 ^ 16
 host_fits i few short = omega (arith, few, kept_short i.initiator short)
 
-disks_fit : (i : Info) → length i.targets ≤ 2 → IsShort i.initiator → IsShort i.host → disks_place i ≤ 2578
+disks_fit : (i : Info) → length i.targets ≤ 2 → IsShortText i.initiator → IsShortText i.host → disks_place i ≤ 2578
 disks_fit i few short host = omega (arith, few, kept_short i.initiator short, kept_short i.host host)
 
 -- bytes that begin with six have six

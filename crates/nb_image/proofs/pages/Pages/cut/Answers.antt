@@ -2,7 +2,7 @@ use Rattle.std.proofs.Common.{◌≡◌, ◌+◌, ◌-◌, ◌*◌, ◌≤◌, �
 use Rattle.std.specs.List.{concat}
 use Rattle.std.proofs.lemmas.List.{length_push}
 use Rattle.std.proofs.lemmas.List.Elements.{All-pop}
-use Rattle.nb_image.specs.Pages.{IsFull, all_bytes}
+use Rattle.nb_image.specs.Pages.{IsFullPage, all_bytes}
 use Rattle.nb_image.proofs.PagesLemmas.{length_all, length_full, length_pages, popped, cut_is}
 use Rattle.nb_image.proofs.pages.Pages.cut.Goals as goal
 
@@ -14,7 +14,7 @@ loop-self-preserved-in-Some c =
     let page = c.in-Some.page in
     let items : was.full.items ≡ pages ++ page ∷ [] = c.in-Some.ensures.items in
     let same : c.into_vec.result.items ≡ page = c.into_vec.ensures in
-    let full = All-pop IsFull was.full.items pages (Some page) items inv.0.full in
+    let full = All-pop IsFullPage was.full.items pages (Some page) items inv.0.full in
     let len : length c.into_vec.result.items ≡ 65536 = ap length same ∙ full.1 in
     let more : length was.full.items ≡ length pages + 1 = ap length items ∙ length_push pages page in
     let within : c.args.len ≤ length (concat pages ++ page) = omega (arith, length_pages pages page full.0, full.1, more, was.full.ok.0) in (

@@ -1,5 +1,5 @@
 use Rattle.std.proofs.Common.{◌≡◌, ◌∙◌, List, ℕ, Some, true, refl, ap, sym, subst}
-use Rattle.nb_iscsipdu.specs.Streams.{IsGathered, is_whole, pdu_of}
+use Rattle.nb_iscsipdu.specs.Streams.{IsGatheredPdu, is_whole, pdu_of}
 use Rattle.nb_iscsipdu.proofs.StreamLemmas.{whole-reads}
 use Rattle.nb_iscsipdu.proofs.pdus.Pdus.pdu.Goals as goal
 
@@ -9,5 +9,5 @@ returns-then-is_whole c =
     let same : bytes ≡ c.args.self.now = cc in
     let on : is_whole c.args.self.now ≡ true = cc in
     let whole : is_whole bytes ≡ true = ap is_whole same ∙ on in
-    let gathered : IsGathered bytes = subst IsGathered (sym c.as_slice.ensures.value) c.self.invariant.1 in
+    let gathered : IsGatheredPdu bytes = subst IsGatheredPdu (sym c.as_slice.ensures.value) c.self.invariant.1 in
     c.read.ensures.complete (pdu_of bytes) (whole-reads bytes gathered whole) ∙ ap (λ (x : List ℕ). Some (pdu_of x)) same ∙ rw on refl

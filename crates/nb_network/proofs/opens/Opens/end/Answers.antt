@@ -7,7 +7,7 @@ use Rattle.nb_stack.specs.Bound.{without}
 use Rattle.nb_teller.specs.Spelling.{Spelling}
 use Rattle.nb_open.specs.declared.open.Open.{Open}
 use Rattle.nb_network.specs.Many.{Many}
-use Rattle.nb_network.specs.Steps.{Settles, answer_for, step_records}
+use Rattle.nb_network.specs.Steps.{EndIsSettled, answer_for, step_records}
 use Rattle.nb_network.proofs.Places.{open_at, removed_at}
 use Rattle.nb_network.proofs.opens.Opens.end.Goals as goal
 
@@ -20,7 +20,7 @@ returns-clause-settles c = λ o at.
     let end = out_texts (ended x.speaker.number c.args.ended.cause ∷ []) in
     let v : c.self.inside.list.items ≡ list = ap (λ (m : Many). m.list) c.self.view_is in
     let same : x ≡ o = c.index.ensures ∙ ap (λ os. get_or os c.args.place x) v ∙ open_at list c.args.place x o at in
-    subst (λ (x : Open). Settles (Some c.args.ended) at.before x at.behind c.args.net.now c.args.begun c.args.awaited c.args.desk.now.told.value c.remove.new.self.items c.unbind.new.self c.in_ok-answer.answer c.args.log.now c.put_over.new.log) same (
+    subst (λ (x : Open). EndIsSettled (Some c.args.ended) at.before x at.behind c.args.net.now c.args.begun c.args.awaited c.args.desk.now.told.value c.remove.new.self.items c.unbind.new.self c.in_ok-answer.answer c.args.log.now c.put_over.new.log) same (
       c.remove.ensures.items ∙ ap (λ os. remove os c.args.place) v ∙ removed_at list c.args.place o at,
       c.unbind.ensures ∙ ap (λ p. record c.args.net.now { ports = without p x.speaker.own_port c.args.net.now.ports }) c.number.ensures,
       c.in_ok-answer.ensures ∙ ap (λ (s : Spelling). answer_for c.args.awaited x.speaker.number c.args.ended s) c.deref.ensures,

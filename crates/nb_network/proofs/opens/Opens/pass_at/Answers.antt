@@ -9,7 +9,7 @@ use Rattle.nb_open.specs.declared.open.Open.{Open}
 use Rattle.nb_open.specs.Exchanges.{Exchanges}
 use Rattle.nb_open.specs.Open.{IsOpenOf}
 use Rattle.nb_network.specs.Many.{Many}
-use Rattle.nb_network.specs.Steps.{StandsAt}
+use Rattle.nb_network.specs.Steps.{IsOpenAt}
 use Rattle.nb_network.proofs.Places.{open_at}
 use Rattle.nb_network.proofs.opens.Opens.pass_at.Goals as goal
 
@@ -22,7 +22,7 @@ returns-clause-comes c = (
       let x = c.index.result.now in
       let v : c.self.inside.list.items ≡ list = ap (λ (m : Many). m.list) c.self.view_is in
       let same : x ≡ o = c.index.ensures ∙ ap (λ os. get_or os c.args.place x) v ∙ open_at list c.args.place x o at in
-      let there : StandsAt c.self.inside.list.items c.args.place o = record { before = at.before; behind = at.behind; all = v ∙ at.all; place_is = at.place_is } in
+      let there : IsOpenAt c.self.inside.list.items c.args.place o = record { before = at.before; behind = at.behind; all = v ∙ at.all; place_is = at.place_is } in
       record {
         told = c.in_ok-ended.desk.told.value;
         does = subst (λ (h : Objects Obj). (l : Live) → IsOpenOf c.args.self.now.graph o l → Unit {0} → Exchanges o l (time c.args.now) c.args.net.now (Some Time) c.args.self.now.graph h c.in_ok-ended.desk.told.value c.in_ok-ended.ended) (sym c.settle.ensures.graph)

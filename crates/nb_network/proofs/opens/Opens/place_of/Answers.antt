@@ -1,14 +1,14 @@
 use Rattle.std.proofs.Common.{◌≡◌, ℕ, ◌+◌, ◌<◌, get_or, length, sym, ◌∙◌, subst, ap, arith}
 use Rattle.nb_open.specs.declared.open.Open.{Open}
 use Rattle.nb_network.specs.Many.{Many}
-use Rattle.nb_network.specs.Steps.{StandsAt}
+use Rattle.nb_network.specs.Steps.{IsOpenAt}
 use Rattle.nb_network.proofs.Places.{found_at, none_has, not_here}
 use Rattle.nb_network.proofs.opens.Opens.place_of.Goals as goal
 
 pub returns-then-from-number-clause-found : goal.returns-then-from-number-clause-found
 returns-then-from-number-clause-found c =
     let e : c.deref-open-items.result.now ≡ c.args.self.now.list = c.deref-open-items.ensures.value ∙ ap (λ (m : Many). m.list) c.self.view_is in
-    subst (λ os. (o : Open) × StandsAt os c.loop-place.place o × (o.speaker.number ≡ c.args.number)) e
+    subst (λ os. (o : Open) × IsOpenAt os c.loop-place.place o × (o.speaker.number ≡ c.args.number)) e
     (found_at c.deref-open-items.result.now c.loop-place.place _ c.args.number c.loop-place-test.true (sym c.if-from-number.true ∙ c.from.ensures))
 
 pub loop-place-preserved : goal.loop-place-preserved

@@ -1,7 +1,7 @@
 use Rattle.std.proofs.Common.{subst, sym}
 use Rattle.nb_terms.specs.declared.acts.Acts.{Acts}
 use Rattle.nb_ping.specs.declared.state.State.{State}
-use Rattle.nb_ping.specs.Pings.{AsksSimply}
+use Rattle.nb_ping.specs.Pings.{AsksOneEcho}
 use Rattle.nb_ping.specs.PingCalls.{echo_reply}
 use Rattle.nb_ping.specs.PingStands.{PingStands}
 use Rattle.nb_ping.proofs.PingStandsLemmas.{echo_stands, echo_over}
@@ -19,4 +19,4 @@ returns-clause-ended c = λ p start h stands ended.
     (subst (λ (x : State). PingStands p start x h) (sym c.self.view_is) stands) ended
 
 pub returns-clause-simple : goal.returns-clause-simple
-returns-clause-simple c = subst (λ (acts : Acts). AsksSimply acts) (sym c.reply.ensures.acts) (echo_simple c.self.inside.state (echo_reply c.args.src c.args.ident))
+returns-clause-simple c = subst (λ (acts : Acts). AsksOneEcho acts) (sym c.reply.ensures.acts) (echo_simple c.self.inside.state (echo_reply c.args.src c.args.ident))

@@ -1,7 +1,7 @@
 use Rattle.std.proofs.Common.{subst, sym}
 use Rattle.nb_terms.specs.declared.acts.Acts.{Acts}
 use Rattle.nb_ping.specs.declared.state.State.{State}
-use Rattle.nb_ping.specs.Pings.{AsksSimply}
+use Rattle.nb_ping.specs.Pings.{AsksOneEcho}
 use Rattle.nb_ping.specs.PingStands.{PingStands}
 use Rattle.nb_ping.proofs.PingStandsLemmas.{clock_stands}
 use Rattle.nb_ping.proofs.PingSimpleLemmas.{clock_simple}
@@ -13,4 +13,4 @@ returns-clause-stands c = λ p start h stands going.
     (subst (λ (x : State). PingStands p start x h) (sym c.self.view_is) stands) going
 
 pub returns-clause-simple : goal.returns-clause-simple
-returns-clause-simple c = subst (λ (acts : Acts). AsksSimply acts) (sym c.clock.ensures.acts) (clock_simple c.self.inside.state c.args.now)
+returns-clause-simple c = subst (λ (acts : Acts). AsksOneEcho acts) (sym c.clock.ensures.acts) (clock_simple c.self.inside.state c.args.now)
