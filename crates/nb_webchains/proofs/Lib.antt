@@ -1,0 +1,12 @@
+pub mod Lists
+pub mod Ports
+pub mod Plugging
+pub mod Making
+pub mod FirstCloses
+pub mod WebDoes
+pub mod WebCloses
+pub mod Collecting
+pub mod Loosening
+pub mod Releasing
+pub mod Shutting
+pub mod Opened

@@ -1,0 +1,122 @@
+-- A call on the three is one on the graph of these alone, and ends all of them or none.
+use Rattle.std.proofs.Common.{◌≡◌, ℕ, true, List, [], ◌∷◌, ◌++◌, Some, None, ◌∙◌, subst}
+use Rattle.std.specs.List.{AllByRecursion}
+use Rattle.nb_ledger.specs.Flat.{Heard, Notice, all}
+use Rattle.nb_ledger.specs.Ledger.{port, rank}
+use Rattle.nb_graph.specs.Deeds.{Deed, writes, begins, calls, turns, Offers, Stage, Ticks, events_of, told_of}
+use Rattle.nb_graph.specs.Noded.{AreNoded}
+use Rattle.nb_graph.specs.Trace.{Said}
+use Rattle.nb_graph.specs.Went.{WentOne, all_of}
+use Rattle.nb_graph.specs.Whole.{IsLinked, Objects, node_at, port_at}
+use Rattle.nb_graph.proofs.MarkLemmas.{BeginsNone, mark_stays}
+use Rattle.nb_frames.specs.Frames.{IsOwnCall, is_one_of}
+use Rattle.nb_frames.specs.Within.{ArePlain, AreStagesWithin}
+use Rattle.nb_frames.proofs.FrameLemmas.{deeds_within}
+use Rattle.nb_frames.proofs.WithinLemmas.{IsDeedWithin}
+use Rattle.nb_nodes.specs.declared.load.Load.{Load}
+use Rattle.nb_nodes.specs.declared.obj.Obj.{Obj}
+use Rattle.nb_nodes.specs.Objects.{obj_nature, rank_of_obj}
+use Rattle.nb_nodes.specs.Standing.{ObjStands}
+use Rattle.nb_opens.specs.Marks.{IsOfKind}
+use Rattle.nb_opens.specs.Notices.{first_close}
+use Rattle.nb_opens.proofs.QuietLemmas.{AreQuiet}
+use Rattle.nb_chains.specs.Chains.{AreChained}
+use Rattle.nb_chains.proofs.ChainCalls.{ChainCalled, chain_call, own_call}
+use Rattle.nb_chains.proofs.GivingLemmas.{known_notices}
+use Rattle.nb_closings.specs.Chained.{IsArrival, goes_through, offers_it, shuts_through, ticks_it}
+use Rattle.nb_closings.proofs.Joining.{first_in, later_in}
+use Rattle.nb_closings.proofs.Whole.{chains_end_whole}
+use Rattle.nb_webchains.specs.declared.web_chain.WebChain.{WebChain}
+use Rattle.nb_webchains.specs.WebCalls.{ComesOfWeb, DoesWeb, goes_on, has_closed}
+use Rattle.nb_webchains.specs.WebChains.{AreOfWeb, IsOpenWeb, web_ids}
+use Rattle.nb_webchains.proofs.FirstCloses.{none_closed, some_closed}
+
+-- each of the three is one of them
+pub fetch_in : (c : WebChain) → is_one_of (web_ids c) c.fetch.0 ≡ true
+fetch_in c = first_in c.fetch.0 (c.web.0 ∷ c.conn.0 ∷ [])
+
+pub web_in : (c : WebChain) → is_one_of (web_ids c) c.web.0 ≡ true
+web_in c = later_in c.fetch.0 (c.web.0 ∷ c.conn.0 ∷ []) c.web.0 (first_in c.web.0 (c.conn.0 ∷ []))
+
+pub conn_in : (c : WebChain) → is_one_of (web_ids c) c.conn.0 ≡ true
+conn_in c = later_in c.fetch.0 (c.web.0 ∷ c.conn.0 ∷ []) c.conn.0 (later_in c.web.0 (c.conn.0 ∷ []) c.conn.0 (first_in c.conn.0 []))
+
+-- no object begins among deeds of some that make none
+begins_none : {N L : Type 0} (ids : List ℕ) (x : ℕ) (ds : List (Deed N L)) → AllByRecursion (IsDeedWithin (is_one_of ids)) ds → BeginsNone x ds
+begins_none ids x [] h = tt
+begins_none ids x (writes e ∷ ds) h = begins_none ids x ds h.1
+begins_none ids x (begins y n ∷ ds) h = absurd h.0
+begins_none ids x (calls y e ∷ ds) h = begins_none ids x ds h.1
+begins_none ids x (turns u ∷ ds) h = begins_none ids x ds h.1
+
+module _ (c : WebChain) (now : ℕ) (asks : List (Stage Obj Load)) (g h : Objects Obj) (m n : Heard) (chained : AreChained g (web_ids c)) (within : AreStagesWithin (is_one_of (web_ids c)) asks)
+    (plain : ArePlain asks) (quiet : AreQuiet g.book.made asks) (before : AreNoded rank_of_obj g) (after : AreNoded rank_of_obj h) (k : WentOne ObjStands obj_nature now asks g h m n) where
+  pub called : ChainCalled (web_ids c) now asks g h m n
+  called = chain_call (web_ids c) now asks g h m n chained within plain quiet before after k
+
+  pub its_own : IsOwnCall (web_ids c) asks g h (all_of k.deeds)
+  its_own = own_call (web_ids c) now asks g h m n chained within plain quiet k
+
+  mark_kept : (x mark : ℕ) → IsOfKind g x mark → IsOfKind h x mark
+  mark_kept x mark was =
+      let w = deeds_within obj_nature ObjStands now asks g h m n (is_one_of (web_ids c)) within chained.links k its_own.makes in
+      mark_stays obj_nature ObjStands (node_at g) (node_at h) x mark (all_of k.deeds) (begins_none (web_ids c) x (all_of k.deeds) w.0) k.hosts was
+
+  -- they are what they were
+  pub kinds_kept : AreOfWeb c g → AreOfWeb c h
+  kinds_kept are = record {
+    fetch_rank = (k.ages.kept c.fetch.0 (chained.given c.fetch.0 (fetch_in c)) (its_own.stays c.fetch.0 (fetch_in c))).1 ∙ are.fetch_rank;
+    fetch = mark_kept c.fetch.0 0 are.fetch;
+    web = mark_kept c.web.0 2 are.web;
+    conn = mark_kept c.conn.0 3 are.conn;
+  }
+
+-- the same call, of which the outside knows all
+module _ (c : WebChain) (now : ℕ) (asks : List (Stage Obj Load)) (g h : Objects Obj) (m n : Heard) (chained : AreChained g (web_ids c)) (within : AreStagesWithin (is_one_of (web_ids c)) asks)
+    (plain : ArePlain asks) (quiet : AreQuiet g.book.made asks) (z : ChainCalled (web_ids c) now asks g h m n) (links : IsLinked (port g.book) (rank g.book)) (arrives : IsArrival asks) where
+  known : WentOne ObjStands obj_nature now asks g h (all []) (all z.ns)
+  known = z.whole []
+
+  told : told_of (all_of known.deeds) ≡ z.ns
+  told = known_notices z.ns (told_of (all_of known.deeds)) known.tells
+
+  pub comes_so : IsOpenWeb c g → ComesOfWeb c h z.ns
+  comes_so o =
+      elim (chains_end_whole (web_ids c) now asks g h (all []) (all z.ns) links known (own_call (web_ids c) now asks g h (all []) (all z.ns) chained within plain quiet known) arrives o.through) [
+        | goes_through e t ↦ goes_on (subst (λ xs. first_close xs ≡ None) told (none_closed (all_of known.deeds) e)) (record { order = o.order; through = t })
+        | shuts_through e t ↦ let i = some_closed (all_of known.deeds) e in has_closed i.0 (subst (λ xs. first_close xs ≡ Some i.0) told i.1) (record { order = o.order; through = t })
+      ]
+
+-- what a message or a time does to them
+module _ (c : WebChain) (now : ℕ) (asks : List (Stage Obj Load)) (g h : Objects Obj) (m n : Heard) (chained : AreChained g (web_ids c)) (within : AreStagesWithin (is_one_of (web_ids c)) asks)
+    (plain : ArePlain asks) (quiet : AreQuiet g.book.made asks) (before : AreNoded rank_of_obj g) (after : AreNoded rank_of_obj h) (links : IsLinked (port g.book) (rank g.book)) (arrives : IsArrival asks) (k : WentOne ObjStands obj_nature now asks g h m n) where
+  pub does_web : DoesWeb c now asks g h m n
+  does_web =
+      let z = called c now asks g h m n chained within plain quiet before after k in
+      record {
+        ns = z.ns;
+        gives = z.gives;
+        own = z.alone;
+        comes = comes_so c now asks g h m n chained within plain quiet z links arrives;
+        kinds = kinds_kept c now asks g h m n chained within plain quiet before after k;
+      }
+
+module _ (c : WebChain) (now : ℕ) (g h : Objects Obj) (m n : Heard) (chained : AreChained g (web_ids c)) (before : AreNoded rank_of_obj g) (after : AreNoded rank_of_obj h) where
+  pub offered_top : (w : Said) → WentOne ObjStands obj_nature now (Offers (port_at c.fetch.0 0) w ∷ []) g h m n → ChainCalled (web_ids c) now (Offers (port_at c.fetch.0 0) w ∷ []) g h m n
+  offered_top w k = called c now (Offers (port_at c.fetch.0 0) w ∷ []) g h m n chained (fetch_in c, tt) (tt, tt) (tt, tt) before after k
+
+  pub offered_last : (w : Said) → WentOne ObjStands obj_nature now (Offers (port_at c.conn.0 1) w ∷ []) g h m n → ChainCalled (web_ids c) now (Offers (port_at c.conn.0 1) w ∷ []) g h m n
+  offered_last w k = called c now (Offers (port_at c.conn.0 1) w ∷ []) g h m n chained (conn_in c, tt) (tt, tt) (tt, tt) before after k
+
+  pub ticked_last : WentOne ObjStands obj_nature now (Ticks c.conn.0 ∷ []) g h m n → ChainCalled (web_ids c) now (Ticks c.conn.0 ∷ []) g h m n
+  ticked_last k = called c now (Ticks c.conn.0 ∷ []) g h m n chained (conn_in c, tt) (tt, tt) (tt, tt) before after k
+
+  module _ (links : IsLinked (port g.book) (rank g.book)) where
+    pub does_top : (w : Said) → WentOne ObjStands obj_nature now (Offers (port_at c.fetch.0 0) w ∷ []) g h m n → DoesWeb c now (Offers (port_at c.fetch.0 0) w ∷ []) g h m n
+    does_top w k = does_web c now (Offers (port_at c.fetch.0 0) w ∷ []) g h m n chained (fetch_in c, tt) (tt, tt) (tt, tt) before after links (offers_it (port_at c.fetch.0 0) w) k
+
+    pub does_last : (w : Said) → WentOne ObjStands obj_nature now (Offers (port_at c.conn.0 1) w ∷ []) g h m n → DoesWeb c now (Offers (port_at c.conn.0 1) w ∷ []) g h m n
+    does_last w k = does_web c now (Offers (port_at c.conn.0 1) w ∷ []) g h m n chained (conn_in c, tt) (tt, tt) (tt, tt) before after links (offers_it (port_at c.conn.0 1) w) k
+
+    pub does_tick : WentOne ObjStands obj_nature now (Ticks c.conn.0 ∷ []) g h m n → DoesWeb c now (Ticks c.conn.0 ∷ []) g h m n
+    does_tick k = does_web c now (Ticks c.conn.0 ∷ []) g h m n chained (conn_in c, tt) (tt, tt) (tt, tt) before after links (ticks_it c.conn.0) k
