@@ -133,7 +133,7 @@ module _ (c : WebChain) (order : IsInOrder c) (g a b h : Objects Obj) (m n o p :
 
 -- WHERE ALL ARE SHUT
 
-shut_at : (f : ℕ → ℕ → PortState) (ids : List ℕ) (x : ℕ) → IsShutThrough f ids → is_one_of ids x ≡ true → (f x 0 ≡ port.Closed) × (f x 1 ≡ port.Closed)
+pub shut_at : (f : ℕ → ℕ → PortState) (ids : List ℕ) (x : ℕ) → IsShutThrough f ids → is_one_of ids x ≡ true → (f x 0 ≡ port.Closed) × (f x 1 ≡ port.Closed)
 shut_at f [] x s i = absurd (let z = i in cc)
 shut_at f (y ∷ ys) x s i = elim (one_first y ys x i) [
   | inl e ↦ (ap (λ w. f w 0) e ∙ s.0, ap (λ w. f w 1) e ∙ s.1)

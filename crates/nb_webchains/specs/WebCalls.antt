@@ -22,6 +22,7 @@ use Rattle.nb_opens.specs.Notices.{first_close}
 use Rattle.nb_chains.specs.declared.arrival.Arrival.{Arrival}
 use Rattle.nb_chains.specs.Giving.{CallGives, IsMakeWithin}
 use Rattle.nb_webchains.specs.declared.web_chain.WebChain.{WebChain}
+use Rattle.nb_webchains.specs.Releases.{AreShutWhole}
 use Rattle.nb_webchains.specs.WebChains.{AreOfWeb, AreReleased, IsOpenWeb, IsShutWeb, web_graph, web_ids}
 
 -- no event names another object than these, and none is made
@@ -95,9 +96,14 @@ pub record ReleasesEach (ids : List ℕ) (old new : Objects Obj) (before after :
   pub gives : CallGives (IsEventWithin (is_one_of ids)) old new before after (freed_each ids)
   pub released : AreReleased ids old new
 
--- The run ends: all ports are closed, and they are let go.
+-- The run ends: all ports are closed, and then they are let go.
 pub record ShutsWeb (c : WebChain) (old new : Objects Obj) (cause : Cause) (before after : Heard) : Type 0 where
   pub ns : List Notice
-  pub gives : WebGives c old new before after ns
-  pub released : AreReleased (web_ids c) old new
+  pub mid : Objects Obj
+  pub told : Heard
+  pub gives : WebGives c old mid before told ns
+  pub shut : AreShutWhole (web_ids c) mid
   pub close : first_close ns ≡ Some cause
+  pub lets : ReleasesEach (web_ids c) mid new told after
+  pub all : WebGives c old new before after (ns ++ freed_each (web_ids c))
+  pub released : AreReleased (web_ids c) old new

@@ -3,8 +3,10 @@
 // their own (specs/WebCalls.antt). A Fetch that waits is a chain of nb_chains. Begin with `WebChain`.
 #![tactic(auto)]
 
+mod laws;
 mod making;
 mod plugging;
 mod web_chain;
 
+pub use laws::{other_objects_stay, ready_ones_are_open, what_waits_is_apart};
 pub use web_chain::WebChain;

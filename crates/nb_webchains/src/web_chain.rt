@@ -238,7 +238,7 @@ fn text_of(node: &Obj) -> Option<&[u8]>
 /// Closes the two slots of an object that nothing is plugged to.
 fn close_free<O: Outside>(graph: &mut Graph<Obj>, id: ObjId, cause: &Cause, now: u64, out: &mut O)
     ensures { (ids : List ℕ) → AreChained graph.old ids → is_one_of ids id.0 ≡ true
-        → GoesLoose ids graph.old graph.new (O.events out.old) (O.events out.new) }
+        → GoesLoose ids id.0 graph.old graph.new (O.events out.old) (O.events out.new) }
 {
     graph.has_nodes();
     let first = Port { obj: id, slot: 2 };
