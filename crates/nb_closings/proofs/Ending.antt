@@ -99,7 +99,7 @@ module _ (ids : List ℕ) (Exempt : ℕ → Type 0) (Aim : Port → Type 0) (t :
           plugged = (
             elim (k.joined (port_at y 1) (port_at z 0) down) [ inl e ↦ e | inr h ↦ absurd (is_open h) ],
             elim (k.joined (port_at z 0) (port_at y 1) up) [ inl e ↦ e | inr h ↦ absurd (next_open h) ],
-            rest.plugged
+            rest.plugged,
           );
           going = λ w o. elim (one_first y (z ∷ zs) w o) [ inl e ↦ ap (λ v. has_ended (tr v)) e ∙ going | inr i ↦ rest.going w i ];
         }

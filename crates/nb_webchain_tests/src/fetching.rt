@@ -41,7 +41,11 @@ fn asks(rt: HostRuntime) -> Result<(), Fail> {
 #[test]
 fn brings_a_file(rt: HostRuntime) -> Result<(), Fail> {
     let told: (Row<'_>, Row<'_>) = (
-        (0, PSH + ACK, b"HTTP/1.1 200 OK\r\nContent-Length: 5\r\n\r\nhel"),
+        (
+            0,
+            PSH + ACK,
+            b"HTTP/1.1 200 OK\r\nContent-Length: 5\r\n\r\nhel",
+        ),
         (41, FIN + ACK, b"lo"),
     );
     let untold: (Row<'_>, Row<'_>) = (
@@ -87,7 +91,10 @@ fn is_elsewhere(rt: HostRuntime) -> Result<(), Fail> {
         assert_eq!(rt; *code, 0);
     }
     assert_eq!(rt; tape.closed.len(), 6);
-    assert!(rt; brought(&rt, &mut graph, web)?.is_none(), "a move is no file");
+    assert!(rt;
+        brought(&rt, &mut graph, web)?.is_none(),
+        "a move is no file"
+    );
     Ok(())
 }
 
@@ -97,11 +104,19 @@ fn ends_otherwise(rt: HostRuntime) -> Result<(), Fail> {
     let rows: [(Row<'_>, u8); 3] = [
         ((0, RST, b""), 1),
         (
-            (0, PSH + ACK, b"HTTP/1.1 404 Not Found\r\nContent-Length: 0\r\n\r\n"),
+            (
+                0,
+                PSH + ACK,
+                b"HTTP/1.1 404 Not Found\r\nContent-Length: 0\r\n\r\n",
+            ),
             1,
         ),
         (
-            (0, FIN + ACK, b"HTTP/1.1 200 OK\r\nContent-Length: 5\r\n\r\nhel"),
+            (
+                0,
+                FIN + ACK,
+                b"HTTP/1.1 200 OK\r\nContent-Length: 5\r\n\r\nhel",
+            ),
             3,
         ),
     ];
@@ -113,7 +128,10 @@ fn ends_otherwise(rt: HostRuntime) -> Result<(), Fail> {
         for (_object, code) in tape.closed.as_slice() {
             assert_eq!(rt; *code, expected);
         }
-        assert!(rt; brought(&rt, &mut graph, web)?.is_none(), "nothing was brought");
+        assert!(rt;
+            brought(&rt, &mut graph, web)?.is_none(),
+            "nothing was brought"
+        );
     }
     Ok(())
 }

@@ -14,7 +14,7 @@ plugged_same f h x [] s p = s x 1 (first_in x []) ∙ p
 plugged_same f h x (y ∷ ys) s p = (
   s x 1 (first_in x (y ∷ ys)) ∙ p.0,
   s y 0 (later_in x (y ∷ ys) y (first_in y ys)) ∙ p.1,
-  plugged_same f h y ys (λ v i o. s v i (later_in x (y ∷ ys) v o)) p.2
+  plugged_same f h y ys (λ v i o. s v i (later_in x (y ∷ ys) v o)) p.2,
 )
 
 module _ (f h : ℕ → ℕ → PortState) (z y : ℕ) (top : h z 1 ≡ port.Linked (port_at y 0)) (low : h y 0 ≡ port.Linked (port_at z 1)) (below : h y 1 ≡ port.Open)
@@ -30,5 +30,5 @@ module _ (f h : ℕ → ℕ → PortState) (z y : ℕ) (top : h z 1 ≡ port.Lin
   plugged_down v (w ∷ ws) e far i = (
     same v 1 (far v (first_in v (w ∷ ws))) (not_last v w 1 i.0) ∙ i.0,
     same w 0 (far w (later_in v (w ∷ ws) w (first_in w ws))) (not_one w) ∙ i.1,
-    plugged_down w ws e (λ u o. far u (later_in v (w ∷ ws) u o)) i.2
+    plugged_down w ws e (λ u o. far u (later_in v (w ∷ ws) u o)) i.2,
   )

@@ -48,7 +48,12 @@ fn plug<O: Outside>(graph: &mut Graph<Obj>, upper: Port, lower: Port, out: &mut 
 }
 
 /// Makes an object, and plugs it below the last of some of which nothing was asked.
-pub(crate) fn plug_next<O: Outside>(graph: &mut Graph<Obj>, above: ObjId, node: Obj, out: &mut O) -> ObjId
+pub(crate) fn plug_next<O: Outside>(
+    graph: &mut Graph<Obj>,
+    above: ObjId,
+    node: Obj,
+    out: &mut O,
+) -> ObjId
     requires stands { ObjStands node [] }
     requires given { above.0 ≤ graph.old.book.made }
     requires open { port graph.old.book above.0 1 ≡ state.Open }
