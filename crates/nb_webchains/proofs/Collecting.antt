@@ -17,7 +17,7 @@ use Rattle.nb_nodes.specs.Fetches.{FetchStands, FetchHarvests, closed_well, move
 use Rattle.nb_nodes.specs.Objects.{mark_of_obj, rank_of_obj}
 use Rattle.nb_nodes.specs.Standing.{ObjStands, ObjHarvests}
 use Rattle.nb_opens.specs.Pairs.{body_in}
-use Rattle.nb_chains.specs.Chains.{AreChained, GoesOn}
+use Rattle.nb_chains.specs.Chains.{AreChained, AreStillChained}
 use Rattle.nb_closings.specs.Chained.{IsShutThrough, HaveNoOthers}
 use Rattle.nb_webchains.specs.declared.web_chain.WebChain.{WebChain}
 use Rattle.nb_webchains.specs.WebCalls.{brought, text_of_obj}
@@ -90,7 +90,7 @@ module _ (c : WebChain) (g h : Objects Obj) (same : h.book ≡ g.book) where
     far_node : (y : ℕ) → is_one_of (web_ids c) y ≡ false → node_at h y ≡ node_at g y
     far_node y far = apart y (λ e. false≢true (sym far ∙ (ap (is_one_of (web_ids c)) e ∙ fetch_in c)))
 
-    pub collect_on : GoesOn (web_ids c) g h
+    pub collect_on : AreStillChained (web_ids c) g h
     collect_on = record {
       chained = record {
         given = λ x o. subst (λ (l : Ledger). x ≤ l.made) (sym same) (chained.given x o);

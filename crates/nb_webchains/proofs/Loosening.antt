@@ -18,7 +18,7 @@ use Rattle.nb_nodes.specs.declared.obj.Obj.{Obj}
 use Rattle.nb_nodes.specs.Objects.{obj_nature, rank_of_obj}
 use Rattle.nb_nodes.specs.Standing.{ObjStands}
 use Rattle.nb_opens.proofs.Shutting.{closes_alone}
-use Rattle.nb_chains.specs.Chains.{AreChained, GoesOn}
+use Rattle.nb_chains.specs.Chains.{AreChained, AreStillChained}
 use Rattle.nb_chains.specs.Ends.{LivesUnlinked}
 use Rattle.nb_chains.proofs.ChainCalls.{ChainCalled, chain_call}
 use Rattle.nb_chains.proofs.GivingLemmas.{gives_both}

@@ -10,7 +10,7 @@ use Rattle.nb_frames.specs.Within.{IsEventWithin}
 use Rattle.nb_nodes.specs.declared.obj.Obj.{Obj}
 use Rattle.nb_opens.specs.Notices.{first_close, or_else}
 use Rattle.nb_opens.proofs.CloseLemmas.{first_close-append}
-use Rattle.nb_chains.specs.Chains.{AreChained, GoesOn}
+use Rattle.nb_chains.specs.Chains.{AreChained, AreStillChained}
 use Rattle.nb_chains.proofs.FreshOnes.{sole_is}
 use Rattle.nb_chains.proofs.GivingLemmas.{gives_both}
 use Rattle.nb_chains.proofs.GoingOn.{goes_both, others_both}
@@ -30,7 +30,7 @@ below_or k n = by (nat_lt k n) refl
     by false e = inr (ltb-false k n e)
 
 -- what is released after it went on is released
-released_after : (c : WebChain) (g a h : Objects Obj) → GoesOn (web_ids c) g a → AreReleased (web_ids c) a h → AreReleased (web_ids c) g h
+released_after : (c : WebChain) (g a h : Objects Obj) → AreStillChained (web_ids c) g a → AreReleased (web_ids c) a h → AreReleased (web_ids c) g h
 released_after c g a h on r = record {
   gone = r.gone;
   others = others_both (is_one_of (web_ids c)) g a h on.others r.others;
@@ -64,7 +64,7 @@ module _ (c : WebChain) (a b d e : Objects Obj) (s : IsShutWeb c a) (one : StayL
   pub all_shut : AreShutWhole (web_ids c) e
   all_shut x k o lt = elim (below_or k 2) [ inl low ↦ low_shut x k o low | inr high ↦ high_shut x k o high lt ]
 
-module _ (c : WebChain) (g a b d e h : Objects Obj) (l m n o p q : Heard) (z : Cause) (on : GoesOn (web_ids c) g a) (closes : ClosesWeb c g a z l m) (one : GoesLoose (web_ids c) c.fetch.0 a b m n)
+module _ (c : WebChain) (g a b d e h : Objects Obj) (l m n o p q : Heard) (z : Cause) (on : AreStillChained (web_ids c) g a) (closes : ClosesWeb c g a z l m) (one : GoesLoose (web_ids c) c.fetch.0 a b m n)
     (two : GoesLoose (web_ids c) c.web.0 b d n o) (three : GoesLoose (web_ids c) c.conn.0 d e o p) (lets : IsInOrder c → AreLoose (web_ids c) e → ReleasesEach (web_ids c) e h p q) where
   pub shuts_web : IsOpenWeb c g → ShutsWeb c g h z l q
   shuts_web is =

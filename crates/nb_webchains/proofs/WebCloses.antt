@@ -15,7 +15,7 @@ use Rattle.nb_nodes.specs.Objects.{obj_nature, rank_of_obj}
 use Rattle.nb_nodes.specs.Standing.{ObjStands}
 use Rattle.nb_opens.specs.Notices.{first_close, tells}
 use Rattle.nb_opens.proofs.Shutting.{closes_alone}
-use Rattle.nb_chains.specs.Chains.{AreChained, GoesOn}
+use Rattle.nb_chains.specs.Chains.{AreChained, AreStillChained}
 use Rattle.nb_chains.proofs.ChainCalls.{ChainCalled}
 use Rattle.nb_chains.proofs.GivingLemmas.{gives_both, known_notices}
 use Rattle.nb_chains.proofs.GoingOn.{goes_both}
@@ -33,7 +33,7 @@ module _ (c : WebChain) (g a h : Objects Obj) (m n o : Heard) (now : ℕ) (cause
   two_called : ChainCalled (web_ids c) now (Closes (port_at c.fetch.0 1) cause ∷ []) a h n o
   two_called = called c now (Closes (port_at c.fetch.0 1) cause ∷ []) a h n o one_called.on.chained (fetch_in c, tt) (tt, tt) (tt, tt) mid end two
 
-  pub close_on : GoesOn (web_ids c) g h
+  pub close_on : AreStillChained (web_ids c) g h
   close_on = goes_both (web_ids c) g a h one_called.on two_called.on
 
   abbrev ns : List Notice

@@ -27,6 +27,6 @@ pub record StayLoose (ids : List ℕ) (x : ℕ) (g h : Objects Obj) : Type 0 whe
 -- A call that closes those slots of x, one of these, leaves them so.
 pub record GoesLoose (ids : List ℕ) (x : ℕ) (g h : Objects Obj) (before after : Heard) : Type 0 where
   pub ns : List Notice
-  pub on : GoesOn ids g h
+  pub on : AreStillChained ids g h
   pub gives : CallGives (IsEventWithin (is_one_of ids)) g h before after ns
   pub loose : AreLoose ids g → StayLoose ids x g h
