@@ -22,7 +22,7 @@ use Rattle.nb_closings.specs.Chained.{IsShutThrough, HaveNoOthers}
 use Rattle.nb_webchains.specs.declared.web_chain.WebChain.{WebChain}
 use Rattle.nb_webchains.specs.WebCalls.{brought, text_of_obj}
 use Rattle.nb_webchains.specs.WebChains.{AreOfWeb, IsShutWeb, web_ids}
-use Rattle.nb_webchains.proofs.WebDoes.{fetch_in}
+use Rattle.nb_webchains.proofs.Three.{fetch_in}
 
 -- of a trace that isn't closed well nothing was brought
 none_brought : (t : List (NodeEntry Obj Load)) → false ≡ closed_well t → None ≡ brought t

@@ -3,6 +3,12 @@ pub mod Ports
 pub mod Plugging
 pub mod Making
 pub mod FirstCloses
+pub mod Three
+pub mod Downward
+pub mod EntryDowns
+pub mod OrderSteps
+pub mod EntriesSo
+pub mod WebOrders
 pub mod WebDoes
 pub mod WebCloses
 pub mod Collecting

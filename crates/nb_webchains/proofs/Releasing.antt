@@ -32,7 +32,7 @@ use Rattle.nb_webchains.specs.Releases.{AreLoose}
 use Rattle.nb_webchains.specs.WebCalls.{ReleasesEach, freed_each}
 use Rattle.nb_webchains.specs.WebChains.{AreReleased, IsInOrder, IsShutWeb, web_ids}
 use Rattle.nb_webchains.proofs.Lists.{not_fewer}
-use Rattle.nb_webchains.proofs.WebDoes.{fetch_in}
+use Rattle.nb_webchains.proofs.Three.{fetch_in}
 
 keeps_all : (g : Objects Obj) (y : ℕ) → KeepsObject g g y
 keeps_all g y = record { live = refl; held = refl; ports = λ k. refl; ranked = refl; node = λ n e. e }

@@ -23,7 +23,8 @@ use Rattle.nb_closings.proofs.Whole.{chains_are_shut}
 use Rattle.nb_webchains.specs.declared.web_chain.WebChain.{WebChain}
 use Rattle.nb_webchains.specs.WebCalls.{ClosesWeb}
 use Rattle.nb_webchains.specs.WebChains.{IsOpenWeb, IsShutWeb, web_ids}
-use Rattle.nb_webchains.proofs.WebDoes.{called, fetch_in, its_own, kinds_kept}
+use Rattle.nb_webchains.proofs.Three.{fetch_in}
+use Rattle.nb_webchains.proofs.WebDoes.{called, its_own, kinds_kept}
 
 module _ (c : WebChain) (g a h : Objects Obj) (m n o : Heard) (now : ℕ) (cause : Cause) (chained : AreChained g (web_ids c)) (first : AreNoded rank_of_obj g) (mid : AreNoded rank_of_obj a) (end : AreNoded rank_of_obj h)
     (one : WentOne ObjStands obj_nature now (Closes (port_at c.fetch.0 0) cause ∷ []) g a m n) (two : WentOne ObjStands obj_nature now (Closes (port_at c.fetch.0 1) cause ∷ []) a h n o) where

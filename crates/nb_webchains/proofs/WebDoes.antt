@@ -1,18 +1,19 @@
 -- A call on the three is one on the graph of these alone, and ends all of them or none.
-use Rattle.std.proofs.Common.{◌≡◌, ℕ, true, List, [], ◌∷◌, ◌++◌, Some, None, ◌∙◌, subst}
-use Rattle.std.specs.List.{AllByRecursion}
-use Rattle.nb_ledger.specs.Flat.{Heard, Notice, all}
+use Rattle.std.proofs.Common.{◌≡◌, ℕ, true, List, [], ◌∷◌, ◌++◌, Option, Some, None, ◌∙◌, subst}
+use Rattle.nb_ledger.specs.declared.event.Way.TheVariants as way
+use Rattle.nb_ledger.specs.declared.event.GraphEvent.{GraphEvent}
+use Rattle.nb_ledger.specs.declared.event.GraphEvent.TheVariants.{Entered}
+use Rattle.nb_ledger.specs.Flat.{Heard, all}
 use Rattle.nb_ledger.specs.Ledger.{port, rank}
-use Rattle.nb_graph.specs.Deeds.{Deed, writes, begins, calls, turns, Offers, Stage, Ticks, events_of, told_of}
+use Rattle.nb_graph.specs.Deeds.{Offers, Stage, Ticks, told_of}
 use Rattle.nb_graph.specs.Noded.{AreNoded}
 use Rattle.nb_graph.specs.Trace.{Said}
 use Rattle.nb_graph.specs.Went.{WentOne, all_of}
 use Rattle.nb_graph.specs.Whole.{IsLinked, Objects, node_at, port_at}
-use Rattle.nb_graph.proofs.MarkLemmas.{BeginsNone, mark_stays}
+use Rattle.nb_graph.proofs.MarkLemmas.{mark_stays}
 use Rattle.nb_frames.specs.Frames.{IsOwnCall, is_one_of}
 use Rattle.nb_frames.specs.Within.{ArePlain, AreStagesWithin}
 use Rattle.nb_frames.proofs.FrameLemmas.{deeds_within}
-use Rattle.nb_frames.proofs.WithinLemmas.{IsDeedWithin}
 use Rattle.nb_nodes.specs.declared.load.Load.{Load}
 use Rattle.nb_nodes.specs.declared.obj.Obj.{Obj}
 use Rattle.nb_nodes.specs.Objects.{obj_nature, rank_of_obj}
@@ -24,30 +25,14 @@ use Rattle.nb_chains.specs.Chains.{AreChained}
 use Rattle.nb_chains.proofs.ChainCalls.{ChainCalled, chain_call, own_call}
 use Rattle.nb_chains.proofs.GivingLemmas.{known_notices}
 use Rattle.nb_closings.specs.Chained.{IsArrival, goes_through, offers_it, shuts_through, ticks_it}
-use Rattle.nb_closings.proofs.Joining.{first_in, later_in}
 use Rattle.nb_closings.proofs.Whole.{chains_end_whole}
 use Rattle.nb_webchains.specs.declared.web_chain.WebChain.{WebChain}
-use Rattle.nb_webchains.specs.WebCalls.{ComesOfWeb, DoesWeb, goes_on, has_closed}
+use Rattle.nb_webchains.specs.Orders.{StandInOrder}
+use Rattle.nb_webchains.specs.WebCalls.{AreShort, ComesOfWeb, DoesWeb, goes_on, has_closed}
 use Rattle.nb_webchains.specs.WebChains.{AreOfWeb, IsOpenWeb, web_ids}
 use Rattle.nb_webchains.proofs.FirstCloses.{none_closed, some_closed}
-
--- each of the three is one of them
-pub fetch_in : (c : WebChain) → is_one_of (web_ids c) c.fetch.0 ≡ true
-fetch_in c = first_in c.fetch.0 (c.web.0 ∷ c.conn.0 ∷ [])
-
-pub web_in : (c : WebChain) → is_one_of (web_ids c) c.web.0 ≡ true
-web_in c = later_in c.fetch.0 (c.web.0 ∷ c.conn.0 ∷ []) c.web.0 (first_in c.web.0 (c.conn.0 ∷ []))
-
-pub conn_in : (c : WebChain) → is_one_of (web_ids c) c.conn.0 ≡ true
-conn_in c = later_in c.fetch.0 (c.web.0 ∷ c.conn.0 ∷ []) c.conn.0 (later_in c.web.0 (c.conn.0 ∷ []) c.conn.0 (first_in c.conn.0 []))
-
--- no object begins among deeds of some that make none
-begins_none : {N L : Type 0} (ids : List ℕ) (x : ℕ) (ds : List (Deed N L)) → AllByRecursion (IsDeedWithin (is_one_of ids)) ds → BeginsNone x ds
-begins_none ids x [] h = tt
-begins_none ids x (writes e ∷ ds) h = begins_none ids x ds h.1
-begins_none ids x (begins y n ∷ ds) h = absurd h.0
-begins_none ids x (calls y e ∷ ds) h = begins_none ids x ds h.1
-begins_none ids x (turns u ∷ ds) h = begins_none ids x ds h.1
+use Rattle.nb_webchains.proofs.Three.{begins_none, conn_in, fetch_in, web_in}
+use Rattle.nb_webchains.proofs.WebOrders.{BeginsSo, by_begin, by_segment, by_tick, in_order}
 
 module _ (c : WebChain) (now : ℕ) (asks : List (Stage Obj Load)) (g h : Objects Obj) (m n : Heard) (chained : AreChained g (web_ids c)) (within : AreStagesWithin (is_one_of (web_ids c)) asks)
     (plain : ArePlain asks) (quiet : AreQuiet g.book.made asks) (before : AreNoded rank_of_obj g) (after : AreNoded rank_of_obj h) (k : WentOne ObjStands obj_nature now asks g h m n) where
@@ -88,9 +73,15 @@ module _ (c : WebChain) (now : ℕ) (asks : List (Stage Obj Load)) (g h : Object
       ]
 
 -- what a message or a time does to them
-module _ (c : WebChain) (now : ℕ) (asks : List (Stage Obj Load)) (g h : Objects Obj) (m n : Heard) (chained : AreChained g (web_ids c)) (within : AreStagesWithin (is_one_of (web_ids c)) asks)
-    (plain : ArePlain asks) (quiet : AreQuiet g.book.made asks) (before : AreNoded rank_of_obj g) (after : AreNoded rank_of_obj h) (links : IsLinked (port g.book) (rank g.book)) (arrives : IsArrival asks) (k : WentOne ObjStands obj_nature now asks g h m n) where
-  pub does_web : DoesWeb c now asks g h m n
+module _ (c : WebChain) (now : ℕ) (entry : Option GraphEvent) (asks : List (Stage Obj Load)) (g h : Objects Obj) (m n : Heard) (chained : AreChained g (web_ids c)) (within : AreStagesWithin (is_one_of (web_ids c)) asks)
+    (plain : ArePlain asks) (quiet : AreQuiet g.book.made asks) (before : AreNoded rank_of_obj g) (after : AreNoded rank_of_obj h) (links : IsLinked (port g.book) (rank g.book)) (arrives : IsArrival asks) (begins_so : BeginsSo c entry asks) (k : WentOne ObjStands obj_nature now asks g h m n) where
+  ordered : (z : ChainCalled (web_ids c) now asks g h m n) → IsOpenWeb c g → AreOfWeb c g → AreShort asks → StandInOrder c.conn.0 entry z.ns
+  ordered z o are short =
+      let known = z.whole [] in
+      subst (StandInOrder c.conn.0 entry) (known_notices z.ns (told_of (all_of known.deeds)) known.tells)
+      (in_order c entry asks begins_so short now g h (all []) (all z.ns) chained within links after (kinds_kept c now asks g h m n chained within plain quiet before after k are) known (own_call (web_ids c) now asks g h (all []) (all z.ns) chained within plain quiet known) o)
+
+  pub does_web : DoesWeb c now asks entry g h m n
   does_web =
       let z = called c now asks g h m n chained within plain quiet before after k in
       record {
@@ -98,6 +89,7 @@ module _ (c : WebChain) (now : ℕ) (asks : List (Stage Obj Load)) (g h : Object
         gives = z.gives;
         own = z.alone;
         comes = comes_so c now asks g h m n chained within plain quiet z links arrives;
+        order = ordered z;
         kinds = kinds_kept c now asks g h m n chained within plain quiet before after k;
       }
 
@@ -112,11 +104,11 @@ module _ (c : WebChain) (now : ℕ) (g h : Objects Obj) (m n : Heard) (chained :
   ticked_last k = called c now (Ticks c.conn.0 ∷ []) g h m n chained (conn_in c, tt) (tt, tt) (tt, tt) before after k
 
   module _ (links : IsLinked (port g.book) (rank g.book)) where
-    pub does_top : (w : Said) → WentOne ObjStands obj_nature now (Offers (port_at c.fetch.0 0) w ∷ []) g h m n → DoesWeb c now (Offers (port_at c.fetch.0 0) w ∷ []) g h m n
-    does_top w k = does_web c now (Offers (port_at c.fetch.0 0) w ∷ []) g h m n chained (fetch_in c, tt) (tt, tt) (tt, tt) before after links (offers_it (port_at c.fetch.0 0) w) k
+    pub does_top : (w : Said) → WentOne ObjStands obj_nature now (Offers (port_at c.fetch.0 0) w ∷ []) g h m n → DoesWeb c now (Offers (port_at c.fetch.0 0) w ∷ []) None g h m n
+    does_top w k = does_web c now None (Offers (port_at c.fetch.0 0) w ∷ []) g h m n chained (fetch_in c, tt) (tt, tt) (tt, tt) before after links (offers_it (port_at c.fetch.0 0) w) (by_begin w) k
 
-    pub does_last : (w : Said) → WentOne ObjStands obj_nature now (Offers (port_at c.conn.0 1) w ∷ []) g h m n → DoesWeb c now (Offers (port_at c.conn.0 1) w ∷ []) g h m n
-    does_last w k = does_web c now (Offers (port_at c.conn.0 1) w ∷ []) g h m n chained (conn_in c, tt) (tt, tt) (tt, tt) before after links (offers_it (port_at c.conn.0 1) w) k
+    pub does_last : (w : Said) → WentOne ObjStands obj_nature now (Offers (port_at c.conn.0 1) w ∷ []) g h m n → DoesWeb c now (Offers (port_at c.conn.0 1) w ∷ []) (Some (Entered (port_at c.conn.0 1) way.Up)) g h m n
+    does_last w k = does_web c now (Some (Entered (port_at c.conn.0 1) way.Up)) (Offers (port_at c.conn.0 1) w ∷ []) g h m n chained (conn_in c, tt) (tt, tt) (tt, tt) before after links (offers_it (port_at c.conn.0 1) w) (by_segment w) k
 
-    pub does_tick : WentOne ObjStands obj_nature now (Ticks c.conn.0 ∷ []) g h m n → DoesWeb c now (Ticks c.conn.0 ∷ []) g h m n
-    does_tick k = does_web c now (Ticks c.conn.0 ∷ []) g h m n chained (conn_in c, tt) (tt, tt) (tt, tt) before after links (ticks_it c.conn.0) k
+    pub does_tick : WentOne ObjStands obj_nature now (Ticks c.conn.0 ∷ []) g h m n → DoesWeb c now (Ticks c.conn.0 ∷ []) (Some (Entered (port_at c.conn.0 4) way.Time)) g h m n
+    does_tick k = does_web c now (Some (Entered (port_at c.conn.0 4) way.Time)) (Ticks c.conn.0 ∷ []) g h m n chained (conn_in c, tt) (tt, tt) (tt, tt) before after links (ticks_it c.conn.0) by_tick k

@@ -1,6 +1,6 @@
 -- What each call does to an open by HTTP, and what the outside is given: one list of notices, of which all is said. What the
 -- three do is said of the graph of these objects alone. Our own.
-use Rattle.std.specs.Prelude.{◌≡◌, ℕ, List, [], ◌∷◌, ◌++◌, Option, Some, None, if◌then◌else◌}
+use Rattle.std.specs.Prelude.{◌≡◌, ◌<◌, ◌^◌, ℕ, List, [], ◌∷◌, ◌++◌, length, Option, Some, None, if◌then◌else◌}
 use Rattle.nb_terms.specs.declared.cause.Cause.{Cause}
 use Rattle.nb_conns.specs.declared.stream_tag.StreamTag.TheVariants.{Begin, Segment}
 use Rattle.nb_conns.specs.StreamTags.{stream_tag_number}
@@ -10,6 +10,8 @@ use Rattle.nb_graph.specs.Deeds.{Offers, Stage, Ticks}
 use Rattle.nb_graph.specs.Trace.{NodeEntry, Said}
 use Rattle.nb_graph.specs.Went.{WentOne}
 use Rattle.nb_graph.specs.Whole.{Objects, port_at}
+use Rattle.nb_ledger.specs.declared.event.GraphEvent.{GraphEvent}
+use Rattle.nb_ledger.specs.declared.port.Port.{Port}
 use Rattle.nb_ledger.specs.Flat.{Heard, Notice, all}
 use Rattle.nb_nodes.specs.declared.load.Load.{Load}
 use Rattle.nb_nodes.specs.declared.obj.Obj.{Obj}
@@ -22,6 +24,7 @@ use Rattle.nb_opens.specs.Notices.{first_close}
 use Rattle.nb_chains.specs.declared.arrival.Arrival.{Arrival}
 use Rattle.nb_chains.specs.Giving.{CallGives, IsMakeWithin}
 use Rattle.nb_webchains.specs.declared.web_chain.WebChain.{WebChain}
+use Rattle.nb_webchains.specs.Orders.{StandInOrder}
 use Rattle.nb_webchains.specs.Releases.{AreShutWhole}
 use Rattle.nb_webchains.specs.WebChains.{AreOfWeb, AreReleased, IsOpenWeb, IsShutWeb, web_graph, web_ids}
 
@@ -38,12 +41,19 @@ pub data ComesOfWeb (c : WebChain) (g : Objects Obj) (ns : List Notice) : Type 0
   goes_on : first_close ns ≡ None → IsOpenWeb c g → ComesOfWeb c g ns
   has_closed : (cause : Cause) → first_close ns ≡ Some cause → IsShutWeb c g → ComesOfWeb c g ns
 
--- What a message or a time does: as a graph of their own they do what nb_graph says of this call.
-pub record DoesWeb (c : WebChain) (now : ℕ) (asks : List (Stage Obj Load)) (old new : Objects Obj) (before after : Heard) : Type 0 where
+-- a message whose bytes are fewer than 2^32, or a time
+pub data AreShort : List (Stage Obj Load) → Type 0 where
+  short_message : (p : Port) (m : Said) → length m.bytes < 2 ^ 32 → AreShort (Offers p m ∷ [])
+  any_time : (x : ℕ) → AreShort (Ticks x ∷ [])
+
+-- What a message or a time does: as a graph of their own they do what nb_graph says of this call. Where the connection is entered from
+-- outside, that is its first event, and what goes down stands directly after an entry of it.
+pub record DoesWeb (c : WebChain) (now : ℕ) (asks : List (Stage Obj Load)) (entry : Option GraphEvent) (old new : Objects Obj) (before after : Heard) : Type 0 where
   pub ns : List Notice
   pub gives : WebGives c old new before after ns
   pub own : (front : List Notice) → WentOne ObjStands obj_nature now asks (web_graph c old) (web_graph c new) (all front) (all (front ++ ns))
   pub comes : IsOpenWeb c old → ComesOfWeb c new ns
+  pub order : IsOpenWeb c old → AreOfWeb c old → AreShort asks → StandInOrder c.conn.0 entry ns
   pub kinds : AreOfWeb c old → AreOfWeb c new
 
 -- what is asked for where the user begins it by these bytes, of which so many are the host

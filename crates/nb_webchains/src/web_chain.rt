@@ -1,4 +1,4 @@
-ghost use Rattle.std.specs.Prelude.{◌≡◌, ◌<◌, ◌++◌, [], ◌∷◌, ℕ, List, Option, true};
+ghost use Rattle.std.specs.Prelude.{◌≡◌, ◌<◌, ◌++◌, [], ◌∷◌, ℕ, List, Option, Some, None, true};
 ghost use Rattle.std.specs.Option.{option_map};
 ghost use Rattle.nb_chains.specs.Chains.{AreChained, AreStillChained};
 ghost use Rattle.nb_frames.specs.Frames.{is_one_of};
@@ -7,7 +7,8 @@ ghost use Rattle.nb_graph.specs.Lived.{ObjectStands};
 ghost use Rattle.nb_graph.specs.Trace.{NodeEntry};
 ghost use Rattle.nb_graph.specs.Went.{WentOne};
 ghost use Rattle.nb_graph.specs.Whole.{port_at};
-ghost use Rattle.nb_ledger.specs.declared.event.GraphEvent.TheVariants.{LetGo};
+ghost use Rattle.nb_ledger.specs.declared.event.GraphEvent.TheVariants.{Entered, LetGo};
+ghost use Rattle.nb_ledger.specs.declared.event.Way.TheVariants as way;
 ghost use Rattle.nb_ledger.specs.Ledger.{holds, object_lives};
 ghost use Rattle.nb_nodes.specs.declared.load.Load.{Load as TheLoad};
 ghost use Rattle.nb_nodes.specs.declared.obj.Obj.{Obj as TheObj};
@@ -50,7 +51,7 @@ impl WebChain {
     )
         requires { AreChained graph.old (web_ids self) }
         ensures on { AreStillChained (web_ids self) graph.old graph.new }
-        ensures does { DoesWeb self now (begins_web self rec host (first.now ++ second.now)) graph.old graph.new
+        ensures does { DoesWeb self now (begins_web self rec host (first.now ++ second.now)) None graph.old graph.new
             (O.events out.old) (O.events out.new) }
     {
         let msg = Msg {
@@ -79,8 +80,8 @@ impl WebChain {
     )
         requires { AreChained graph.old (web_ids self) }
         ensures on { AreStillChained (web_ids self) graph.old graph.new }
-        ensures does { DoesWeb self now (receives_web self rec arrival.now) graph.old graph.new
-            (O.events out.old) (O.events out.new) }
+        ensures does { DoesWeb self now (receives_web self rec arrival.now)
+            (Some (Entered (port_at self.conn.0 1) way.Up)) graph.old graph.new (O.events out.old) (O.events out.new) }
     {
         let msg = Msg {
             tag: u8::from(StreamTag::Segment),
@@ -100,7 +101,8 @@ impl WebChain {
     pub fn time<O: Outside>(self, graph: &mut Graph<Obj>, now: u64, out: &mut O)
         requires { AreChained graph.old (web_ids self) }
         ensures on { AreStillChained (web_ids self) graph.old graph.new }
-        ensures does { DoesWeb self now (ticks_web self) graph.old graph.new (O.events out.old) (O.events out.new) }
+        ensures does { DoesWeb self now (ticks_web self) (Some (Entered (port_at self.conn.0 4) way.Time)) graph.old
+            graph.new (O.events out.old) (O.events out.new) }
     {
         graph.has_nodes();
         graph.has_links();

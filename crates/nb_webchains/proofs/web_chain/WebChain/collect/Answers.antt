@@ -1,6 +1,6 @@
 use Rattle.std.proofs.Common.{◌∙◌}
 use Rattle.nb_webchains.proofs.Collecting.{brings_so, collect_on, still_shut}
-use Rattle.nb_webchains.proofs.WebDoes.{fetch_in}
+use Rattle.nb_webchains.proofs.Three.{fetch_in}
 use Rattle.nb_webchains.proofs.web_chain.WebChain.collect.Goals as goal
 
 pub returns-clause-on : goal.returns-clause-on

@@ -1,6 +1,6 @@
 use Rattle.nb_webchains.specs.WebChains.{web_ids}
 use Rattle.nb_webchains.proofs.Shutting.{shuts_web}
-use Rattle.nb_webchains.proofs.WebDoes.{conn_in, fetch_in, web_in}
+use Rattle.nb_webchains.proofs.Three.{conn_in, fetch_in, web_in}
 use Rattle.nb_webchains.proofs.web_chain.WebChain.shut_down.Goals as goal
 
 pub returns : goal.returns
