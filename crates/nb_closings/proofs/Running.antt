@@ -246,7 +246,7 @@ module _ (ids : List ℕ) (Exempt : ℕ → Type 0) (Aim : Port → Type 0) wher
   step now s tr _ _ _ gs (peer_enters p c) q i a f pass k = enter_rests s tr gs p way.Close _ (tt, tt) k
   step now s tr _ _ _ gs (peer_hears x slot c fx) q i a f pass k = hears s tr gs x slot c now fx (a q) (pass q) k
   step now s tr _ _ _ gs (unplugs p r) q i a f pass k = record {
-    kept = push s tr gs _ (push s tr gs _ (unplugged ids Exempt Aim s tr (plans gs) p r k));
+    kept = push (after_noted (Unplugged p r) s) tr gs _ (push (after_noted (Unplugged p r) s) tr gs _ (unplugged ids Exempt Aim s tr (plans gs) p r k));
     plain = (tt, (tt, tt));
     ruins = λ h. absurd (let z = h in cc);
     still = λ _ y h. shut_before ids Exempt Aim s tr (plans gs) p r y (is_gone ids Exempt Aim s tr (plans gs) p k.fits.0.0) (is_gone ids Exempt Aim s tr (plans gs) r k.fits.0.1) h;
