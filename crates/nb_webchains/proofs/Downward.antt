@@ -182,10 +182,10 @@ module _ (x : ℕ) where
 
   -- what is neither is calm
   pub fits_calm : (b : Bool) (s : Scene) (g : Stage Obj Load) (gs : List (Stage Obj Load)) → (OwnDown g → ⊥) → (EagerStage g → ⊥) → Fits b s (g ∷ gs) → AllCalm s (g ∷ gs)
-  fits_calm false s g gs no none h = h
-  fits_calm true s g gs no none (inl (inl d)) = absurd (no d.0)
-  fits_calm true s g gs no none (inl (inr h)) = h
-  fits_calm true s g gs no none (inr e) = absurd (none e.0)
+  fits_calm false s g gs apart none h = h
+  fits_calm true s g gs apart none (inl (inl d)) = absurd (apart d.0)
+  fits_calm true s g gs apart none (inl (inr h)) = h
+  fits_calm true s g gs apart none (inr e) = absurd (none e.0)
 
   calm_later : (s t : Scene) → NoneOpens s t → (g : Stage Obj Load) → CalmStage s g → CalmStage t g
   calm_later s t o (Shut p c) h = h

@@ -1,13 +1,12 @@
 -- Each entry of a Fetch, of a fetch by HTTP and of a connection asks for downs by slot 1 and ups by slot 0, and a Fetch for no ups.
 use Rattle.std.proofs.Common.{◌≡◌, ◌<◌, ◌^◌, ℕ, ◌&&◌, Bool, true, false, not, List, [], ◌∷◌, ◌++◌, length, min, nat_lt, Option, Some, None, refl, sym, ap, ◌∙◌, subst, if◌then◌else◌, arith}
 use Rattle.std.specs.List.{AllByRecursion}
-use Rattle.std.proofs.lemmas.Bool.{ltb-false, lt-ltb}
 use Rattle.nb_terms.specs.declared.cause.Cause.{Cause}
 use Rattle.nb_graph.specs.declared.effects.Emit.{Emit}
 use Rattle.nb_graph.specs.declared.effects.Few.{Few}
 use Rattle.nb_graph.specs.declared.effects.Fx.{Fx}
 use Rattle.nb_graph.specs.Deeds.{rest}
-use Rattle.nb_graph.specs.Trace.{NodeEntry, Said, left, said_behind, up, down, closed, time, regain}
+use Rattle.nb_graph.specs.Trace.{NodeEntry, Said, up, down, closed, time, regain}
 use Rattle.nb_conns.specs.ConnEffects.{ConnEffects, SaysNothing, TookAll, emits_of}
 use Rattle.nb_conns.specs.ConnLoads.{Carrier}
 use Rattle.nb_conns.specs.Dialogues.{AsksIdly, Converses, ConversesTo, Dialogue, HandsOnClose, is_asked, takes_segment, takes_none, takes_text, takes_tick, has_back, is_closed, ends_short, rests_still}
@@ -15,6 +14,7 @@ use Rattle.nb_nodes.specs.declared.load.Load.{Load}
 use Rattle.nb_nodes.specs.declared.obj.Obj.{Obj}
 use Rattle.nb_nodes.specs.Carried.{CarriesNothing}
 use Rattle.nb_nodes.specs.Fetches.{AsksOfFetch, AsksOfUp, EachOf, brings_move, gathers, handed_down, is_handed_down, same_down}
+use Rattle.nb_opens.proofs.LoneCalls.{whole_taken}
 use Rattle.nb_webnodes.specs.WebEffects.{WebCarrier, WebEffects}
 use Rattle.nb_webnodes.specs.WebTalks.{Fetched, FetchedTo, WebTalk, is_begun, takes_part, takes_end, ends_early, stays_idle}
 use Rattle.nb_webchains.proofs.EntryDowns.{EntrySo, SaysSo, SlotIs}
@@ -133,13 +133,7 @@ module _ (top x y : ℕ) (low : y ≡ top → ⊥) where
   -- where all of a short message is taken, nothing is left of it
   none_left : (m : Said) (done : Bool) (fx : Fx Obj Load) → TookAll m fx → length m.bytes < 2 ^ 32 → rest m done fx ≡ None
   none_left m false fx took short = refl
-  none_left m true fx took short =
-      let all : fx.took ≡ length m.bytes = (let e = took in omega (arith, e, short)) in
-      by (nat_lt fx.took (length m.bytes)) refl all
-    where
-      by : (b : Bool) → nat_lt fx.took (length m.bytes) ≡ b → fx.took ≡ length m.bytes → (if b then Some (said_behind fx.took m) else None) ≡ None
-      by true e all = absurd (let z = lt-ltb fx.took (length m.bytes) in omega (arith, all))
-      by false e all = refl
+  none_left m true fx took short = whole_taken m fx.took short took
 
   conn_so : (k : Carrier Load) (v w : Dialogue) (e : NodeEntry Obj Load) → Converses k v e w → EntrySo top x y e
   conn_so k _ _ _ (is_asked a m now fx tag asks effects) = λ _. conn_says k m _ _ _ _ fx effects

@@ -1,7 +1,7 @@
 pub mod Lists
 pub mod Ports
-pub mod Plugging
-pub mod Making
+pub mod PluggingNext
+pub mod MakingThree
 pub mod FirstCloses
 pub mod Three
 pub mod Downward

@@ -81,9 +81,9 @@ module _ (ids : List ℕ) (top x : ℕ) where
     turned u more so m g = record { so = so; fits = event_calm s (none_changes s) flag more m g; hidden = hidden }
 
     -- the first of them is a message that is to be given to a node, or one that has to hear of a close
-    record Head (flag : Bool) (y : ℕ) (short : Type 0) : Type 0 where
+    record Head (here : Bool) (y : ℕ) (short : Type 0) : Type 0 where
       pub calm : AllCalm x s gs
-      pub at : y ≡ x → (flag ≡ true) × short
+      pub at : y ≡ x → (here ≡ true) × short
 
     head_message : (b : Bool) (p : Port) (by : Way) (m : Said) → Fits x b s (Holds p by (Some m) ∷ gs) → Head b p.obj.0 (IsShortBy by m)
     head_message false p by m h = record { calm = h.1; at = λ e. absurd (h.0 e) }

@@ -22,7 +22,7 @@ module _ (f h : ℕ → ℕ → PortState) (z y : ℕ) (top : h z 1 ≡ port.Lin
   not_last : (v w i : ℕ) → f v 1 ≡ port.Linked (port_at w 0) → v ≡ z → i ≡ 1 → ⊥
   not_last v w i l d _ = let q = sym (ap (λ u. f u 1) d ∙ is_open) ∙ l in cc
 
-  not_one : (v : ℕ) → v ≡ z → 0 ≡ 1 → ⊥
+  not_one : (v : ℕ) → v ≡ z → ◌≡◌ {A = ℕ} 0 1 → ⊥
   not_one v _ d = let q = d in cc
 
   pub plugged_down : (v : ℕ) (vs : List ℕ) → last_from v vs ≡ z → ((w : ℕ) → is_one_of (v ∷ vs) w ≡ true → w ≡ y → ⊥) → IsPluggedDown f v vs → IsPluggedDown h v (vs ++ y ∷ [])

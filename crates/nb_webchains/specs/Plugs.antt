@@ -33,11 +33,11 @@ pub record Extends (ids : List ℕ) (z y : ℕ) (node : Obj) (g h : Objects Obj)
   pub gives : CallGives (IsMakeWithin (is_one_of (ids ++ y ∷ []))) g h before after (plugged_notices z y (kind_of_obj node))
 
 -- an object of this kind, rank and mark of which nothing was asked
-pub record IsNewNode (number at_rank mark : ℕ) (n : Obj) : Type 0 where
+pub record IsNewNode (kind at_rank at_mark : ℕ) (n : Obj) : Type 0 where
   pub stands : ObjStands n []
-  pub number : kind_of_obj n ≡ number
+  pub number : kind_of_obj n ≡ kind
   pub ranked : rank_of_obj n ≡ at_rank
-  pub mark : mark_of_obj n ≡ mark
+  pub mark : mark_of_obj n ≡ at_mark
 
 -- what the outside is given where the two below a Fetch that waits are made
 abbrev pub web_notices : WebChain → List Notice

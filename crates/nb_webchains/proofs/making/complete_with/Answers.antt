@@ -1,5 +1,5 @@
 use Rattle.std.proofs.Common.{[], ◌∷◌, refl, arith}
-use Rattle.nb_webchains.proofs.Making.{alone_ready, gives_two, grows_two, ready_web}
+use Rattle.nb_webchains.proofs.MakingThree.{alone_ready, gives_two, grows_two, ready_web}
 use Rattle.nb_webchains.proofs.making.complete_with.Goals as goal
 
 pub plug_next-lower-requires-clause-ranks : goal.plug_next-lower-requires-clause-ranks

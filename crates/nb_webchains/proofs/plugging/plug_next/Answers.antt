@@ -1,4 +1,4 @@
-use Rattle.nb_webchains.proofs.Plugging.{falls, upper_open, lower_open, next_made, next_number, next_room, next_open, next_ranked, next_kind, extends}
+use Rattle.nb_webchains.proofs.PluggingNext.{falls, upper_open, lower_open, next_made, next_number, next_room, next_open, next_ranked, next_kind, extends}
 use Rattle.nb_webchains.proofs.plugging.plug_next.Goals as goal
 
 pub plug-requires-clause-ranks : goal.plug-requires-clause-ranks

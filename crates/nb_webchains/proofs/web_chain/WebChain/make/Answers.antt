@@ -1,4 +1,4 @@
-use Rattle.nb_webchains.proofs.Making.{gives_three, grows_three}
+use Rattle.nb_webchains.proofs.MakingThree.{gives_three, grows_three}
 use Rattle.nb_webchains.proofs.web_chain.WebChain.make.Goals as goal
 
 pub returns-clause-grows : goal.returns-clause-grows
