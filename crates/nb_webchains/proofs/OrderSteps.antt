@@ -1,5 +1,5 @@
 -- The order of what is told of a call on some objects, where messages leave by slot 1 of the lowest, x, alone.
-use Rattle.std.proofs.Common.{inl, inr, ◌≡◌, ◌⊎◌, ◌<◌, ◌≤◌, ◌==◌, ◌&&◌, ◌^◌, ℕ, Bool, true, false, List, [], ◌∷◌, ◌++◌, length, Option, Some, None, refl, sym, ap, ◌∙◌, subst, arith}
+use Rattle.std.proofs.Common.{inl, inr, ◌≡◌, ◌⊎◌, ◌<◌, ◌≤◌, ◌==◌, ◌&&◌, ◌^◌, ℕ, Bool, true, false, List, [], ◌∷◌, ◌++◌, length, min, max, Option, Some, None, refl, sym, ap, ◌∙◌, subst, arith}
 use Rattle.std.specs.List.{AllByRecursion}
 use Rattle.std.proofs.lemmas.Bool.{cases_eq, eq-eqb, ne_eqb}
 use Rattle.nb_terms.specs.declared.cause.Cause.{Cause}
@@ -11,7 +11,7 @@ use Rattle.nb_ledger.specs.declared.event.GraphEvent.TheVariants.{Made, Held, Le
 use Rattle.nb_ledger.specs.Flat.{flat}
 use Rattle.nb_ledger.specs.Ledger.{open_count}
 use Rattle.nb_graph.specs.declared.effects.Fx.{Fx}
-use Rattle.nb_graph.specs.Deeds.{Deed, writes, begins, calls, turns, Turn, is_shut, is_full, comes_to, is_reached, is_dead, arrives, goes_out, stays, lets_go, none_held, Stage, Holds, MustHear, Sends, Gives, Returns, rest, runs_of, settles_by, told_of}
+use Rattle.nb_graph.specs.Deeds.{Deed, writes, begins, calls, turns, Turn, is_shut, is_full, comes_to, is_reached, is_dead, arrives, goes_out, stays, lets_go, none_held, Stage, Shut, Holds, MustHear, MustShut, MustUnplug, Sends, Settles, Gives, Returns, rest, runs_of, settles_by, told_of}
 use Rattle.nb_graph.specs.Follows.{Becomes, UsesStack, after_deed, closes_alone, closes_link, closes_none, peer_closes, peer_enters, peer_hears, unplugs, frees, keeps, passes, leaves, drops, returns, enters_up, enters_down, offered_up, offered_down, refused, takes, takes_down, drops_rest, ends, ticks, takes_time, ticks_none, makes, makes_none, finds_none, has_begun, plugs, made_outside, held, let_go, next, none_left, lets, lets_none}
 use Rattle.nb_graph.specs.Scene.{Scene, state_at, after_noted}
 use Rattle.nb_graph.specs.Trace.{NodeEntry, Said, silence, up, down, closed, time, regain}
@@ -151,18 +151,18 @@ module _ (ids : List ℕ) (top x : ℕ) where
       record { so = tt; fits = event_calm flag s gs i (after_noted (Closed p c) s) (closed_opens s p c) _ [] tt calm.1; hidden = hidden_later ids top x s (after_noted (Closed p c) s) (closed_opens s p c) i }
   step now flag s g _ _ gs (closes_link p r c e) q so i f =
       let calm = fits_calm x flag s g gs none none f in
-      record { so = tt; fits = event_calm flag s gs i (after_noted (Closed p c) s) (closed_opens s p c) _ _ (tt, (tt, tt)) calm.1; hidden = hidden_later ids top x s (after_noted (Closed p c) s) (closed_opens s p c) i }
+      record { so = tt; fits = event_calm flag s gs i (after_noted (Closed p c) s) (closed_opens s p c) _ (MustShut r c ∷ MustUnplug p r ∷ []) (tt, (tt, tt)) calm.1; hidden = hidden_later ids top x s (after_noted (Closed p c) s) (closed_opens s p c) i }
   step now flag s g _ _ gs (closes_none p c e) q so i f = turned flag s gs i (is_shut p) [] tt tt (fits_calm x flag s g gs none none f).1
   step now flag s g _ _ gs (peer_closes p c) q so i f =
       let calm = fits_calm x flag s g gs none none f in
-      record { so = tt; fits = event_calm flag s gs i (after_noted (Closed p c) s) (closed_opens s p c) _ _ (tt, tt) calm.1; hidden = hidden_later ids top x s (after_noted (Closed p c) s) (closed_opens s p c) i }
+      record { so = tt; fits = event_calm flag s gs i (after_noted (Closed p c) s) (closed_opens s p c) _ (Shut p c ∷ []) (tt, tt) calm.1; hidden = hidden_later ids top x s (after_noted (Closed p c) s) (closed_opens s p c) i }
   step now flag s g _ _ gs (peer_enters p c) q so i f = record { so = tt; fits = entered s gs (fits_calm x flag s g gs none none f).1 p way.Close (MustHear p c) (λ e. e) (λ far. far); hidden = i }
   step now flag s _ _ _ gs (peer_hears y slot c fx) q so i f =
       let h = head_close flag s gs i flag (port_at y slot) c f in
       called flag s gs i y slot q way.Close silence true fx None (closed slot c now fx) (λ _. so q) (λ _. refl) (λ e. (h.at e).0) h.calm
   step now flag s g _ _ gs (unplugs p r) q so i f =
       let calm = fits_calm x flag s g gs none none f in
-      record { so = tt; fits = event_calm flag s gs i (after_noted (Unplugged p r) s) (unplugged_opens s p r) _ _ (tt, (tt, tt)) calm.1; hidden = hidden_later ids top x s (after_noted (Unplugged p r) s) (unplugged_opens s p r) i }
+      record { so = tt; fits = event_calm flag s gs i (after_noted (Unplugged p r) s) (unplugged_opens s p r) _ (Settles (min p.obj.0 r.obj.0) ∷ Settles (max p.obj.0 r.obj.0) ∷ []) (tt, (tt, tt)) calm.1; hidden = hidden_later ids top x s (after_noted (Unplugged p r) s) (unplugged_opens s p r) i }
   step now flag s g _ _ gs (frees y) q so i f =
       let calm = fits_calm x flag s g gs none none f in
       record { so = tt; fits = event_calm flag s gs i (after_noted (Freed y) s) (freed_opens s y) _ [] tt calm.1; hidden = hidden_later ids top x s (after_noted (Freed y) s) (freed_opens s y) i }
