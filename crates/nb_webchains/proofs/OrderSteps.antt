@@ -148,28 +148,28 @@ module _ (ids : List ℕ) (top x : ℕ) where
       → Ordered1 flag s d more gs
   step now flag s g _ _ gs (closes_alone p c e) q so i f =
       let calm = fits_calm x flag s g gs none none f in
-      record { so = tt; fits = event_calm flag s gs i (after_noted (Closed p c) s) (closed_opens s p c) _ [] tt calm.1; hidden = hidden_later ids top x s (after_noted (Closed p c) s) (closed_opens s p c) i }
+      record { so = tt; fits = event_calm flag s gs i (after_noted (Closed p c) s) (closed_opens s p c) (flag_after flag (writes (Closed p c))) [] tt calm.1; hidden = hidden_later ids top x s (after_noted (Closed p c) s) (closed_opens s p c) i }
   step now flag s g _ _ gs (closes_link p r c e) q so i f =
       let calm = fits_calm x flag s g gs none none f in
-      record { so = tt; fits = event_calm flag s gs i (after_noted (Closed p c) s) (closed_opens s p c) _ (MustShut r c ∷ MustUnplug p r ∷ []) (tt, (tt, tt)) calm.1; hidden = hidden_later ids top x s (after_noted (Closed p c) s) (closed_opens s p c) i }
+      record { so = tt; fits = event_calm flag s gs i (after_noted (Closed p c) s) (closed_opens s p c) (flag_after flag (writes (Closed p c))) (MustShut r c ∷ MustUnplug p r ∷ []) (tt, (tt, tt)) calm.1; hidden = hidden_later ids top x s (after_noted (Closed p c) s) (closed_opens s p c) i }
   step now flag s g _ _ gs (closes_none p c e) q so i f = turned flag s gs i (is_shut p) [] tt tt (fits_calm x flag s g gs none none f).1
   step now flag s g _ _ gs (peer_closes p c) q so i f =
       let calm = fits_calm x flag s g gs none none f in
-      record { so = tt; fits = event_calm flag s gs i (after_noted (Closed p c) s) (closed_opens s p c) _ (Shut p c ∷ []) (tt, tt) calm.1; hidden = hidden_later ids top x s (after_noted (Closed p c) s) (closed_opens s p c) i }
+      record { so = tt; fits = event_calm flag s gs i (after_noted (Closed p c) s) (closed_opens s p c) (flag_after flag (writes (Closed p c))) (Shut p c ∷ []) (tt, tt) calm.1; hidden = hidden_later ids top x s (after_noted (Closed p c) s) (closed_opens s p c) i }
   step now flag s g _ _ gs (peer_enters p c) q so i f = record { so = tt; fits = entered s gs (fits_calm x flag s g gs none none f).1 p way.Close (MustHear p c) (λ e. e) (λ far. far); hidden = i }
   step now flag s _ _ _ gs (peer_hears y slot c fx) q so i f =
       let h = head_close flag s gs i flag (port_at y slot) c f in
       called flag s gs i y slot q way.Close silence true fx None (closed slot c now fx) (λ _. so q) (λ _. refl) (λ e. (h.at e).0) h.calm
   step now flag s g _ _ gs (unplugs p r) q so i f =
       let calm = fits_calm x flag s g gs none none f in
-      record { so = tt; fits = event_calm flag s gs i (after_noted (Unplugged p r) s) (unplugged_opens s p r) _ (Settles (min p.obj.0 r.obj.0) ∷ Settles (max p.obj.0 r.obj.0) ∷ []) (tt, (tt, tt)) calm.1; hidden = hidden_later ids top x s (after_noted (Unplugged p r) s) (unplugged_opens s p r) i }
+      record { so = tt; fits = event_calm flag s gs i (after_noted (Unplugged p r) s) (unplugged_opens s p r) (flag_after flag (writes (Unplugged p r))) (Settles (min p.obj.0 r.obj.0) ∷ Settles (max p.obj.0 r.obj.0) ∷ []) (tt, (tt, tt)) calm.1; hidden = hidden_later ids top x s (after_noted (Unplugged p r) s) (unplugged_opens s p r) i }
   step now flag s g _ _ gs (frees y) q so i f =
       let calm = fits_calm x flag s g gs none none f in
-      record { so = tt; fits = event_calm flag s gs i (after_noted (Freed y) s) (freed_opens s y) _ [] tt calm.1; hidden = hidden_later ids top x s (after_noted (Freed y) s) (freed_opens s y) i }
+      record { so = tt; fits = event_calm flag s gs i (after_noted (Freed y) s) (freed_opens s y) (flag_after flag (writes (Freed y))) [] tt calm.1; hidden = hidden_later ids top x s (after_noted (Freed y) s) (freed_opens s y) i }
   step now flag s g _ _ gs (keeps y) q so i f = turned flag s gs i (stays y) [] tt tt (fits_calm x flag s g gs none none f).1
   step now flag s _ _ _ gs (passes p r m e) q so i f = let calm = passed flag s gs i flag p r m q e f in turned flag s gs i (arrives p r) (Gives r m ∷ []) tt (calm.0, tt) calm.1
   step now flag s _ _ _ gs (leaves p m e) q so i f = let z = sent_out flag s gs i flag p m e f in record { so = (z.0, z.1); fits = z.2; hidden = i }
-  step now flag s _ _ _ gs (drops p m e) q so i f = record { so = tt; fits = event_calm flag s gs i s (none_changes s) _ [] tt (dropped flag s gs i flag p m e f); hidden = i }
+  step now flag s _ _ _ gs (drops p m e) q so i f = record { so = tt; fits = event_calm flag s gs i s (none_changes s) (flag_after flag (writes (Dropped p))) [] tt (dropped flag s gs i flag p m e f); hidden = i }
   step now flag s _ _ _ gs (returns y l) q so i f = record { so = tt; fits = returned flag s gs i flag y l f; hidden = i }
   step now flag s g _ _ gs (enters_up p m j e) q so i f =
       let calm = fits_calm x flag s g gs none none f in
@@ -180,7 +180,7 @@ module _ (ids : List ℕ) (top x : ℕ) where
   step now flag s g _ _ gs (offered_down p m j e) q so i f =
       let calm = fits_calm x flag s g gs none none f in
       record { so = tt; fits = entered s gs calm.1 p way.Down (Holds p way.Down (Some m)) (λ w. (w, tt)) (λ far. far); hidden = i }
-  step now flag s g _ _ gs (refused p m e) q so i f = record { so = tt; fits = event_calm flag s gs i s (none_changes s) _ [] tt (fits_calm x flag s g gs none none f).1; hidden = i }
+  step now flag s g _ _ gs (refused p m e) q so i f = record { so = tt; fits = event_calm flag s gs i s (none_changes s) (flag_after flag (writes (Dropped p))) [] tt (fits_calm x flag s g gs none none f).1; hidden = i }
   step now flag s _ _ _ gs (takes y slot m done fx e) q so i f =
       let h = head_message flag s gs i flag (port_at y slot) way.Up m f in
       let asks = so q in
@@ -190,9 +190,9 @@ module _ (ids : List ℕ) (top x : ℕ) where
       called flag s gs i y 0 q way.Down m done fx None (down m now done fx) (so q) (λ _. refl) (λ w. (h.at w).0) h.calm
   step now flag s _ _ _ gs (drops_rest p m e) q so i f =
       let h = head_message flag s gs i flag p way.Up m f in
-      record { so = tt; fits = event_calm flag s gs i s (none_changes s) _ (Holds p way.Up None ∷ []) (tt, tt) h.calm; hidden = i }
+      record { so = tt; fits = event_calm flag s gs i s (none_changes s) (flag_after flag (writes (Dropped p))) (Holds p way.Up None ∷ []) (tt, tt) h.calm; hidden = i }
   step now flag s g _ _ gs (ends p by) q so i f =
-      record { so = tt; fits = event_calm flag s gs i s (none_changes s) _ (settles_by by p.obj.0) (each-settles obj_nature (CalmStage x s) by p.obj.0 tt) (fits_calm x flag s g gs none none f).1; hidden = i }
+      record { so = tt; fits = event_calm flag s gs i s (none_changes s) (flag_after flag (writes (Left p))) (settles_by by p.obj.0) (each-settles obj_nature (CalmStage x s) by p.obj.0 tt) (fits_calm x flag s g gs none none f).1; hidden = i }
   step now flag s g _ _ gs (ticks y e) q so i f = absurd (fits_calm x flag s g gs none none f).0
   step now flag s _ _ _ gs (takes_time y done fx) q so i f =
       let h = head_message flag s gs i flag (port_at y 4) way.Time silence f in
