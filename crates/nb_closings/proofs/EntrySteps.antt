@@ -15,7 +15,7 @@ use Rattle.nb_graph.specs.Whole.{port_at}
 use Rattle.nb_nodes.specs.declared.load.Load.{Load}
 use Rattle.nb_nodes.specs.declared.obj.Obj.{Obj}
 use Rattle.nb_nodes.specs.Objects.{obj_nature}
-use Rattle.nb_closings.specs.Passing.{ends_object, has_ended, ClosesBothOrNone, PassesOn}
+use Rattle.nb_closings.specs.Passing.{ends_object, has_ended, ClosesBothOrNone, PassesEndOn}
 use Rattle.nb_closings.proofs.TraceLemmas.{ended_more}
 use Rattle.nb_closings.proofs.Joining.{IsInner}
 use Rattle.nb_closings.proofs.PlanLemmas.{AnyPlan, Plan, WillClose, WillTell, WillUnplug, nothing, tell_it, plans, each_append, runs_any, runs_idle, asked_close, failed_close}

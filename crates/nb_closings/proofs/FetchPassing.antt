@@ -13,7 +13,7 @@ use Rattle.nb_nodes.specs.declared.obj.Obj.{Obj}
 use Rattle.nb_nodes.specs.Carried.{CarriesNothing, both_closes}
 use Rattle.nb_nodes.specs.Fetches.{body_too_large, brings_move, ends_fetch, first_end, gathers, taken_below, passed_close, closes_below, up_closes, AsksUp, AsksMove, AsksOfUp, AsksOfFetch, EachOf, FetchStands}
 use Rattle.nb_nodes.specs.declared.fetch.Fetch.{Fetch}
-use Rattle.nb_closings.specs.Passing.{ends_object, has_ended, ClosesBothOrNone, PassesOn}
+use Rattle.nb_closings.specs.Passing.{ends_object, has_ended, ClosesBothOrNone, PassesEndOn}
 use Rattle.nb_closings.proofs.TraceLemmas.{none_ended}
 
 -- the last entry of a trace, with those before it
@@ -52,7 +52,7 @@ by_message : (move : Bool) (before slot : ℕ) (m : Said) (fx : Fx Obj Load) →
 by_message true before slot m fx h = subst ClosesBothOrNone (sym h.closes) (inr (inl refl, inr (inl refl)))
 by_message false before slot m fx h = by_size (slot == 1) (nat_lt 268435456 (before + length m.bytes)) fx.closes.items h.closes
 
-passes : (t : List (NodeEntry Obj Load)) (e : NodeEntry Obj Load) → gathers t ≡ true → AsksOfFetch t e → PassesOn e
+passes : (t : List (NodeEntry Obj Load)) (e : NodeEntry Obj Load) → gathers t ≡ true → AsksOfFetch t e → PassesEndOn e
 passes t (up slot m now done fx) g h = λ d. by_message (brings_move slot m) _ slot m fx (subst (λ (z : Bool). AsksOfUp (brings_move slot m) z (length (taken_below t)) slot m fx) g (h d))
 passes t (down m now done fx) g h = λ d. inl (h d).no_close
 passes t (closed slot c now fx) g h =
@@ -61,5 +61,5 @@ passes t (closed slot c now fx) g h =
 passes t (time now done fx) g h = λ d. inl h.1
 passes t (regain l) g h = tt
 
-pub fetch_passes : (f : Fetch) (t : List (NodeEntry Obj Load)) (e : NodeEntry Obj Load) → FetchStands f (t ++ e ∷ []) → has_ended t ≡ false → PassesOn e
+pub fetch_passes : (f : Fetch) (t : List (NodeEntry Obj Load)) (e : NodeEntry Obj Load) → FetchStands f (t ++ e ∷ []) → has_ended t ≡ false → PassesEndOn e
 fetch_passes f t e s h = passes t e (still_gathers t h) (last_asks [] t e s.asks)

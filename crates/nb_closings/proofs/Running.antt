@@ -24,7 +24,7 @@ use Rattle.nb_nodes.specs.declared.load.Load.{Load}
 use Rattle.nb_nodes.specs.declared.obj.Obj.{Obj}
 use Rattle.nb_nodes.specs.Objects.{obj_nature}
 use Rattle.nb_closings.specs.Chained.{have_closing, is_closing}
-use Rattle.nb_closings.specs.Passing.{ends_object, has_ended, ClosesBothOrNone, PassesOn}
+use Rattle.nb_closings.specs.Passing.{ends_object, has_ended, ClosesBothOrNone, PassesEndOn}
 use Rattle.nb_closings.proofs.Joining.{IsInner, joins_back, joins_inner}
 use Rattle.nb_closings.proofs.PlanLemmas.{AnyPlan, Plan, WillClose, close_it, shut_it, unplug_them, tell_it, nothing, plan_of, plans, plans_append}
 use Rattle.nb_closings.proofs.Keeping.{IsClosedAt, IsPlainPlan, Kept, Moves, Traces, moves}
@@ -36,7 +36,7 @@ abbrev pub AllPass : ℕ → List (NodeEntry Obj Load) → List (Deed Obj Load) 
 AllPass x t [] = Unit {0}
 AllPass x t (writes e ∷ ds) = AllPass x t ds
 AllPass x t (begins y n ∷ ds) = AllPass x (trace_after x t (begins y n ∷ [])) ds
-AllPass x t (calls y e ∷ ds) = (x ≡ y → has_ended t ≡ false → PassesOn e) × AllPass x (trace_after x t (calls y e ∷ [])) ds
+AllPass x t (calls y e ∷ ds) = (x ≡ y → has_ended t ≡ false → PassesEndOn e) × AllPass x (trace_after x t (calls y e ∷ [])) ds
 AllPass x t (turns u ∷ ds) = AllPass x t ds
 
 abbrev pub after_traces : Deed Obj Load → Traces → Traces
@@ -79,7 +79,7 @@ have_closing_first (turns u) ds = refl
 abbrev pub DeedPasses : Traces → (ℕ → Bool) → Deed Obj Load → Type 0
 DeedPasses tr own (writes e) = Unit {0}
 DeedPasses tr own (begins x n) = Unit {0}
-DeedPasses tr own (calls x e) = own x ≡ true → has_ended (tr x) ≡ false → PassesOn e
+DeedPasses tr own (calls x e) = own x ≡ true → has_ended (tr x) ≡ false → PassesEndOn e
 DeedPasses tr own (turns u) = Unit {0}
 
 deed_passes : (tr : Traces) (own : ℕ → Bool) (d : Deed Obj Load) (ds : List (Deed Obj Load)) → ((x : ℕ) → own x ≡ true → AllPass x (tr x) (d ∷ ds)) → DeedPasses tr own d
@@ -194,7 +194,7 @@ module _ (ids : List ℕ) (Exempt : ℕ → Type 0) (Aim : Port → Type 0) wher
         (λ f t slot low. inr (any_held (WillClose (port_at y slot)) y m done fx (Holds p by o) (close_ended y slot m done fx low (pass f) (sym is ∙ t)))) k)
 
     -- and by a close
-    hears : (y slot : ℕ) (c : Cause) (now : ℕ) (fx : Fx Obj Load) → fx.makes ≡ None → (has_ended (tr y) ≡ false → PassesOn (closed slot c now fx)) → Kept ids Exempt Aim s tr (tell_it (port_at y slot) ∷ plans gs)
+    hears : (y slot : ℕ) (c : Cause) (now : ℕ) (fx : Fx Obj Load) → fx.makes ≡ None → (has_ended (tr y) ≡ false → PassesEndOn (closed slot c now fx)) → Kept ids Exempt Aim s tr (tell_it (port_at y slot) ∷ plans gs)
         → Stepped s tr (calls y (closed slot c now fx)) (runs_of obj_nature y silence true fx ++ Holds (port_at y slot) way.Close None ∷ []) gs
     hears y slot c now fx none pass k =
         let e : NodeEntry Obj Load = closed slot c now fx in

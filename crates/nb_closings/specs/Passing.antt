@@ -25,13 +25,13 @@ abbrev pub ClosesBothOrNone : List (ℕ × Cause) → Type 0
 ClosesBothOrNone xs = (xs ≡ []) ⊎ (ClosesSlot 0 xs × ClosesSlot 1 xs)
 
 -- An entry closes both ports or none; where one of them was closed, it closes the other.
-abbrev pub PassesOn : {N L : Type 0} → NodeEntry N L → Type 0
-PassesOn (up slot m now done fx) = done ≡ true → ClosesBothOrNone fx.closes.items
-PassesOn (down m now done fx) = done ≡ true → ClosesBothOrNone fx.closes.items
-PassesOn (closed slot cause now fx) = (slot < 2 → ClosesSlot (1 - slot) fx.closes.items) × (2 ≤ slot → fx.closes.items ≡ [])
-PassesOn (time now done fx) = done ≡ true → ClosesBothOrNone fx.closes.items
-PassesOn (regain load) = Unit {0}
+abbrev pub PassesEndOn : {N L : Type 0} → NodeEntry N L → Type 0
+PassesEndOn (up slot m now done fx) = done ≡ true → ClosesBothOrNone fx.closes.items
+PassesEndOn (down m now done fx) = done ≡ true → ClosesBothOrNone fx.closes.items
+PassesEndOn (closed slot cause now fx) = (slot < 2 → ClosesSlot (1 - slot) fx.closes.items) × (2 ≤ slot → fx.closes.items ≡ [])
+PassesEndOn (time now done fx) = done ≡ true → ClosesBothOrNone fx.closes.items
+PassesEndOn (regain load) = Unit {0}
 
 -- so does each entry of an object of an open that hasn't ended yet
 abbrev pub ObjectsPassOn : Type 0
-ObjectsPassOn = (n : Obj) (t : List (NodeEntry Obj Load)) (e : NodeEntry Obj Load) → ObjStands n (t ++ e ∷ []) → has_ended t ≡ false → PassesOn e
+ObjectsPassOn = (n : Obj) (t : List (NodeEntry Obj Load)) (e : NodeEntry Obj Load) → ObjStands n (t ++ e ∷ []) → has_ended t ≡ false → PassesEndOn e
