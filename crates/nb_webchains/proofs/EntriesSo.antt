@@ -1,5 +1,5 @@
 -- Each entry of a Fetch, of a fetch by HTTP and of a connection asks for downs by slot 1 and ups by slot 0, and a Fetch for no ups.
-use Rattle.std.proofs.Common.{◌≡◌, ◌<◌, ◌^◌, ℕ, ◌&&◌, Bool, true, false, not, List, [], ◌∷◌, ◌++◌, length, min, nat_lt, Option, Some, None, refl, sym, ap, ◌∙◌, subst, if◌then◌else◌, arith}
+use Rattle.std.proofs.Common.{◌≡◌, ◌<◌, ◌^◌, ℕ, ◌&&◌, Bool, true, false, not, List, [], ◌∷◌, ◌++◌, length, Option, Some, None, refl, sym, ap, subst, if◌then◌else◌}
 use Rattle.std.specs.List.{AllByRecursion}
 use Rattle.nb_terms.specs.declared.cause.Cause.{Cause}
 use Rattle.nb_graph.specs.declared.effects.Emit.{Emit}
@@ -9,7 +9,7 @@ use Rattle.nb_graph.specs.Deeds.{rest}
 use Rattle.nb_graph.specs.Trace.{NodeEntry, Said, up, down, closed, time, regain}
 use Rattle.nb_conns.specs.ConnEffects.{ConnEffects, SaysNothing, TookAll, emits_of}
 use Rattle.nb_conns.specs.ConnLoads.{Carrier}
-use Rattle.nb_conns.specs.Dialogues.{AsksIdly, Converses, ConversesTo, Dialogue, HandsOnClose, is_asked, takes_segment, takes_none, takes_text, takes_tick, has_back, is_closed, ends_short, rests_still}
+use Rattle.nb_conns.specs.Dialogues.{Converses, ConversesTo, Dialogue, is_asked, takes_segment, takes_none, takes_text, takes_tick, has_back, is_closed, ends_short, rests_still}
 use Rattle.nb_nodes.specs.declared.load.Load.{Load}
 use Rattle.nb_nodes.specs.declared.obj.Obj.{Obj}
 use Rattle.nb_nodes.specs.Carried.{CarriesNothing}

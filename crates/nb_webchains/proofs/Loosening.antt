@@ -1,5 +1,5 @@
 -- The slots of an object that nothing is plugged to are closed, and objects that have no link have none then.
-use Rattle.std.proofs.Common.{inl, inr, ◌≡◌, ℕ, ◌≤◌, ◌<◌, Bool, true, false, cond, eqb, List, [], ◌∷◌, ◌++◌, refl, sym, ap, ◌∙◌, subst, arith}
+use Rattle.std.proofs.Common.{inl, inr, ◌≡◌, ℕ, ◌≤◌, ◌<◌, Bool, true, false, cond, eqb, List, [], ◌∷◌, ◌++◌, refl, ap, ◌∙◌, arith}
 use Rattle.std.proofs.lemmas.Bool.{cases_eq}
 use Rattle.nb_terms.specs.declared.cause.Cause.{Cause}
 use Rattle.nb_ledger.specs.declared.port.Port.{Port}
@@ -18,8 +18,7 @@ use Rattle.nb_nodes.specs.declared.obj.Obj.{Obj}
 use Rattle.nb_nodes.specs.Objects.{obj_nature, rank_of_obj}
 use Rattle.nb_nodes.specs.Standing.{ObjStands}
 use Rattle.nb_opens.proofs.Shutting.{closes_alone}
-use Rattle.nb_chains.specs.Chains.{AreChained, AreStillChained}
-use Rattle.nb_chains.specs.Ends.{LivesUnlinked}
+use Rattle.nb_chains.specs.Chains.{AreChained}
 use Rattle.nb_chains.proofs.ChainCalls.{ChainCalled, chain_call}
 use Rattle.nb_chains.proofs.GivingLemmas.{gives_both}
 use Rattle.nb_chains.proofs.GoingOn.{goes_both}

@@ -1,14 +1,14 @@
 -- The objects of an open by HTTP are made.
-use Rattle.std.proofs.Common.{◌≡◌, ℕ, ◌+◌, ◌<◌, ◌≤◌, true, false, List, [], ◌∷◌, ◌++◌, length, Option, Some, None, refl, sym, ap, ◌∙◌, subst, arith}
+use Rattle.std.proofs.Common.{◌≡◌, ℕ, ◌+◌, true, List, [], ◌∷◌, ◌++◌, Option, Some, None, sym, ap, ◌∙◌, subst, arith}
 use Rattle.nb_ledger.specs.declared.port.ObjId.{ObjId}
 use Rattle.nb_ledger.specs.declared.port.PortState.TheVariants as port
 use Rattle.nb_ledger.specs.Flat.{Heard}
-use Rattle.nb_ledger.specs.Ledger.{rank, port as port_in}
+use Rattle.nb_ledger.specs.Ledger.{port as port_in}
 use Rattle.nb_graph.specs.Lived.{ObjectStands}
 use Rattle.nb_graph.specs.Whole.{Objects}
 use Rattle.nb_frames.specs.Frames.{is_one_of}
 use Rattle.nb_nodes.specs.declared.obj.Obj.{Obj}
-use Rattle.nb_nodes.specs.Objects.{kind_of_obj, mark_of_obj, rank_of_obj}
+use Rattle.nb_nodes.specs.Objects.{kind_of_obj, mark_of_obj}
 use Rattle.nb_nodes.specs.Standing.{ObjStands}
 use Rattle.nb_opens.specs.Marks.{IsOfKind}
 use Rattle.nb_chains.specs.declared.chain.Chain.{Chain}
@@ -22,7 +22,7 @@ use Rattle.nb_closings.proofs.Joining.{first_in, later_in}
 use Rattle.nb_webchains.specs.declared.web_chain.WebChain.{WebChain}
 use Rattle.nb_webchains.specs.Plugs.{Extends, IsNewNode, plugged_notices, web_notices}
 use Rattle.nb_webchains.specs.WebCalls.{WebMakes}
-use Rattle.nb_webchains.specs.WebChains.{AreOfWeb, AreReady, GrowsTo, IsReadyWeb, web_ids}
+use Rattle.nb_webchains.specs.WebChains.{AreReady, GrowsTo, IsReadyWeb, web_ids}
 use Rattle.nb_webchains.proofs.Lists.{not_fewer, still_one}
 
 -- a Fetch that waits is ready alone

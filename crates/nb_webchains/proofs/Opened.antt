@@ -1,5 +1,5 @@
 -- An open by HTTP beside other objects: where it was made it is open, what waits is none of it, and others stay.
-use Rattle.std.proofs.Common.{inl, inr, ◌≡◌, ◌⊎◌, ℕ, ◌≤◌, Bool, true, false, List, [], ◌∷◌, Option, refl, sym, ap, ◌∙◌, subst, nat_lt, if◌then◌else◌, arith}
+use Rattle.std.proofs.Common.{inl, inr, ◌≡◌, ℕ, Bool, true, false, List, [], ◌∷◌, Option, refl, sym, ap, ◌∙◌, subst, nat_lt, if◌then◌else◌, arith}
 use Rattle.nb_ledger.specs.declared.port.ObjId.{ObjId}
 use Rattle.nb_ledger.specs.declared.port.PortState.TheVariants as port
 use Rattle.nb_ledger.specs.GraphRun.{link_count, new_ports}

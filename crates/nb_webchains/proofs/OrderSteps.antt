@@ -1,5 +1,5 @@
 -- The order of what is told of a call on some objects, where messages leave by slot 1 of the lowest, x, alone.
-use Rattle.std.proofs.Common.{inl, inr, ◌≡◌, ◌⊎◌, ◌<◌, ◌≤◌, ◌==◌, ◌&&◌, ◌^◌, ℕ, Bool, true, false, List, [], ◌∷◌, ◌++◌, length, min, max, Option, Some, None, refl, sym, ap, ◌∙◌, subst, arith}
+use Rattle.std.proofs.Common.{inl, inr, ◌≡◌, ℕ, Bool, true, false, List, [], ◌∷◌, ◌++◌, min, max, Option, Some, None, refl, sym, ap, ◌∙◌, subst, arith}
 use Rattle.std.specs.List.{AllByRecursion}
 use Rattle.std.proofs.lemmas.Bool.{cases_eq, eq-eqb, ne_eqb}
 use Rattle.nb_terms.specs.declared.cause.Cause.{Cause}
@@ -7,14 +7,14 @@ use Rattle.nb_ledger.specs.declared.port.Port.{Port}
 use Rattle.nb_ledger.specs.declared.port.PortState.TheVariants as port
 use Rattle.nb_ledger.specs.declared.event.Way.{Way}
 use Rattle.nb_ledger.specs.declared.event.Way.TheVariants as way
-use Rattle.nb_ledger.specs.declared.event.GraphEvent.TheVariants.{Made, Held, LetGo, Plugged, Entered, Left, Dropped, Closed, Unplugged, Freed}
+use Rattle.nb_ledger.specs.declared.event.GraphEvent.TheVariants.{Entered, Left, Dropped, Closed, Unplugged, Freed}
 use Rattle.nb_ledger.specs.Flat.{flat}
 use Rattle.nb_ledger.specs.Ledger.{open_count}
 use Rattle.nb_graph.specs.declared.effects.Fx.{Fx}
 use Rattle.nb_graph.specs.Deeds.{Deed, writes, begins, calls, turns, Turn, is_shut, is_full, comes_to, is_reached, is_dead, arrives, goes_out, stays, lets_go, none_held, Stage, Shut, Holds, MustHear, MustShut, MustUnplug, Sends, Settles, Gives, Returns, rest, runs_of, settles_by, told_of}
 use Rattle.nb_graph.specs.Follows.{Becomes, UsesStack, after_deed, closes_alone, closes_link, closes_none, peer_closes, peer_enters, peer_hears, unplugs, frees, keeps, passes, leaves, drops, returns, enters_up, enters_down, offered_up, offered_down, refused, takes, takes_down, drops_rest, ends, ticks, takes_time, ticks_none, makes, makes_none, finds_none, has_begun, plugs, made_outside, held, let_go, next, none_left, lets, lets_none}
 use Rattle.nb_graph.specs.Scene.{Scene, state_at, after_noted}
-use Rattle.nb_graph.specs.Trace.{NodeEntry, Said, silence, up, down, closed, time, regain}
+use Rattle.nb_graph.specs.Trace.{NodeEntry, Said, silence, up, down, closed, time}
 use Rattle.nb_graph.specs.Whole.{port_at}
 use Rattle.nb_frames.specs.Frames.{is_one_of}
 use Rattle.nb_frames.specs.Within.{AreLinkedWithin, IsStageWithin}
@@ -25,7 +25,7 @@ use Rattle.nb_nodes.specs.declared.obj.Obj.{Obj}
 use Rattle.nb_nodes.specs.Objects.{obj_nature}
 use Rattle.nb_chains.specs.Shapes.{IsNoCall}
 use Rattle.nb_webchains.specs.Orders.{AreNoCalls, LeavesOnEntry, enters_object}
-use Rattle.nb_webchains.proofs.Downward.{AllCalm, CalmStage, DownsFirst, EagerStage, Fits, IsShortBy, NoneOpens, OwnDown, all_calm_later, calm_fits, closed_opens, fits_calm, freed_opens, none_changes, shut_downs, unplugged_opens}
+use Rattle.nb_webchains.proofs.Downward.{AllCalm, CalmStage, EagerStage, Fits, IsShortBy, NoneOpens, all_calm_later, calm_fits, closed_opens, fits_calm, freed_opens, none_changes, shut_downs, unplugged_opens}
 use Rattle.nb_webchains.proofs.EntryDowns.{EntrySo, Hidden, SaysSo, called_fits, hidden_later}
 
 not_open_at : (v : _) → open_count v ≡ 0 → v ≡ port.Open → ⊥

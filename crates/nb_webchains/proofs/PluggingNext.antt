@@ -1,5 +1,5 @@
 -- An object is made and plugged below the last of some of which nothing was asked.
-use Rattle.std.proofs.Common.{◌≡◌, ℕ, ◌+◌, ◌<◌, ◌≤◌, Bool, true, false, List, [], ◌∷◌, ◌++◌, length, Some, refl, sym, ap, ◌∙◌, subst, arith}
+use Rattle.std.proofs.Common.{◌≡◌, ℕ, ◌+◌, ◌<◌, ◌≤◌, Bool, true, List, [], ◌∷◌, ◌++◌, length, Some, refl, sym, ap, ◌∙◌, subst, arith}
 use Rattle.std.specs.List.{AllByRecursion}
 use Rattle.std.proofs.lemmas.Bool.{eq-eqb, ne_eqb}
 use Rattle.std.proofs.lemmas.List.{append-nil}
@@ -38,7 +38,7 @@ use Rattle.nb_chains.proofs.GoingOn.{keeps_both}
 use Rattle.nb_chains.proofs.MakingOne.{OneMade, one_made}
 use Rattle.nb_closings.specs.Chained.{IsPluggedDown}
 use Rattle.nb_closings.proofs.Joining.{first_in}
-use Rattle.nb_closings.proofs.PlanLemmas.{IsBut, at_it, but_there, elsewhere, is_but}
+use Rattle.nb_closings.proofs.PlanLemmas.{at_it, but_there, elsewhere, is_but}
 use Rattle.nb_webchains.specs.Plugs.{Extends, last_from}
 use Rattle.nb_webchains.specs.WebChains.{AreReady, GrowsTo}
 use Rattle.nb_webchains.proofs.Lists.{last_one, new_one, of_each, still_one}

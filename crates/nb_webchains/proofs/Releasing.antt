@@ -1,6 +1,6 @@
 -- Objects that have no link are let go, one after the other.
-use Rattle.std.proofs.Common.{inl, inr, ◌≡◌, ℕ, zero, suc, ◌+◌, ◌<◌, ◌≤◌, Bool, true, false, List, [], ◌∷◌, ◌++◌, length, refl, sym, ap, ◌∙◌, subst, arith}
-use Rattle.std.proofs.lemmas.Bool.{cases_eq, ne_eqb, false≢true}
+use Rattle.std.proofs.Common.{inl, inr, ◌≡◌, ℕ, zero, suc, ◌<◌, ◌≤◌, true, false, List, [], ◌∷◌, refl, sym, ap, ◌∙◌, arith}
+use Rattle.std.proofs.lemmas.Bool.{ne_eqb, false≢true}
 use Rattle.nb_ledger.specs.declared.port.ObjId.{ObjId}
 use Rattle.nb_ledger.specs.declared.port.PortState.{PortState}
 use Rattle.nb_ledger.specs.declared.port.PortState.TheVariants as port
@@ -30,7 +30,7 @@ use Rattle.nb_closings.proofs.Joining.{first_in, later_in}
 use Rattle.nb_webchains.specs.declared.web_chain.WebChain.{WebChain}
 use Rattle.nb_webchains.specs.Releases.{AreLoose}
 use Rattle.nb_webchains.specs.WebCalls.{ReleasesEach, freed_each}
-use Rattle.nb_webchains.specs.WebChains.{AreReleased, IsInOrder, IsShutWeb, web_ids}
+use Rattle.nb_webchains.specs.WebChains.{IsInOrder, IsShutWeb, web_ids}
 use Rattle.nb_webchains.proofs.Lists.{not_fewer}
 use Rattle.nb_webchains.proofs.Three.{fetch_in}
 

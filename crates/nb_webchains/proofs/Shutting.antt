@@ -1,5 +1,5 @@
 -- The end of a run: all ports of the three are closed, and they are let go.
-use Rattle.std.proofs.Common.{inl, inr, ◌≡◌, ◌⊎◌, ◌<◌, ◌≤◌, ℕ, Bool, true, false, [], ◌∷◌, ◌++◌, List, Some, ap, ◌∙◌, arith, nat_lt, refl}
+use Rattle.std.proofs.Common.{inl, inr, ◌≡◌, ◌⊎◌, ◌<◌, ◌≤◌, ℕ, Bool, true, false, [], ◌∷◌, ◌++◌, ap, ◌∙◌, arith, nat_lt, refl}
 use Rattle.std.proofs.lemmas.Bool.{cases_eq, ltb-true, ltb-false}
 use Rattle.nb_terms.specs.declared.cause.Cause.{Cause}
 use Rattle.nb_ledger.specs.Flat.{Heard}
@@ -10,7 +10,7 @@ use Rattle.nb_frames.specs.Within.{IsEventWithin}
 use Rattle.nb_nodes.specs.declared.obj.Obj.{Obj}
 use Rattle.nb_opens.specs.Notices.{first_close, or_else}
 use Rattle.nb_opens.proofs.CloseLemmas.{first_close-append}
-use Rattle.nb_chains.specs.Chains.{AreChained, AreStillChained}
+use Rattle.nb_chains.specs.Chains.{AreStillChained}
 use Rattle.nb_chains.proofs.FreshOnes.{sole_is}
 use Rattle.nb_chains.proofs.GivingLemmas.{gives_both}
 use Rattle.nb_chains.proofs.GoingOn.{goes_both, others_both}

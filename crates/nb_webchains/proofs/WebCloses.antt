@@ -1,5 +1,5 @@
 -- Where the user closes both ports of the top one, all three end.
-use Rattle.std.proofs.Common.{◌≡◌, ℕ, List, [], ◌∷◌, ◌++◌, Some, refl, sym, ap, ◌∙◌, subst}
+use Rattle.std.proofs.Common.{◌≡◌, ℕ, List, [], ◌∷◌, ◌++◌, Some, refl, subst}
 use Rattle.nb_terms.specs.declared.cause.Cause.{Cause}
 use Rattle.nb_ledger.specs.declared.event.GraphEvent.TheVariants.{Closed}
 use Rattle.nb_ledger.specs.Flat.{Heard, Notice, all}

@@ -1,5 +1,5 @@
 -- A call on the three is one on the graph of these alone, and ends all of them or none.
-use Rattle.std.proofs.Common.{◌≡◌, ℕ, true, List, [], ◌∷◌, ◌++◌, Option, Some, None, ◌∙◌, subst}
+use Rattle.std.proofs.Common.{◌≡◌, ℕ, List, [], ◌∷◌, Option, Some, None, ◌∙◌, subst}
 use Rattle.nb_ledger.specs.declared.event.Way.TheVariants as way
 use Rattle.nb_ledger.specs.declared.event.GraphEvent.{GraphEvent}
 use Rattle.nb_ledger.specs.declared.event.GraphEvent.TheVariants.{Entered}
@@ -31,7 +31,7 @@ use Rattle.nb_webchains.specs.Orders.{StandInOrder}
 use Rattle.nb_webchains.specs.WebCalls.{AreShort, ComesOfWeb, DoesWeb, goes_on, has_closed}
 use Rattle.nb_webchains.specs.WebChains.{AreOfWeb, IsOpenWeb, web_ids}
 use Rattle.nb_webchains.proofs.FirstCloses.{none_closed, some_closed}
-use Rattle.nb_webchains.proofs.Three.{begins_none, conn_in, fetch_in, web_in}
+use Rattle.nb_webchains.proofs.Three.{begins_none, conn_in, fetch_in}
 use Rattle.nb_webchains.proofs.WebOrders.{BeginsSo, by_begin, by_segment, by_tick, in_order}
 
 module _ (c : WebChain) (now : ℕ) (asks : List (Stage Obj Load)) (g h : Objects Obj) (m n : Heard) (chained : AreChained g (web_ids c)) (within : AreStagesWithin (is_one_of (web_ids c)) asks)

@@ -1,5 +1,5 @@
 -- In which order the notices of a call on the three stand.
-use Rattle.std.proofs.Common.{inl, inr, ◌≡◌, ◌<◌, ◌≤◌, ◌==◌, ◌^◌, ℕ, zero, suc, Bool, true, false, List, [], ◌∷◌, ◌++◌, length, Option, Some, None, refl, sym, ap, ◌∙◌, subst, arith, if◌then◌else◌}
+use Rattle.std.proofs.Common.{inl, inr, ◌≡◌, ◌≤◌, ◌==◌, ℕ, zero, suc, Bool, true, false, List, [], ◌∷◌, ◌++◌, Option, Some, None, refl, sym, ap, ◌∙◌, subst, arith, if◌then◌else◌}
 use Rattle.std.specs.List.{AllByRecursion}
 use Rattle.std.proofs.lemmas.Bool.{cases_eq, eq-eqb, ne_eqb}
 use Rattle.std.proofs.lemmas.List.{append-nil}
@@ -11,7 +11,7 @@ use Rattle.nb_ledger.specs.declared.event.GraphEvent.{GraphEvent}
 use Rattle.nb_ledger.specs.declared.event.GraphEvent.TheVariants.{Entered}
 use Rattle.nb_ledger.specs.Flat.{Heard}
 use Rattle.nb_ledger.specs.GraphRun.{link_count}
-use Rattle.nb_ledger.specs.Ledger.{object_lives, port as port_in, rank}
+use Rattle.nb_ledger.specs.Ledger.{port as port_in, rank}
 use Rattle.nb_graph.specs.Deeds.{Deed, writes, begins, calls, turns, Holds, Offers, Stage, Ticks, told_of, trace_after}
 use Rattle.nb_graph.specs.Follows.{UsesStack, offered_down, offered_up, refused, ticks, ticks_none}
 use Rattle.nb_graph.specs.Noded.{AreNoded}

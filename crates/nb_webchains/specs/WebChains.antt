@@ -1,21 +1,15 @@
 -- The objects of an open by HTTP on a graph, whatever else lives there: a Fetch, a fetch by HTTP plugged below it, and a
 -- connection below that. Our own.
-use Rattle.std.specs.Prelude.{◌≡◌, ◌+◌, ◌<◌, ◌≤◌, ℕ, true, false, List, [], ◌∷◌, ◌++◌, length}
+use Rattle.std.specs.Prelude.{◌≡◌, ◌+◌, ◌<◌, ◌≤◌, ℕ, true, false, List, [], ◌∷◌, length}
 use Rattle.nb_frames.specs.Frames.{graph_of, is_one_of, KeepsObject, KeepsOthers}
 use Rattle.nb_graph.specs.Lived.{ObjectStands}
-use Rattle.nb_graph.specs.Whole.{Objects, port_at}
-use Rattle.nb_ledger.specs.declared.event.GraphEvent.TheVariants.{Held, Made, Plugged}
-use Rattle.nb_ledger.specs.Flat.{Heard, Notice}
+use Rattle.nb_graph.specs.Whole.{Objects}
 use Rattle.nb_ledger.specs.GraphRun.{new_ports}
 use Rattle.nb_ledger.specs.Ledger.{object_lives, port, rank}
 use Rattle.nb_nodes.specs.declared.obj.Obj.{Obj}
-use Rattle.nb_nodes.specs.Objects.{kind_of_obj, mark_of_obj, rank_of_obj}
 use Rattle.nb_nodes.specs.Standing.{ObjStands}
-use Rattle.nb_opens.specs.AloneNotices.{alone_made}
 use Rattle.nb_opens.specs.Marks.{IsOfKind}
-use Rattle.nb_opens.specs.Notices.{tells}
 use Rattle.nb_chains.specs.Chains.{AreChained}
-use Rattle.nb_chains.specs.Giving.{CallGives, IsMakeWithin}
 use Rattle.nb_closings.specs.Chained.{AreShutThrough, AreThrough, IsOpenThrough}
 use Rattle.nb_webchains.specs.declared.web_chain.WebChain.{WebChain}
 
