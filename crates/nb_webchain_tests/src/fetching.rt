@@ -1,31 +1,25 @@
 //! What comes to an open by HTTP, what it sends, and how it ends.
 
-use crate::steps::{Row, SERVER, blank, brought, give_all, opened, segment};
-use nb_chains::Arrival;
+use crate::steps::{
+    Row, SERVER, blank, brought, close_it, give_all, give_from, moved, opened, outcome_of,
+    pass_times, segment, shut_it,
+};
 use nb_tcpseg::{ACK, FIN, PSH, RST, SYN};
-use nb_terms::Cause;
 use nb_wire::Ip4;
 use std::test::Fail;
 
 /// The server's SYN.
 const SYNS: Row<'static> = (0, SYN + ACK, b"");
 
-/// The segments of the client up to its request: its SYN, and once the server's has come the acknowledgement, and the request.
+/// The segments of the client up to its request: its SYN, and once the server's has come the acknowledgement, and the
+/// request.
 const ASKS: [u8; 3] = [SYN, ACK, PSH + ACK];
-
-/// The user's cause.
-const STOPPED: Cause = Cause {
-    code: 26,
-    a: 0,
-    b: 0,
-};
 
 /// The SYN leaves as try 1; once the server's has come its acknowledgement and the request leave together.
 #[test]
 fn asks(rt: HostRuntime) -> Result<(), Fail> {
     let mut tape = blank(&rt);
     let (mut graph, web) = opened(&rt, &mut tape)?;
-    assert_eq!(rt; tape.sent.as_slice(), [(3, 1)].as_slice());
     give_all(&rt, &mut graph, web, &[SYNS], &mut tape)?;
     assert_eq!(rt; tape.sent.as_slice(), [(3, 1), (9, 1)].as_slice());
     assert_eq!(rt; tape.flags.as_slice(), ASKS.as_slice());
@@ -57,17 +51,15 @@ fn brings_a_file(rt: HostRuntime) -> Result<(), Fail> {
         (0, PSH + ACK, b"HTTP/1.1 200 OK\r\n\r\nhello"),
     );
     for (first, second) in [told, (told.1, told.0), untold, (untold.1, untold.0), early] {
-        let mut tape = blank(&rt);
-        let (mut graph, web) = opened(&rt, &mut tape)?;
-        give_all(&rt, &mut graph, web, &[SYNS, first], &mut tape)?;
-        assert!(rt; tape.closed.is_empty(), "it goes on");
-        give_all(&rt, &mut graph, web, &[second], &mut tape)?;
+        let so_far = outcome_of(&rt, &[SYNS, first])?;
+        assert!(rt; so_far.closed.is_empty(), "it goes on");
+        let all = outcome_of(&rt, &[SYNS, first, second])?;
         assert_eq!(rt;
-            tape.closed.as_slice(),
+            all.closed.as_slice(),
             [(2, 0), (1, 0), (1, 0), (2, 0), (3, 0), (3, 0)].as_slice()
         );
-        assert_eq!(rt; tape.flags.as_slice().last(), Some(&(FIN + ACK)));
-        let body = brought(&rt, &mut graph, web)?.ok_or("nothing was brought")?;
+        assert_eq!(rt; all.last, Some(FIN + ACK));
+        let body = all.body.ok_or("nothing was brought")?;
         assert_eq!(rt; body.as_slice(), b"hello".as_slice());
     }
     Ok(())
@@ -83,17 +75,16 @@ fn is_elsewhere(rt: HostRuntime) -> Result<(), Fail> {
     );
     let mut tape = blank(&rt);
     let (mut graph, web) = opened(&rt, &mut tape)?;
-    assert_eq!(rt; web.moved(&graph), None);
+    assert_eq!(rt; moved(&graph, web), None);
     give_all(&rt, &mut graph, web, &[SYNS, moves], &mut tape)?;
-    assert_eq!(rt; web.moved(&graph), Some(b"http://b/c".as_slice()));
-    assert_eq!(rt; tape.flags.as_slice().last(), Some(&(RST + ACK)));
-    for (_object, code) in tape.closed.as_slice() {
-        assert_eq!(rt; *code, 0);
-    }
-    assert_eq!(rt; tape.closed.len(), 6);
+    assert_eq!(rt; moved(&graph, web), Some(b"http://b/c".as_slice()));
     assert!(rt;
         brought(&rt, &mut graph, web)?.is_none(),
         "a move is no file"
+    );
+    assert_eq!(rt;
+        tape.closed.as_slice(),
+        [(2, 0), (1, 0), (1, 0), (2, 0), (3, 0), (3, 0)].as_slice()
     );
     Ok(())
 }
@@ -121,17 +112,11 @@ fn ends_otherwise(rt: HostRuntime) -> Result<(), Fail> {
         ),
     ];
     for (row, expected) in rows {
-        let mut tape = blank(&rt);
-        let (mut graph, web) = opened(&rt, &mut tape)?;
-        give_all(&rt, &mut graph, web, &[SYNS, row], &mut tape)?;
-        assert_eq!(rt; tape.closed.len(), 6);
-        for (_object, code) in tape.closed.as_slice() {
-            assert_eq!(rt; *code, expected);
-        }
-        assert!(rt;
-            brought(&rt, &mut graph, web)?.is_none(),
-            "nothing was brought"
-        );
+        let outcome = outcome_of(&rt, &[SYNS, row])?;
+        let codes = outcome.closed.as_slice();
+        assert!(rt; codes.iter().all(|port| port.1 == expected), "one cause");
+        assert_eq!(rt; codes.len(), 6);
+        assert!(rt; outcome.body.is_none(), "nothing was brought");
     }
     Ok(())
 }
@@ -141,19 +126,14 @@ fn ends_otherwise(rt: HostRuntime) -> Result<(), Fail> {
 fn runs_out_of_time(rt: HostRuntime) -> Result<(), Fail> {
     let mut tape = blank(&rt);
     let (mut graph, web) = opened(&rt, &mut tape)?;
-    web.time(&mut graph, 249, &mut tape);
-    assert_eq!(rt; tape.sent.as_slice(), [(3, 1)].as_slice());
-    web.time(&mut graph, 250, &mut tape);
-    web.time(&mut graph, 750, &mut tape);
-    web.time(&mut graph, 1750, &mut tape);
-    web.time(&mut graph, 3750, &mut tape);
-    web.time(&mut graph, 7750, &mut tape);
+    let times = [249, 250, 750, 1750, 3750, 7750];
+    pass_times(&mut graph, web, &times, &mut tape);
     assert_eq!(rt;
         tape.sent.as_slice(),
         [(3, 1), (3, 2), (3, 3), (3, 4), (3, 5), (3, 6)].as_slice()
     );
     assert!(rt; tape.closed.is_empty(), "it goes on");
-    web.time(&mut graph, 15_750, &mut tape);
+    pass_times(&mut graph, web, &[15_750], &mut tape);
     assert_eq!(rt;
         tape.closed.as_slice(),
         [(3, 2), (2, 2), (2, 2), (1, 2), (1, 2), (3, 2)].as_slice()
@@ -168,12 +148,7 @@ fn ignores_others(rt: HostRuntime) -> Result<(), Fail> {
     for (port, source) in [(81, SERVER), (80, Ip4(SERVER.0 + 1))] {
         let mut tape = blank(&rt);
         let (mut graph, web) = opened(&rt, &mut tape)?;
-        let arrival = Arrival {
-            port,
-            source,
-            body: bytes.as_slice(),
-        };
-        web.message(&mut graph, 7, &arrival, 5, &mut tape);
+        give_from(&mut graph, web, port, source, bytes.as_slice(), &mut tape);
         assert_eq!(rt; tape.flags.as_slice(), [SYN].as_slice());
         assert!(rt; tape.closed.is_empty(), "it goes on");
     }
@@ -188,17 +163,21 @@ fn is_closed_from_above(rt: HostRuntime) -> Result<(), Fail> {
     let mut tape = blank(&rt);
     let (mut graph, web) = opened(&rt, &mut tape)?;
     give_all(&rt, &mut graph, web, &[SYNS, begins], &mut tape)?;
-    web.close(&mut graph, &STOPPED, 9, &mut tape);
+    close_it(&mut graph, web, 26, &mut tape);
     assert_eq!(rt;
         tape.closed.as_slice(),
         [(1, 26), (1, 26), (2, 26), (2, 26), (3, 26), (3, 26)].as_slice()
     );
     assert_eq!(rt; tape.flags.as_slice().last(), Some(&(RST + ACK)));
     assert!(rt; brought(&rt, &mut graph, web)?.is_none(), "it isn't whole");
+    Ok(())
+}
+
+/// At the end of a run all ports are closed, and nothing lives.
+#[test]
+fn is_shut_down(rt: HostRuntime) -> Result<(), Fail> {
     let mut tape = blank(&rt);
     let (mut graph, web) = opened(&rt, &mut tape)?;
-    web.shut_down(&mut graph, &STOPPED, 9, &mut tape);
-    assert_eq!(rt; tape.closed.len(), 12);
-    assert_eq!(rt; graph.live(), 0);
+    assert_eq!(rt; shut_it(&mut graph, web, &mut tape), (12, 0));
     Ok(())
 }

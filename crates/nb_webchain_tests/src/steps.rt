@@ -10,7 +10,7 @@ use nb_conns::ConnAsk;
 use nb_graph::{Graph, Msg, Outside, Port};
 use nb_nodes::Obj;
 use nb_tcpseg::{SYN, Segment};
-use nb_terms::Event;
+use nb_terms::{Cause, Event};
 use nb_webchains::WebChain;
 use nb_wire::{Ip4, Out};
 use std::test::Fail;
@@ -112,6 +112,26 @@ pub(crate) fn segment(rt: &HostRuntime, row: &Row<'_>) -> Result<Vec<u8>, Fail> 
     Ok(Vec::from_slice(rt.alloc(), out.written())?)
 }
 
+/// A segment comes, from this port of this host.
+pub(crate) fn give_from(
+    graph: &mut Graph<Obj>,
+    web: WebChain,
+    port: u16,
+    source: Ip4,
+    bytes: &[u8],
+    tape: &mut Tape,
+)
+    requires { AreChained graph.old (web_ids web) }
+    ensures { AreChained graph.new (web_ids web) }
+{
+    let arrival = Arrival {
+        port,
+        source,
+        body: bytes,
+    };
+    web.message(graph, 7, &arrival, 5, tape);
+}
+
 /// They come, from the server's port 80.
 pub(crate) fn give_all(
     rt: &HostRuntime,
@@ -125,14 +145,40 @@ pub(crate) fn give_all(
 {
     for row in rows {
         let bytes = segment(rt, row)?;
-        let arrival = Arrival {
-            port: 80,
-            source: SERVER,
-            body: bytes.as_slice(),
-        };
-        web.message(graph, 7, &arrival, 5, tape);
+        give_from(graph, web, 80, SERVER, bytes.as_slice(), tape);
     }
     Ok(())
+}
+
+/// Time comes to each of these, in milliseconds.
+pub(crate) fn pass_times(graph: &mut Graph<Obj>, web: WebChain, times: &[u64], tape: &mut Tape)
+    requires { AreChained graph.old (web_ids web) }
+    ensures { AreChained graph.new (web_ids web) }
+{
+    for now in times {
+        web.time(graph, *now, tape);
+    }
+}
+
+/// The user closes it, with this code.
+pub(crate) fn close_it(graph: &mut Graph<Obj>, web: WebChain, code: u8, tape: &mut Tape)
+    requires { AreChained graph.old (web_ids web) }
+    ensures { AreChained graph.new (web_ids web) }
+{
+    web.close(graph, &Cause { code, a: 0, b: 0 }, 9, tape);
+}
+
+/// The run ends: how many ports were closed, and how many objects live then.
+pub(crate) fn shut_it(graph: &mut Graph<Obj>, web: WebChain, tape: &mut Tape) -> (usize, usize)
+    requires { AreChained graph.old (web_ids web) }
+{
+    let stopped = Cause {
+        code: 26,
+        a: 0,
+        b: 0,
+    };
+    web.shut_down(graph, &stopped, 9, tape);
+    (tape.closed.len(), graph.live())
 }
 
 /// The bytes that it has brought, at most 65,536 of them, and none where it hasn't.
@@ -142,11 +188,38 @@ pub(crate) fn brought(
     web: WebChain,
 ) -> Result<Option<Vec<u8>>, Fail>
     requires { AreChained graph.old (web_ids web) }
-    ensures { IfOk result (λ _. AreChained graph.new (web_ids web)) }
 {
     let Some(body) = web.collect(graph) else {
         return Ok(None);
     };
     let page = body.page(0).unwrap_or(&[]);
     Ok(Some(Vec::from_slice(rt.alloc(), page)?))
+}
+
+/// The place of its file, where it has moved.
+pub(crate) fn moved(graph: &Graph<Obj>, web: WebChain) -> Option<&[u8]> {
+    web.moved(graph)
+}
+
+/// What came of these segments: the codes that ports were closed with, in order, with their objects; the bytes that were
+/// brought; and the flags of the last segment that left.
+#[derive(Drop)]
+pub(crate) struct Outcome {
+    pub(crate) closed: Vec<(u64, u8)>,
+    pub(crate) body: Option<Vec<u8>>,
+    pub(crate) last: Option<u8>,
+}
+
+/// They come to an open that was asked for.
+pub(crate) fn outcome_of(rt: &HostRuntime, rows: &[Row<'_>]) -> Result<Outcome, Fail> {
+    let mut tape = blank(rt);
+    let (mut graph, web) = opened(rt, &mut tape)?;
+    give_all(rt, &mut graph, web, rows, &mut tape)?;
+    let body = brought(rt, &mut graph, web)?;
+    let last = tape.flags.as_slice().last().copied();
+    Ok(Outcome {
+        closed: tape.closed,
+        body,
+        last,
+    })
 }
