@@ -72,25 +72,28 @@ module _ (ids : List ℕ) (now : ℕ) (asks : List (Stage Obj Load)) (g h : Obje
       let held : holds h.book x ≡ 1 = stay.0 ∙ was in
       record { held = held; lives = held-live h.book x (omega (arith, held)); freed = frees_none x (events_of (all_of k.deeds)) (subst (λ z. NotFreed x (events_of z)) (sym same) stay.1.0) }
 
-  pub chain_call : AreChained g ids → AreStagesWithin (is_one_of ids) asks → ArePlain asks → AreQuiet g.book.made asks → AreNoded rank_of_obj g → AreNoded rank_of_obj h → WentOne ObjStands obj_nature now asks g h m n → ChainCalled ids now asks g h m n
-  chain_call chained within plain quiet noded hosted k =
+  -- none of them makes another, and none is freed
+  pub own_call : AreChained g ids → AreStagesWithin (is_one_of ids) asks → ArePlain asks → AreQuiet g.book.made asks → (k : WentOne ObjStands obj_nature now asks g h m n) → IsOwnCall ids asks g h (all_of k.deeds)
+  own_call chained within plain quiet k =
       let after = after_it chained quiet k in
-      let makes : (x : ℕ) → is_one_of ids x ≡ true → MakesNone x (all_of k.deeds) = λ x o.
-      let t = chained.stands x o in
-      makes_none x t.0 (all_of k.deeds) (stood obj_nature ObjStands (node_at g) (node_at h) x t.0 (all_of k.deeds) (λ i e. (t.1 i e).0) k.hosts (k.suits x t.0 t.1)) in
-      let own : IsOwnCall ids asks g h (all_of k.deeds) = record {
+      record {
         links = chained.links;
         within = within;
         plain = plain;
         given = chained.given;
         lives = chained.lives;
         stays = λ x o. (after x o).lives;
-        makes = makes;
+        makes = λ x o. let t = chained.stands x o in makes_none x t.0 (all_of k.deeds) (stood obj_nature ObjStands (node_at g) (node_at h) x t.0 (all_of k.deeds) (λ i e. (t.1 i e).0) k.hosts (k.suits x t.0 t.1));
         frees = λ x o. (after x o).freed;
-      } in
+      }
+
+  pub chain_call : AreChained g ids → AreStagesWithin (is_one_of ids) asks → ArePlain asks → AreQuiet g.book.made asks → AreNoded rank_of_obj g → AreNoded rank_of_obj h → WentOne ObjStands obj_nature now asks g h m n → ChainCalled ids now asks g h m n
+  chain_call chained within plain quiet noded hosted k =
+      let after = after_it chained quiet k in
+      let own = own_call chained within plain quiet k in
       let z : GoesAlone ObjStands obj_nature ids now asks g h m n (all_of k.deeds) = goes_alone obj_nature ObjStands rank_of_obj ids now asks g h m n noded hosted k own in
-      let others : KeepsOthers (is_one_of ids) g h = others_stay obj_nature ObjStands now asks g h m n (is_one_of ids) within chained.links k makes in
-      let theirs = deeds_within obj_nature ObjStands now asks g h m n (is_one_of ids) within chained.links k makes in
+      let others : KeepsOthers (is_one_of ids) g h = others_stay obj_nature ObjStands now asks g h m n (is_one_of ids) within chained.links k own.makes in
+      let theirs = deeds_within obj_nature ObjStands now asks g h m n (is_one_of ids) within chained.links k own.makes in
       record {
         ns = told_of (all_of k.deeds);
         alone = λ front. known_call ObjStands obj_nature now asks (graph_of ids g) (graph_of ids h) m n z.went front (told_of (all_of k.deeds)) (ap told_of z.same);

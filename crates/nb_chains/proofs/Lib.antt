@@ -1,3 +1,4 @@
+pub mod StreamMakes
 pub mod NoMakes
 pub mod GivingLemmas
 pub mod ShapesOf

@@ -1,6 +1,7 @@
 -- No object of an open asks for a make.
-use Rattle.std.proofs.Common.{◌≡◌, ℕ, Bool, true, false, not, List, [], ◌∷◌, ◌++◌}
-use Rattle.nb_graph.specs.Trace.{NodeEntry, up, down, closed, time, regain}
+use Rattle.std.proofs.Common.{◌≡◌, ℕ, Bool, true, false, not, List, [], ◌∷◌, ◌++◌, None}
+use Rattle.nb_graph.specs.declared.effects.Fx.{Fx}
+use Rattle.nb_graph.specs.Trace.{Said, NodeEntry, up, down, closed, time, regain}
 use Rattle.nb_graph.specs.Deeds.{Deed, writes, begins, calls, turns, trace_after}
 use Rattle.nb_graph.specs.Hosts.{Stood}
 use Rattle.nb_frames.specs.Within.{AsksNoMake, MakesNone}
@@ -9,8 +10,9 @@ use Rattle.nb_nodes.specs.declared.obj.Obj.{Obj}
 use Rattle.nb_nodes.specs.declared.obj.Obj.TheVariants as obj
 use Rattle.nb_nodes.specs.Conversations.{Conversation, Continues, RunsTo, begins as it_begins, receives, ticks, ends, rests, AsksOfIdle}
 use Rattle.nb_nodes.specs.Exchanges.{Service, AskerState, AskerTakes, AskerLeadsTo, is_begun, takes_message, takes_time, is_ended, stays_idle}
-use Rattle.nb_nodes.specs.Fetches.{EachOf, AsksOfFetch}
+use Rattle.nb_nodes.specs.Fetches.{EachOf, AsksOfFetch, AsksOfUp, brings_move}
 use Rattle.nb_nodes.specs.Standing.{ObjStands}
+use Rattle.nb_chains.proofs.StreamMakes.{web_last, conn_last}
 
 false_not : (b : Bool) → not b ≡ true → b ≡ true → ⊥
 false_not true h e = let z = h in cc
@@ -20,8 +22,12 @@ each_last : (t before : List (NodeEntry Obj Load)) (e : NodeEntry Obj Load) → 
 each_last [] before e h = (before, h.0)
 each_last (d ∷ t) before e h = each_last t (before ++ d ∷ []) e h.1
 
+up_makes : (move going : Bool) (before slot : ℕ) (m : Said) (fx : Fx Obj Load) → AsksOfUp move going before slot m fx → fx.makes ≡ None
+up_makes true going before slot m fx h = h.sends.no_make
+up_makes false going before slot m fx h = h.sends.no_make
+
 fetch_makes : (before : List (NodeEntry Obj Load)) (e : NodeEntry Obj Load) → AsksOfFetch before e → AsksNoMake e
-fetch_makes before (up slot m now done fx) h = λ d. (h d).sends.no_make
+fetch_makes before (up slot m now done fx) h = λ d. up_makes (brings_move slot m) _ _ slot m fx (h d)
 fetch_makes before (down m now done fx) h = λ d. (h d).no_make
 fetch_makes before (closed slot c now fx) h = h.0.no_make
 fetch_makes before (time now done fx) h = λ d. h.0.no_make
@@ -70,6 +76,8 @@ obj_makes (obj.Tftp p) t e h = runs_last t e _ h.conversation h.run
 obj_makes (obj.Resolver r) t e h = leads_last _ t e _ h.exchange h.run
 obj_makes (obj.Dhcp d) t e h = leads_last _ t e _ h.exchange h.run
 obj_makes (obj.Ping p) t e h = leads_last _ t e _ h.exchange h.run
+obj_makes (obj.Http p) t e h = web_last _ t e _ h.talk h.run
+obj_makes (obj.Tcp p) t e h = conn_last _ t e _ h.dialogue h.run
 
 -- so none of its entries does
 pub makes_none : (x : ℕ) (t : List (NodeEntry Obj Load)) (ds : List (Deed Obj Load)) → Stood ObjStands x t ds → MakesNone x ds

@@ -11,7 +11,7 @@ use Rattle.nb_chains.specs.declared.chain.Chain.{Chain}
 use Rattle.nb_chains.specs.Chains.{AreChained, AreOthers, AreStillChained, GrowsBy, IsReleased, StaysChained, chain_ids}
 
 -- objects that stay as they are stay chained
-stays : (others : List ℕ) (g h : Objects Obj) → AreNoded rank_of_obj h → AreChained g others → ((x : ℕ) → is_one_of others x ≡ true → KeepsObject g h x) → g.book.made ≤ h.book.made → StaysChained others g h
+pub stays : (others : List ℕ) (g h : Objects Obj) → AreNoded rank_of_obj h → AreChained g others → ((x : ℕ) → is_one_of others x ≡ true → KeepsObject g h x) → g.book.made ≤ h.book.made → StaysChained others g h
 stays others g h noded c kept later = record {
   chained = record {
     given = λ x o. let i = c.given x o in omega (arith, i, later);

@@ -264,6 +264,8 @@ fn body_in(load: Option<Load>) -> Option<Body>
     match load {
         Some(Load::Body(body)) => Some(body),
         Some(Load::Datagram(_)) => None,
+        Some(Load::Conn(_)) => None,
+        Some(Load::Text(_)) => None,
         None => None,
     }
 }

@@ -1,7 +1,7 @@
--- What a Fetch has gathered over its trace, and what it asks for: our own.
+-- What a Fetch has gathered over its trace, or where its file is instead, and what it asks for: our own.
 use Rattle.std.specs.Prelude.{◌≡◌, ◌<◌, ◌≤◌, ◌^◌, ◌+◌, ◌-◌, ℕ, ◌==◌, ◌&&◌, ◌||◌, Bool, true, false, not, List, [], ◌∷◌, ◌++◌, length, min, nat_lt, Option, Some, None, if◌then◌else◌}
 use Rattle.std.specs.List.{flat_map, find}
-use Rattle.std.specs.Option.{option_map_or, is_none}
+use Rattle.std.specs.Option.{option_map_or, option_and_then, is_none}
 use Rattle.nb_terms.specs.declared.cause.Cause.{Cause}
 use Rattle.nb_terms.specs.declared.reason.Large.TheVariants as large
 use Rattle.nb_terms.specs.declared.reason.Plain.TheVariants as plain
@@ -12,7 +12,7 @@ use Rattle.nb_graph.specs.declared.effects.Fx.{Fx}
 use Rattle.nb_graph.specs.Trace.{Said, NodeEntry, up, down, closed, time, regain}
 use Rattle.nb_graph.specs.Accounts.{taken_by}
 use Rattle.nb_nodes.specs.declared.fetch.Fetch.{Fetch}
-use Rattle.nb_nodes.specs.declared.fetch.Fetch.TheVariants.{Gathering, Whole, HandedOut, Failed}
+use Rattle.nb_nodes.specs.declared.fetch.Fetch.TheVariants.{Gathering, Whole, HandedOut, Moved, Failed}
 use Rattle.nb_nodes.specs.declared.fetch.Gathered.{Gathered}
 use Rattle.nb_nodes.specs.declared.fetch.Gathered.TheVariants.{Taken, TooLarge, Ended, NoMemory}
 use Rattle.nb_nodes.specs.declared.load.Load.{Load}
@@ -22,32 +22,50 @@ use Rattle.nb_nodes.specs.declared.tag.Tag.TheVariants.{Begin}
 use Rattle.nb_nodes.specs.Tags.{tag_number}
 use Rattle.nb_nodes.specs.Carried.{CarriesNothing, AsksNone, both_closes}
 
--- the causes that a Fetch itself closes with: a body is too large, and its end has come already
+-- the causes that a Fetch itself closes with: a body is too large, its file is elsewhere, and its end has come already
 abbrev pub body_too_large : Cause
 body_too_large = as_cause (reason.TooLarge large.Image)
+
+abbrev pub moved_cause : Cause
+moved_cause = as_cause (reason.Plain plain.Ok)
 
 abbrev pub stop_cause : Cause
 stop_cause = as_cause (reason.Plain plain.Stopped)
 
 abbrev pub is_gathering : Fetch → Bool
-is_gathering (Gathering body) = true
+is_gathering (Gathering body alloc) = true
 is_gathering (Whole body) = false
 is_gathering HandedOut = false
+is_gathering (Moved text) = false
 is_gathering Failed = false
 
 -- its body is whole, or was and is handed out
 abbrev pub is_complete : Fetch → Bool
-is_complete (Gathering body) = false
+is_complete (Gathering body alloc) = false
 is_complete (Whole body) = true
 is_complete HandedOut = true
+is_complete (Moved text) = false
 is_complete Failed = false
 
 -- its body, while it has one, is this
 abbrev pub HasBody : Fetch → List ℕ → Type 0
-HasBody (Gathering body) bytes = body ≡ bytes
+HasBody (Gathering body alloc) bytes = body ≡ bytes
 HasBody (Whole body) bytes = body ≡ bytes
 HasBody HandedOut bytes = Unit {0}
+HasBody (Moved text) bytes = Unit {0}
 HasBody Failed bytes = Unit {0}
+
+-- the URI of its file where that is elsewhere
+abbrev pub moved_text : Fetch → Option (List ℕ)
+moved_text (Gathering body alloc) = None
+moved_text (Whole body) = None
+moved_text HandedOut = None
+moved_text (Moved text) = Some text
+moved_text Failed = None
+
+-- a message from below has the text of a move
+abbrev pub brings_move : ℕ → Said → Bool
+brings_move slot m = (slot == 1) && (m.tag == 10)
 
 -- nothing is gathered after it: the port above or below was closed, it asks to close one, or it ran out of memory
 abbrev pub ends_fetch : NodeEntry Obj Load → Bool
@@ -71,6 +89,17 @@ is_ok_close (regain load) = false
 
 abbrev pub closed_well : List (NodeEntry Obj Load) → Bool
 closed_well t = option_map_or is_ok_close (first_end t) false
+
+-- it is a move, with this text
+abbrev pub moved_by : NodeEntry Obj Load → Option (List ℕ)
+moved_by (up slot m now done fx) = if done && brings_move slot m then Some m.bytes else None
+moved_by (down m now done fx) = None
+moved_by (closed slot cause now fx) = None
+moved_by (time now done fx) = None
+moved_by (regain load) = None
+
+abbrev pub moved_in : List (NodeEntry Obj Load) → Option (List ℕ)
+moved_in t = option_and_then moved_by (first_end t)
 
 -- nothing has ended it
 abbrev pub gathers : List (NodeEntry Obj Load) → Bool
@@ -111,11 +140,26 @@ up_closes going slot before len = if slot == 1 then closes_below going (before +
 abbrev pub up_takes : Bool → ℕ → ℕ → ℕ → ℕ
 up_takes going slot before len = if slot == 1 then takes_below going before len else min len 4294967295
 
--- what an entry asks for, by those before it
+-- what an entry by bytes from below asks for, by those before it
 pub record AsksUp (going : Bool) (before slot len : ℕ) (fx : Fx Obj Load) : Type 0 where
   pub sends : CarriesNothing fx
   pub closes : fx.closes.items ≡ up_closes going slot before len
   pub takes : fx.took ≡ up_takes going slot before len
+
+-- Where it gathers, a move is taken whole, and both ports are closed with Ok: the file isn't there, and that is its end. Else
+-- its port is closed, as by bytes.
+abbrev pub move_closes : Bool → List (ℕ × Cause)
+move_closes going = if going then both_closes moved_cause else (1, stop_cause) ∷ []
+
+pub record AsksMove (going : Bool) (len : ℕ) (fx : Fx Obj Load) : Type 0 where
+  pub sends : CarriesNothing fx
+  pub closes : fx.closes.items ≡ move_closes going
+  pub takes : fx.took ≡ (if going then len else 0)
+
+-- what a message from below asks for: a move, or bytes
+abbrev pub AsksOfUp : Bool → Bool → ℕ → ℕ → Said → Fx Obj Load → Type 0
+AsksOfUp true going before slot m fx = AsksMove going (length m.bytes) fx
+AsksOfUp false going before slot m fx = AsksUp going before slot (length m.bytes) fx
 
 pub record AsksHandDown (going : Bool) (m : Said) (fx : Fx Obj Load) : Type 0 where
   pub no_make : fx.makes ≡ None
@@ -126,7 +170,7 @@ pub record AsksHandDown (going : Bool) (m : Said) (fx : Fx Obj Load) : Type 0 wh
   pub no_close : fx.closes.items ≡ []
 
 abbrev pub AsksOfFetch : List (NodeEntry Obj Load) → NodeEntry Obj Load → Type 0
-AsksOfFetch before (up slot m now done fx) = done ≡ true → AsksUp (gathers before) (length (taken_below before)) slot (length m.bytes) fx
+AsksOfFetch before (up slot m now done fx) = done ≡ true → AsksOfUp (brings_move slot m) (gathers before) (length (taken_below before)) slot m fx
 AsksOfFetch before (down m now done fx) = done ≡ true → AsksHandDown (gathers before) m fx
 AsksOfFetch before (closed slot cause now fx) = CarriesNothing fx × (fx.closes.items ≡ passed_close (gathers before) slot cause)
 AsksOfFetch before (time now done fx) = AsksNone fx
@@ -138,45 +182,61 @@ EachOf P before [] = Unit {0}
 EachOf P before (e ∷ t) = P before e × EachOf P (before ++ e ∷ []) t
 
 -- What a Fetch stands for: its body is what it took by slot 1; it gathers until something ends it, and its body is
--- whole, or was, exactly where slot 1 was closed with Ok before anything else did.
+-- whole, or was, exactly where slot 1 was closed with Ok before anything else did. Where a move did, it has the text of that.
 pub record FetchStands (f : Fetch) (t : List (NodeEntry Obj Load)) : Type 0 where
   pub body : HasBody f (taken_below t)
   pub gathering : is_gathering f ≡ gathers t
   pub whole : is_complete f ≡ closed_well t
+  pub moved : moved_text f ≡ moved_in t
   pub asks : EachOf AsksOfFetch [] t
 
 -- a whole body is handed out once
 abbrev pub FetchHarvests : Fetch → Option Load → Fetch → Type 0
-FetchHarvests (Gathering body) r new = (r ≡ None) × (new ≡ Gathering body)
+FetchHarvests (Gathering body alloc) r new = (r ≡ None) × (new ≡ Gathering body alloc)
 FetchHarvests (Whole body) r new = (r ≡ Some (load.Body body)) × (new ≡ HandedOut)
 FetchHarvests HandedOut r new = (r ≡ None) × (new ≡ HandedOut)
+FetchHarvests (Moved text) r new = (r ≡ None) × (new ≡ Moved text)
 FetchHarvests Failed r new = (r ≡ None) × (new ≡ Failed)
 
--- after a message from below, after a close, each as code
+-- after bytes from below, after a move, after either, and after a close, each as code
 abbrev pub after_bytes_up : Fetch → ℕ → List ℕ → Fetch
-after_bytes_up (Gathering body) slot bytes = if slot == 1 then (if nat_lt 268435456 (length body + length bytes) then Failed else Gathering (body ++ bytes)) else Gathering body
+after_bytes_up (Gathering body alloc) slot bytes = if slot == 1 then (if nat_lt 268435456 (length body + length bytes) then Failed else Gathering (body ++ bytes) alloc) else Gathering body alloc
 after_bytes_up (Whole body) slot bytes = Whole body
 after_bytes_up HandedOut slot bytes = HandedOut
+after_bytes_up (Moved text) slot bytes = Moved text
 after_bytes_up Failed slot bytes = Failed
 
+abbrev pub after_move : Fetch → List ℕ → Fetch
+after_move (Gathering body alloc) bytes = Moved bytes
+after_move (Whole body) bytes = Whole body
+after_move HandedOut bytes = HandedOut
+after_move (Moved text) bytes = Moved text
+after_move Failed bytes = Failed
+
+abbrev pub after_up : Fetch → ℕ → Said → Fetch
+after_up f slot m = if brings_move slot m then after_move f m.bytes else after_bytes_up f slot m.bytes
+
 abbrev pub after_closing : Fetch → ℕ → Cause → Fetch
-after_closing (Gathering body) slot cause = if nat_lt slot 2 then (if (slot == 1) && (cause.code == 0) then Whole body else Failed) else Gathering body
+after_closing (Gathering body alloc) slot cause = if nat_lt slot 2 then (if (slot == 1) && (cause.code == 0) then Whole body else Failed) else Gathering body alloc
 after_closing (Whole body) slot cause = Whole body
 after_closing HandedOut slot cause = HandedOut
+after_closing (Moved text) slot cause = Moved text
 after_closing Failed slot cause = Failed
 
 -- how many bytes its body has, 0 where it has none
 abbrev pub gathered_len : Fetch → ℕ
-gathered_len (Gathering body) = length body
+gathered_len (Gathering body alloc) = length body
 gathered_len (Whole body) = length body
 gathered_len HandedOut = 0
+gathered_len (Moved text) = 0
 gathered_len Failed = 0
 
 -- at an end, with Ok or not
 abbrev pub ended_fetch : Fetch → Bool → Fetch
-ended_fetch (Gathering body) well = if well then Whole body else Failed
+ended_fetch (Gathering body alloc) well = if well then Whole body else Failed
 ended_fetch (Whole body) well = Failed
 ended_fetch HandedOut well = Failed
+ended_fetch (Moved text) well = Failed
 ended_fetch Failed well = Failed
 
 -- what became of bytes from below, and of the Fetch

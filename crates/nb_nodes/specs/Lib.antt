@@ -1,6 +1,7 @@
 pub mod Tags
 pub mod Asking
 pub mod Objects
+pub mod Carriers
 pub mod Carried
 pub mod Conversations
 pub mod Fetches

@@ -179,6 +179,8 @@ impl<C: Core> Asker<C> {
             // While it was lent, nothing stood here that is to be dropped.
             Load::Datagram(acts) => mem::forget(mem::replace(&mut self.acts, Some(acts))),
             Load::Body(_) => {}
+            Load::Conn(_) => {}
+            Load::Text(_) => {}
         }
     }
 

@@ -1,38 +1,44 @@
-ghost use Rattle.std.specs.Prelude.{◌≡◌, ◌+◌, ◌++◌, ◌<◌, ◌≤◌, ◌==◌, ◌&&◌, ℕ, [], length, OnOk, OnErr, IsErrOf, is_none};
+ghost use Rattle.std.specs.Prelude.{◌≡◌, ◌+◌, ◌++◌, ◌<◌, ◌≤◌, ◌==◌, ◌&&◌, ℕ, [], length, OnOk, OnErr, IfOk, IsErrOf, is_none};
+ghost use Rattle.std.specs.Option.{option_map};
 ghost use Rattle.std.specs.Prelude.{true, false, nat_lt};
 ghost use Rattle.nb_graph.specs.Trace.{said};
 ghost use Rattle.nb_graph.specs.Effects.{IsNothing};
 ghost use Rattle.nb_nodes.specs.declared.fetch.Fetch.TheVariants as fetch;
 ghost use Rattle.nb_nodes.specs.Carried.{AsksNone, CarriesNothing, AsksWithin};
 ghost use Rattle.nb_nodes.specs.Fetches.{FetchStands, FetchHarvests, is_gathering};
-ghost use Rattle.nb_nodes.specs.Fetches.{after_bytes_up, after_closing, passed_close, gathered_len};
-ghost use Rattle.nb_nodes.specs.Fetches.{AsksUp, AsksHandDown, is_handed_down, ended_fetch, GathersBytes};
-ghost use Rattle.nb_nodes.specs.Fetches.{body_too_large, stop_cause};
+ghost use Rattle.nb_nodes.specs.Fetches.{after_closing, passed_close, gathered_len};
+ghost use Rattle.nb_nodes.specs.Fetches.{AsksHandDown, is_handed_down, ended_fetch, GathersBytes};
+ghost use Rattle.nb_nodes.specs.Fetches.{body_too_large, stop_cause, moved_cause, move_closes};
+ghost use Rattle.nb_nodes.specs.Fetches.{AsksMove, AsksOfUp, after_move, after_up, brings_move, moved_text};
 ghost use Rattle.nb_nodes.specs.Carried.{both_closes};
 ghost use Rattle.nb_image.specs.declared.error.PushError.TheVariants as PushError;
 ghost use Rattle.std.specs.Prelude.{◌∷◌};
 
 use crate::Load;
-use crate::carrying::{BELOW, Effects, close_both, length_of};
+use crate::carrying::{BELOW, Effects, close_both, joined, length_of};
 use crate::tag::{Tag, is_tag};
 use nb_graph::{Emit, Msg};
 use nb_image::{Body, PushError};
 use nb_terms::{Cause, Large, NoMemory, Plain, Reason};
+use nb_webnodes::MOVED;
+use nb_wire::Text;
 use std::alloc::Global;
 use std::mem;
 
 /// The code of Ok.
 const OK: u8 = 0;
 
-/// A file that comes up by slot 1, gathered for the user above slot 0.
+/// A file that comes up by slot 1, gathered for the user above slot 0, or the URI where it is instead.
 #[derive(Drop)]
 pub enum Fetch {
-    /// These bytes have come.
-    Gathering(Body),
+    /// These bytes have come. A move's text takes its memory from the allocator.
+    Gathering(Body, Global),
     /// The port below was closed with Ok: they are all.
     Whole(Body),
     /// They were all, and are handed out.
     HandedOut,
+    /// A move came: the file is at this URI.
+    Moved(Text),
     /// A port was closed otherwise, the body is too large, or memory ran out.
     Failed,
 }
@@ -50,9 +56,9 @@ impl Fetch {
     /// A Fetch of which nothing has come.
     pub fn new(alloc: Global) -> Fetch
         ensures stands { FetchStands result [] }
-        ensures value { result ≡ fetch.Gathering [] }
+        ensures value { result ≡ fetch.Gathering [] alloc }
     {
-        Fetch::Gathering(Body::new(alloc))
+        Fetch::Gathering(Body::new(alloc), alloc)
     }
 
     /// Whether more may come.
@@ -60,15 +66,29 @@ impl Fetch {
         ensures { result ≡ is_gathering self.now }
     {
         match self {
-            Fetch::Gathering(_) => true,
+            Fetch::Gathering(_, _) => true,
             Fetch::Whole(_) => false,
             Fetch::HandedOut => false,
+            Fetch::Moved(_) => false,
             Fetch::Failed => false,
         }
     }
 
-    /// A message from below: by slot 1 its bytes are the file's. A body of more than 268,435,456 bytes
-    /// closes both ports with TooLarge.
+    /// The URI that the file is at instead, where a move ended it.
+    pub fn moved(&self) -> Option<&[u8]>
+        ensures { option_map (λ text. text.now) result ≡ moved_text self.now }
+    {
+        match self {
+            Fetch::Gathering(_, _) => None,
+            Fetch::Whole(_) => None,
+            Fetch::HandedOut => None,
+            Fetch::Moved(text) => Some(text.as_slice()),
+            Fetch::Failed => None,
+        }
+    }
+
+    /// A message from below: by slot 1 its bytes are the file's, or a move. A body of more than 268,435,456 bytes
+    /// closes both ports with TooLarge, and a move with Ok.
     #[inline(always)]
     pub(crate) fn on_up(
         &mut self,
@@ -77,8 +97,8 @@ impl Fetch {
         fx: &mut Effects,
     ) -> Result<(), NoMemory>
         requires { IsNothing fx.old }
-        ensures asks { OnOk result (AsksUp (is_gathering self.old) (gathered_len self.old) slot (length (said msg.now).bytes) fx.new) }
-        ensures after { OnOk result (self.new ≡ after_bytes_up self.old slot (said msg.now).bytes) }
+        ensures asks { OnOk result (AsksOfUp (brings_move slot (said msg.now)) (is_gathering self.old) (gathered_len self.old) slot (said msg.now) fx.new) }
+        ensures after { OnOk result (self.new ≡ after_up self.old slot (said msg.now)) }
         ensures failed { OnErr result ((is_gathering self.old ≡ true) × (self.new ≡ fetch.Failed)) }
         ensures silent { CarriesNothing fx.new }
         ensures within { (len : ℕ) → AsksWithin len fx.new }
@@ -87,6 +107,9 @@ impl Fetch {
         if slot != BELOW {
             fx.took = length_of(msg);
             return Ok(());
+        }
+        if msg.tag == MOVED {
+            return self.go_elsewhere(msg, fx);
         }
         match self.gather(msg) {
             Gathered::Taken(length) => {
@@ -105,12 +128,41 @@ impl Fetch {
         }
     }
 
+    /// A move comes. Not inlined, as it is rare.
+    #[inline(never)]
+    fn go_elsewhere(&mut self, msg: &Msg<'_>, fx: &mut Effects) -> Result<(), NoMemory>
+        requires { IsNothing fx.old }
+        ensures asks { OnOk result (AsksMove (is_gathering self.old) (length (said msg.now).bytes) fx.new) }
+        ensures after { OnOk result (self.new ≡ after_move self.old (said msg.now).bytes) }
+        ensures failed { OnErr result ((is_gathering self.old ≡ true) × (self.new ≡ fetch.Failed)) }
+        ensures silent { CarriesNothing fx.new }
+        ensures within { (len : ℕ) → AsksWithin len fx.new }
+        ensures took { fx.new.took ≤ length msg.now.first.now + length msg.now.second.now }
+    {
+        let Fetch::Gathering(_, alloc) = self else {
+            stop(fx);
+            return Ok(());
+        };
+        match text_of(*alloc, msg) {
+            Ok(text) => {
+                fx.took = length_of(msg);
+                close_both(Cause::from(Reason::Plain(Plain::Ok)), fx);
+                *self = Fetch::Moved(text);
+                Ok(())
+            }
+            Err(_) => {
+                *self = Fetch::Failed;
+                Err(NoMemory)
+            }
+        }
+    }
+
     /// Appends the bytes of a message.
     #[inline(always)]
     fn gather(&mut self, msg: &Msg<'_>) -> Gathered
         ensures { GathersBytes self.old (said msg.now).bytes result self.new }
     {
-        let Fetch::Gathering(body) = self else {
+        let Fetch::Gathering(body, _) = self else {
             return Gathered::Ended;
         };
         match push_both(body, msg.first, msg.second) {
@@ -164,7 +216,7 @@ impl Fetch {
         ensures { self.new ≡ ended_fetch self.old well }
     {
         match mem::replace(self, Fetch::Failed) {
-            Fetch::Gathering(body) if well => *self = Fetch::Whole(body),
+            Fetch::Gathering(body, _) if well => *self = Fetch::Whole(body),
             _ => {}
         }
     }
@@ -200,6 +252,17 @@ fn stop(fx: &mut Effects)
 {
     fx.closes
         .push((BELOW, Cause::from(Reason::Plain(Plain::Stopped))));
+}
+
+/// The bytes of a message, as a text. More than 4,294,967,295 of them are refused as if memory ran out.
+fn text_of(alloc: Global, msg: &Msg<'_>) -> Result<Text, NoMemory>
+    ensures value { IfOk result (λ text. text ≡ (said msg.now).bytes) }
+    ensures fits { IfOk result (λ _. length msg.now.first.now + length msg.now.second.now ≤ 4294967295) }
+{
+    if msg.first.len() + msg.second.len() > u32::MAX as usize {
+        return Err(NoMemory);
+    }
+    Ok(Text::from_vec(joined(alloc, msg)?))
 }
 
 /// Appends both parts, or stops at the first that isn't taken.

@@ -1,10 +1,9 @@
-// The objects of opens, as nodes of nb_graph: a Fetch gathers a file, and a Tftp plugged below it
-// carries the transfer (RFC 1350); a Resolver looks a name up (RFC 1035), a Dhcp asks for a lease
-// (RFC 2131), and a Ping for an echo (RFC 792). These three are one `Asker`, each over its `Core`.
-// What each has done is said over its trace: of a Tftp in terms of nb_tftp's history
-// (specs/Conversations.antt), of a Fetch in terms of what it took (specs/Fetches.antt), of an Asker
-// in terms of its core's history (specs/Exchanges.antt). Streams and drives are left out. Begin with
-// `Obj`, then `Tag`.
+// The objects of opens, as nodes of nb_graph: a Fetch gathers a file, and a Tftp plugged below it carries the transfer
+// (RFC 1350), or an Http (RFC 9112) with a Tcp below it (RFC 9293), which are those of nb_webnodes and nb_conns; a
+// Resolver looks a name up (RFC 1035), a Dhcp asks for a lease (RFC 2131), and a Ping for an echo (RFC 792). These three
+// are one `Asker`, each over its `Core`. What each has done is said over its trace: of a Tftp in terms of nb_tftp's
+// history (specs/Conversations.antt), of a Fetch in terms of what it took (specs/Fetches.antt), of an Asker in terms of
+// its core's history (specs/Exchanges.antt). Drives are left out. Begin with `Obj`, then `Tag`.
 #![tactic(auto)]
 
 mod ask;

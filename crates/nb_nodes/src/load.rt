@@ -1,9 +1,13 @@
-ghost use Rattle.std.specs.Prelude.{◌≡◌};
+ghost use Rattle.std.specs.Prelude.{◌≡◌, refl};
 ghost use Rattle.nb_nodes.specs.Objects.{first_body, first_part, second_part};
+ghost use Rattle.nb_nodes.specs.Carriers.{conn_carrier, web_carrier};
 
+use nb_conns::{CarriesConn, ConnLoad};
 use nb_graph::Parts;
 use nb_image::Body;
 use nb_terms::{Acts, SendTo};
+use nb_webnodes::CarriesWeb;
+use nb_wire::Text;
 
 /// What a message of an open's objects carries, or a harvest.
 #[derive(Drop)]
@@ -14,6 +18,10 @@ pub enum Load {
     /// The datagram that a transfer sends, lent from what the transfer fills: its bytes are the body
     /// of the first message.
     Datagram(Box<Acts>),
+    /// What a connection lends: its segments, or the bytes that go up.
+    Conn(ConnLoad),
+    /// A text of a fetch by HTTP: its request, bytes of a body that it gathered, or a move.
+    Text(Text),
 }
 
 impl Parts for Load {
@@ -25,6 +33,46 @@ impl Parts for Load {
         match self {
             Load::Body(_) => (&[], &[]),
             Load::Datagram(acts) => (first_body(acts.sends.as_slice()), &[]),
+            Load::Conn(load) => load.parts(),
+            Load::Text(text) => (text.as_slice(), &[]),
+        }
+    }
+}
+
+impl CarriesConn for Load {
+    ghost carrier = { conn_carrier };
+
+    ghost in_parts = { λ load. refl };
+
+    fn carry(load: ConnLoad) -> Load {
+        Load::Conn(load)
+    }
+
+    fn conn_load(self) -> Option<ConnLoad> {
+        match self {
+            Load::Body(_) => None,
+            Load::Datagram(_) => None,
+            Load::Conn(load) => Some(load),
+            Load::Text(_) => None,
+        }
+    }
+}
+
+impl CarriesWeb for Load {
+    ghost web = { web_carrier };
+
+    ghost web_parts = { λ load. refl };
+
+    fn carry_text(text: Text) -> Load {
+        Load::Text(text)
+    }
+
+    fn into_text(self) -> Option<Text> {
+        match self {
+            Load::Body(_) => None,
+            Load::Datagram(_) => None,
+            Load::Conn(_) => None,
+            Load::Text(text) => Some(text),
         }
     }
 }

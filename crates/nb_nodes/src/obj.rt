@@ -1,14 +1,16 @@
 ghost use Rattle.std.specs.Prelude.{◌≡◌, ◌++◌, ◌∷◌, [], IfOk, List};
-ghost use Rattle.nb_graph.specs.Trace.{NodeEntry, regain};
+ghost use Rattle.nb_graph.specs.Trace.{NodeEntry, regain, LacksLoad};
 ghost use Rattle.nb_nodes.specs.Objects.{kind_of_obj, mark_of_obj, rank_of_obj};
 ghost use Rattle.nb_nodes.specs.Standing.{ObjStands, ObjHarvests};
 
 use crate::{Asker, Fetch, Load, Tftp};
+use nb_conns::Tcp;
 use nb_dhcp::Dhcp;
 use nb_dns::Dns;
 use nb_graph::{Fx, Msg, Node};
 use nb_ping::Ping;
 use nb_terms::{Cause, NoMemory};
+use nb_webnodes::Web;
 use std::alloc::Global;
 
 /// An object of an open, as a node of the graph. A kind with much of its own is boxed.
@@ -19,6 +21,8 @@ pub enum Obj {
     Resolver(Box<Asker<Dns>>),
     Dhcp(Box<Asker<Dhcp>>),
     Ping(Box<Asker<Ping>>),
+    Http(Box<Web>),
+    Tcp(Box<Tcp>),
 }
 
 impl Obj {
@@ -69,13 +73,37 @@ impl Obj {
         Ok(Obj::Ping(Box::new(alloc, Asker::new(alloc)?)?))
     }
 
+    /// An Http that waits for what to ask for.
+    pub fn http(alloc: Global) -> Result<Obj, NoMemory>
+        ensures stands { IfOk result (λ o. ObjStands o []) }
+        ensures rank { IfOk result (λ o. rank_of_obj o ≡ 3) }
+        ensures kind { IfOk result (λ o. kind_of_obj o ≡ 2) }
+        ensures mark { IfOk result (λ o. mark_of_obj o ≡ 2) }
+    {
+        let waiting = Web::new(alloc)?;
+        let web = Box::new(alloc, waiting)?;
+        Ok(Obj::Http(web))
+    }
+
+    /// A Tcp that waits for what to ask for.
+    pub fn tcp(alloc: Global) -> Result<Obj, NoMemory>
+        ensures stands { IfOk result (λ o. ObjStands o []) }
+        ensures rank { IfOk result (λ o. rank_of_obj o ≡ 2) }
+        ensures kind { IfOk result (λ o. kind_of_obj o ≡ 3) }
+        ensures mark { IfOk result (λ o. mark_of_obj o ≡ 3) }
+    {
+        let waiting = Tcp::new(alloc)?;
+        let tcp = Box::new(alloc, waiting)?;
+        Ok(Obj::Tcp(tcp))
+    }
+
     /// A load that was lent comes back. Not inlined, as only a Tftp's are frequent.
     #[inline(never)]
     fn take_back(&mut self, load: Load)
         ensures rank { rank_of_obj self.new ≡ rank_of_obj self.old }
         ensures kind { kind_of_obj self.new ≡ kind_of_obj self.old }
         ensures mark { mark_of_obj self.new ≡ mark_of_obj self.old }
-        ensures stands { (t : List (NodeEntry Obj Load)) → ObjStands self.old t
+        ensures stands { (t : List (NodeEntry Obj Load)) → ObjStands self.old t → LacksLoad t load
             → ObjStands self.new (t ++ regain load ∷ []) }
     {
         match self {
@@ -84,6 +112,8 @@ impl Obj {
             Obj::Resolver(resolver) => resolver.regain(load),
             Obj::Dhcp(dhcp) => dhcp.regain(load),
             Obj::Ping(ping) => ping.regain(load),
+            Obj::Http(web) => web.regain::<Obj, Load>(load),
+            Obj::Tcp(tcp) => tcp.regain::<Obj, Load>(load),
         }
     }
 }
@@ -108,6 +138,8 @@ impl Node for Obj {
             Obj::Resolver(_) => 2,
             Obj::Dhcp(_) => 2,
             Obj::Ping(_) => 5,
+            Obj::Http(_) => 3,
+            Obj::Tcp(_) => 2,
         }
     }
 
@@ -118,6 +150,8 @@ impl Node for Obj {
             Obj::Resolver(_) => 5,
             Obj::Dhcp(_) => 6,
             Obj::Ping(_) => 7,
+            Obj::Http(_) => 2,
+            Obj::Tcp(_) => 3,
         }
     }
 
@@ -135,6 +169,8 @@ impl Node for Obj {
             Obj::Resolver(resolver) => resolver.on_up(slot, msg, now, fx),
             Obj::Dhcp(dhcp) => dhcp.on_up(slot, msg, now, fx),
             Obj::Ping(ping) => ping.on_up(slot, msg, now, fx),
+            Obj::Http(web) => web.on_up(slot, msg, fx),
+            Obj::Tcp(tcp) => tcp.on_up(slot, msg, now, fx),
         }
     }
 
@@ -148,6 +184,8 @@ impl Node for Obj {
             Obj::Resolver(resolver) => resolver.on_down(msg, now, fx),
             Obj::Dhcp(dhcp) => dhcp.on_down(msg, now, fx),
             Obj::Ping(ping) => ping.on_down(msg, now, fx),
+            Obj::Http(web) => web.on_down(msg, fx),
+            Obj::Tcp(tcp) => tcp.on_down(msg, now, fx),
         }
     }
 
@@ -158,6 +196,8 @@ impl Node for Obj {
             Obj::Resolver(resolver) => resolver.on_close(slot, cause, fx),
             Obj::Dhcp(dhcp) => dhcp.on_close(slot, cause, fx),
             Obj::Ping(ping) => ping.on_close(slot, cause, fx),
+            Obj::Http(web) => web.on_close(slot, cause, fx),
+            Obj::Tcp(tcp) => tcp.on_close(slot, cause, fx),
         }
     }
 
@@ -168,6 +208,11 @@ impl Node for Obj {
             Obj::Resolver(resolver) => resolver.on_time(now, fx),
             Obj::Dhcp(dhcp) => dhcp.on_time(now, fx),
             Obj::Ping(ping) => ping.on_time(now, fx),
+            Obj::Http(web) => {
+                web.on_time(fx);
+                Ok(())
+            }
+            Obj::Tcp(tcp) => tcp.on_time(now, fx),
         }
     }
 
@@ -186,6 +231,8 @@ impl Node for Obj {
             Obj::Resolver(_) => None,
             Obj::Dhcp(_) => None,
             Obj::Ping(_) => None,
+            Obj::Http(_) => None,
+            Obj::Tcp(_) => None,
         }
     }
 }

@@ -261,6 +261,8 @@ impl Tftp {
             // While it was lent, nothing stood here that is to be dropped.
             Load::Datagram(acts) => mem::forget(mem::replace(&mut self.acts, Some(acts))),
             Load::Body(_) => {}
+            Load::Conn(_) => {}
+            Load::Text(_) => {}
         }
     }
 

@@ -16,7 +16,7 @@ use Rattle.nb_tftp.specs.Received.{received}
 use Rattle.nb_nodes.specs.declared.load.Load.{Load}
 use Rattle.nb_nodes.specs.declared.obj.Obj.{Obj}
 use Rattle.nb_nodes.specs.Carried.{CarriesNothing, both_closes}
-use Rattle.nb_nodes.specs.Fetches.{body_too_large, ends_fetch, first_end, is_ok_close, closed_well, gathers, taken_below, passed_close, AsksUp, AsksOfFetch}
+use Rattle.nb_nodes.specs.Fetches.{body_too_large, ends_fetch, first_end, is_ok_close, closed_well, gathers, taken_below, passed_close, brings_move, AsksUp, AsksOfUp, AsksOfFetch}
 use Rattle.nb_opens.specs.Pairs.{BodyFits}
 
 taken_more : (t : List (NodeEntry Obj Load)) (e : NodeEntry Obj Load) → taken_below (t ++ e ∷ []) ≡ taken_below t ++ taken_by 1 e
@@ -68,13 +68,14 @@ all_left m n e = rw (le-ltb n (length m.bytes) (omega (arith, e))) refl
 none_left : (m : Said) (n : ℕ) → n ≡ 0 → 0 < length m.bytes → left n m ≡ Some (said_behind n m)
 none_left m n e h = rw (lt-ltb n (length m.bytes) (omega (arith, e))) refl
 
-asks_up : (t : List (NodeEntry Obj Load)) (body : List ℕ) (m : Said) (now : ℕ) (fx : Fx Obj Load) → gathers t ≡ true → taken_below t ≡ body → AsksOfFetch t (up 1 m now true fx) → AsksUp true (length body) 1 (length m.bytes) fx
-asks_up t body m now fx h k asks = subst (λ z. AsksUp true (length z) 1 (length m.bytes) fx) k (subst (λ z. AsksUp z (length (taken_below t)) 1 (length m.bytes) fx) h (asks refl))
+asks_up : (t : List (NodeEntry Obj Load)) (body : List ℕ) (m : Said) (now : ℕ) (fx : Fx Obj Load) → gathers t ≡ true → taken_below t ≡ body → AsksOfFetch t (up 1 m now true fx) → brings_move 1 m ≡ false → AsksUp true (length body) 1 (length m.bytes) fx
+asks_up t body m now fx h k asks other =
+    subst (λ z. AsksUp true (length z) 1 (length m.bytes) fx) k (subst (λ z. AsksUp z (length (taken_below t)) 1 (length m.bytes) fx) h (subst (λ (z : Bool). AsksOfUp z (gathers t) (length (taken_below t)) 1 m fx) other (asks refl)))
 
 pub takes_all : (t : List (NodeEntry Obj Load)) (body : List ℕ) (m : Said) (now : ℕ) (fx : Fx Obj Load) → gathers t ≡ true → taken_below t ≡ body → AsksOfFetch t (up 1 m now true fx)
-    → length (body ++ m.bytes) ≤ 268435456 → TakesAll t body m now fx
-takes_all t body m now fx h k asks fits =
-    let q = asks_up t body m now fx h k asks in
+    → length (body ++ m.bytes) ≤ 268435456 → brings_move 1 m ≡ false → TakesAll t body m now fx
+takes_all t body m now fx h k asks fits other =
+    let q = asks_up t body m now fx h k asks other in
     let small : nat_lt 268435456 (length body + length m.bytes) ≡ false = le-ltb 268435456 (length body + length m.bytes) (omega (arith, length-append body m.bytes, fits)) in
     let closes : fx.closes.items ≡ [] = q.closes ∙ ap (λ z. if z then both_closes body_too_large else []) small in
     let took : fx.took ≡ length m.bytes = q.takes ∙ ap (λ z. if z then 0 else length m.bytes) small in
@@ -94,9 +95,9 @@ pub record TakesNone (t : List (NodeEntry Obj Load)) (m : Said) (now : ℕ) (fx 
   pub well : closed_well (t ++ up 1 m now true fx ∷ []) ≡ false
 
 pub takes_none : (t : List (NodeEntry Obj Load)) (body : List ℕ) (m : Said) (now : ℕ) (fx : Fx Obj Load) → gathers t ≡ true → taken_below t ≡ body → AsksOfFetch t (up 1 m now true fx)
-    → BodyFits body → 268435456 < length (body ++ m.bytes) → TakesNone t m now fx
-takes_none t body m now fx h k asks fits large =
-    let q = asks_up t body m now fx h k asks in
+    → BodyFits body → 268435456 < length (body ++ m.bytes) → brings_move 1 m ≡ false → TakesNone t m now fx
+takes_none t body m now fx h k asks fits large other =
+    let q = asks_up t body m now fx h k asks other in
     let big : nat_lt 268435456 (length body + length m.bytes) ≡ true = lt-ltb 268435456 (length body + length m.bytes) (omega (arith, length-append body m.bytes, large)) in
     let closes : fx.closes.items ≡ both_closes body_too_large = q.closes ∙ ap (λ z. if z then both_closes body_too_large else []) big in
     let took : fx.took ≡ 0 = q.takes ∙ ap (λ z. if z then 0 else length m.bytes) big in

@@ -5,7 +5,7 @@ use Rattle.nb_graph.specs.Trace.{NodeEntry}
 use Rattle.nb_graph.specs.Whole.{Objects, Harvests}
 use Rattle.nb_graph.specs.Noded.{AreNoded}
 use Rattle.nb_nodes.specs.declared.fetch.Fetch.{Fetch}
-use Rattle.nb_nodes.specs.declared.fetch.Fetch.TheVariants.{Gathering, Whole, HandedOut, Failed}
+use Rattle.nb_nodes.specs.declared.fetch.Fetch.TheVariants.{Gathering, Whole, HandedOut, Moved, Failed}
 use Rattle.nb_nodes.specs.declared.load.Load.{Load}
 use Rattle.nb_nodes.specs.declared.obj.Obj.{Obj}
 use Rattle.nb_nodes.specs.declared.obj.Obj.TheVariants as obj
@@ -25,9 +25,10 @@ whole_body (Some bytes) b taken h i j = ap Some (i ∙ j)
 
 from_fetch : (fe after : Fetch) (r : Option Load) (t : List (NodeEntry Obj Load)) (body : Option (List ℕ)) → FetchStands fe t → closed_well t ≡ is_some body → IfSome body (λ bytes. taken_below t ≡ bytes) → mark_of_obj (obj.Fetch fe) ≡ 0 → FetchHarvests fe r after
     → body_in r ≡ body
-from_fetch (Gathering b) after r t body s well taken zero h = ap body_in h.0 ∙ sym (no_body body (s.whole ∙ well))
+from_fetch (Gathering b al) after r t body s well taken zero h = ap body_in h.0 ∙ sym (no_body body (s.whole ∙ well))
 from_fetch (Whole b) after r t body s well taken zero h = ap body_in h.0 ∙ whole_body body b (taken_below t) (s.whole ∙ well) s.body taken
 from_fetch HandedOut after r t body s well taken zero h = absurd (omega (arith, zero))
+from_fetch (Moved u) after r t body s well taken zero h = ap body_in h.0 ∙ sym (no_body body (s.whole ∙ well))
 from_fetch Failed after r t body s well taken zero h = ap body_in h.0 ∙ sym (no_body body (s.whole ∙ well))
 
 from_node : (n after : Obj) (r : Option Load) (t : List (NodeEntry Obj Load)) (body : Option (List ℕ)) → rank_of_obj n ≡ 5 → ObjStands n t → closed_well t ≡ is_some body → IfSome body (λ bytes. taken_below t ≡ bytes) → mark_of_obj n ≡ 0 → ObjHarvests n r after
@@ -37,10 +38,14 @@ from_node (obj.Fetch fe) (obj.Tftp q) r t body at s well taken zero h = absurd h
 from_node (obj.Fetch fe) (obj.Resolver q) r t body at s well taken zero h = absurd h
 from_node (obj.Fetch fe) (obj.Dhcp q) r t body at s well taken zero h = absurd h
 from_node (obj.Fetch fe) (obj.Ping q) r t body at s well taken zero h = absurd h
+from_node (obj.Fetch fe) (obj.Http q) r t body at s well taken zero h = absurd h
+from_node (obj.Fetch fe) (obj.Tcp q) r t body at s well taken zero h = absurd h
 from_node (obj.Tftp p) after r t body at s well taken zero h = absurd (omega (arith, at))
 from_node (obj.Resolver p) after r t body at s well taken zero h = absurd (omega (arith, at))
 from_node (obj.Dhcp p) after r t body at s well taken zero h = absurd (omega (arith, at))
 from_node (obj.Ping p) after r t body at s well taken zero h = absurd (omega (arith, zero))
+from_node (obj.Http p) after r t body at s well taken zero h = absurd (omega (arith, at))
+from_node (obj.Tcp p) after r t body at s well taken zero h = absurd (omega (arith, at))
 
 -- it is the body of the open
 pub harvests_body : (g h : Objects Obj) (f t : ℕ) (r : Option Load) (body : Option (List ℕ)) → AreNoded rank_of_obj g → Harvests ObjHarvests g h (serial f) r → HasHandedOut g f t body → body_in r ≡ body

@@ -70,6 +70,8 @@ look_kind = record {
   hosts (obj.Resolver r) t e h = (r.value.stage, h)
   hosts (obj.Dhcp d) t e h = absurd (omega (arith, e))
   hosts (obj.Ping p) t e h = absurd (omega (arith, e))
+  hosts (obj.Http p) t e h = absurd (omega (arith, e))
+  hosts (obj.Tcp p) t e h = absurd (omega (arith, e))
 
 pub lease_kind : IsKind lease_service LeaseAsks 6
 lease_kind = record {
@@ -84,6 +86,8 @@ lease_kind = record {
   hosts (obj.Resolver r) t e h = absurd (omega (arith, e))
   hosts (obj.Dhcp d) t e h = (d.value.stage, h)
   hosts (obj.Ping p) t e h = absurd (omega (arith, e))
+  hosts (obj.Http p) t e h = absurd (omega (arith, e))
+  hosts (obj.Tcp p) t e h = absurd (omega (arith, e))
 
 pub ping_kind : IsKind ping_service PingAsks 7
 ping_kind = record {
@@ -98,6 +102,8 @@ ping_kind = record {
   hosts (obj.Resolver r) t e h = absurd (omega (arith, e))
   hosts (obj.Dhcp d) t e h = absurd (omega (arith, e))
   hosts (obj.Ping p) t e h = (p.value.stage, h)
+  hosts (obj.Http p) t e h = absurd (omega (arith, e))
+  hosts (obj.Tcp p) t e h = absurd (omega (arith, e))
 
 meets_at : {S B C : Type 0} (s : Service S B C) (stage : CoreStage S) (v : AskerState B C) → StandsMeets s → AskerIsAt s stage v → MeetsAt s v
 meets_at s _ _ met before_it = tt

@@ -1,5 +1,5 @@
 -- What a call of the Tftp asks for runs: datagrams leave, bytes of the file go up, and the transfer ends or goes on.
-use Rattle.std.proofs.Common.{◌≡◌, inl, inr, ℕ, ◌<◌, ◌≤◌, Bool, true, false, List, [], ◌∷◌, ◌++◌, map, length, Option, Some, None, sym, ap, ◌∙◌, subst, append_assoc, if◌then◌else◌, arith}
+use Rattle.std.proofs.Common.{refl, ◌≡◌, inl, inr, ℕ, ◌<◌, ◌≤◌, Bool, true, false, List, [], ◌∷◌, ◌++◌, map, length, Option, Some, None, sym, ap, ◌∙◌, subst, append_assoc, if◌then◌else◌, arith}
 use Rattle.std.specs.Option.{is_some}
 use Rattle.std.proofs.lemmas.List.{append-nil}
 use Rattle.std.proofs.lemmas.Bool.Decides.{leb_tells}
@@ -83,7 +83,7 @@ module _ (c : Case) (s : Scene) (a : List (NodeEntry Obj Load)) (b : Begun) (sta
       → At c s (runs_of obj_nature c.fetch (up_said m range) true fx ++ Holds (port_at c.fetch 1) way.Up (left fx.took (up_said m range)) ∷ others) (a ++ up 1 (up_said m range) c.now true fx ∷ []) talk (ns ++ tells (Entered (port_at c.fetch 1) way.Up) ∷ []) ds
       → Rises c o (Some range) p talk (over b start calls) (body ++ goes_up m.bytes (Some range)) ns (told_of ds)
   rises_fitting m range fx asks small k =
-      let l = takes_all a body (up_said m range) c.now fx going taken asks small in
+      let l = takes_all a body (up_said m range) c.now fx going taken asks small refl in
       let next : List (Stage Obj Load) = Holds (port_at c.fetch 1) way.Up (left fx.took (up_said m range)) ∷ others in
       let k1 = as_stages next (ap (λ w. w ++ next) (runs_closes c.fetch (up_said m range) fx [] l.sends l.closes)) k in
       let k2 = as_stages (Holds (port_at c.fetch 1) way.Up None ∷ others) (ap (λ w. Holds (port_at c.fetch 1) way.Up w ∷ others) l.rest) k1 in
@@ -96,7 +96,7 @@ module _ (c : Case) (s : Scene) (a : List (NodeEntry Obj Load)) (b : Begun) (sta
       → At c s (runs_of obj_nature c.fetch (up_said m range) true fx ++ Holds (port_at c.fetch 1) way.Up (left fx.took (up_said m range)) ∷ others) (a ++ up 1 (up_said m range) c.now true fx ∷ []) talk (ns ++ tells (Entered (port_at c.fetch 1) way.Up) ∷ []) ds
       → Rises c o (Some range) p talk (over b start calls) (body ++ goes_up m.bytes (Some range)) ns (told_of ds)
   rises_large m range fx asks big k =
-      let l = takes_none a body (up_said m range) c.now fx going taken asks fit big in
+      let l = takes_none a body (up_said m range) c.now fx going taken asks fit big refl in
       let d : List (NodeEntry Obj Load) = a ++ up 1 (up_said m range) c.now true fx ∷ [] in
       let next : List (Stage Obj Load) = Holds (port_at c.fetch 1) way.Up (left fx.took (up_said m range)) ∷ others in
       let closes : List (Stage Obj Load) = closes_of c.fetch (both_closes body_too_large) in

@@ -73,6 +73,8 @@ abbrev pub body_in : Option Load → Option (List ℕ)
 body_in None = None
 body_in (Some (load.Body body)) = Some body
 body_in (Some (load.Datagram acts)) = None
+body_in (Some (load.Conn c)) = None
+body_in (Some (load.Text text)) = None
 
 -- A transfer is under way: it was begun so, at a time; these calls were made of it, with what it asked; and these bytes
 -- of the file have come.

@@ -18,7 +18,7 @@ returns-in-Fetch-clause-asks c = may_ask _ _ c.on_up.new.fx (c.on_up.ensures.wit
 
 pub returns-in-Fetch-clause-mark : goal.returns-in-Fetch-clause-mark
 returns-in-Fetch-clause-mark c =
-    mark_up c.on_up.result c.in-Fetch.fetch c.on_up.new.self c.args.slot (said c.args.msg.now).bytes c.on_up.ensures.after c.on_up.ensures.failed ∙ sym (ap mark_of_obj c.in-Fetch.is)
+    mark_up c.on_up.result c.in-Fetch.fetch c.on_up.new.self c.args.slot (said c.args.msg.now) c.on_up.ensures.after c.on_up.ensures.failed ∙ sym (ap mark_of_obj c.in-Fetch.is)
 
 pub returns-in-Fetch-clause-stands : goal.returns-in-Fetch-clause-stands
 returns-in-Fetch-clause-stands c = λ t s settled.

@@ -1,0 +1,14 @@
+pub mod TraceLemmas
+pub mod FetchPassing
+pub mod CorePassing
+pub mod StreamPassing
+pub mod Passings
+pub mod Joining
+pub mod PlanLemmas
+pub mod Keeping
+pub mod PortSteps
+pub mod EntrySteps
+pub mod Running
+pub mod Beginning
+pub mod Ending
+pub mod Whole

@@ -1,0 +1,5 @@
+pub mod WebChains
+pub mod Plugs
+pub mod Releases
+pub mod Orders
+pub mod WebCalls
