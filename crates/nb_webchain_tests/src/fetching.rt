@@ -65,7 +65,7 @@ fn brings_a_file(rt: HostRuntime) -> Result<(), Fail> {
     Ok(())
 }
 
-/// The file is elsewhere: nothing is brought, and the place is known.
+/// The file is elsewhere: nothing is brought, and the place is known. The Fetch closes its ports first, within the delivery.
 #[test]
 fn is_elsewhere(rt: HostRuntime) -> Result<(), Fail> {
     let moves: Row<'_> = (
@@ -84,7 +84,7 @@ fn is_elsewhere(rt: HostRuntime) -> Result<(), Fail> {
     );
     assert_eq!(rt;
         tape.closed.as_slice(),
-        [(2, 0), (1, 0), (1, 0), (2, 0), (3, 0), (3, 0)].as_slice()
+        [(1, 0), (1, 0), (2, 0), (2, 0), (3, 0), (3, 0)].as_slice()
     );
     Ok(())
 }
