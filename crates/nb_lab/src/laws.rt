@@ -1,0 +1,11 @@
+//! Laws of a lab, each a function that does nothing.
+
+ghost use Rattle.nb_lab.specs.Transits.{ComeByNumbers, GoInOrder, NothingHasCome};
+
+/// Which frames come to the client, how often and in which order is a function of their numbers: at first nothing has come,
+/// and so it stays as each further frame is sent.
+pub fn frames_come_by_their_numbers()
+    ensures first { NothingHasCome }
+    ensures send { ComeByNumbers }
+    ensures take { GoInOrder }
+{}
