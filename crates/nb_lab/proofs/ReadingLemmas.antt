@@ -92,7 +92,7 @@ each_is_read (part kind index offset bytes) h = record {
 }
 each_is_read (done status) h = record { kind = 0x8d; body = status ∷ []; spelled = refl; short = omega arith; read = refl }
 
--- what stands at the front of some records
+-- what some records begin with
 pub record IsFront (records : List ℕ) (kind : ℕ) (body rest : List ℕ) : Type 0 where
   pub len : from_be_bytes w32 (take 4 records) ≡ length body + 1
   pub long : length records ≡ 5 + length body + length rest

@@ -1,5 +1,5 @@
 -- Frames come by their numbers.
-use Rattle.std.proofs.Common.{◌≡◌, ◌==◌, ℕ, zero, suc, ◌+◌, ◌-◌, ◌%◌, ◌≤◌, ◌<◌, Bool, true, false, List, [], ◌∷◌, ◌++◌, length, slice_get, Option, Some, None, option_and_then, option_to_list, if◌then◌else◌, refl, sym, ap, ◌∙◌, append_assoc, arith}
+use Rattle.std.proofs.Common.{◌≡◌, ◌==◌, ℕ, zero, suc, ◌+◌, ◌-◌, ◌%◌, ◌≤◌, ◌<◌, Bool, true, false, List, [], ◌∷◌, ◌++◌, length, slice_get, Option, Some, None, option_and_then, option_to_list, if◌then◌else◌, refl, sym, ap, subst, ◌∙◌, append_assoc, arith}
 use Rattle.std.specs.List.{flat_map}
 use Rattle.std.specs.Option.{option_map, option_map_or}
 use Rattle.std.proofs.lemmas.List.{length-append, append-nil}
@@ -8,7 +8,8 @@ use Rattle.nb_lab.specs.declared.answer.Answer.{Answer}
 use Rattle.nb_lab.specs.declared.delivery.Held.{Held}
 use Rattle.nb_lab.specs.declared.fate.Fate.{Fate}
 use Rattle.nb_lab.specs.declared.fate.Fate.TheVariants.{Lost, OnTime, Late}
-use Rattle.nb_lab.specs.Fates.{fate, times, copies, comes_twice, late_by, late_after, coming_by, arrivals}
+use Rattle.nb_lab.specs.Fates.{fate, times, copies, comes_twice, late_after, arrivals}
+use Rattle.nb_lab.proofs.FateLemmas.{late_by, coming_by, late_step, arrivals_step}
 use Rattle.nb_lab.specs.Transits.{Transit, nothing_sent, held_copies, sent_by_fate, number_after, sent, numbered, those, held_of, HasDelivered, ComeByNumbers, GoInOrder, NothingHasCome}
 
 -- numbers from 1 up to a greatest
@@ -57,13 +58,14 @@ late_within_by (Late twice) n before h = (omega arith, omega arith)
 late_within : (n : ℕ) → IsWithin n (late_after n)
 unfolding late_after IsWithin
 late_within zero = tt
-late_within (suc n) = late_within_by (fate (suc n)) n (late_after n) (late_within n)
+late_within (suc n) = subst (IsWithin (suc n)) (sym (late_step n)) (late_within_by (fate (suc n)) n (late_after n) (late_within n))
 
 arrivals_within : (n : ℕ) → Within n (arrivals n)
 unfolding arrivals Within
 arrivals_within zero = tt
 arrivals_within (suc n) =
-    within_append (suc n) (arrivals n) (coming_by (fate (suc n)) (suc n) (late_after n)) (within_more n (arrivals n) (arrivals_within n)) (within_coming (fate (suc n)) n (late_after n) (late_within n))
+    subst (Within (suc n)) (sym (arrivals_step n))
+    (within_append (suc n) (arrivals n) (coming_by (fate (suc n)) (suc n) (late_after n)) (within_more n (arrivals n) (arrivals_within n)) (within_coming (fate (suc n)) n (late_after n) (late_within n)))
 
 -- the frames before stay as they are when one is sent
 get_before : (answers : List Answer) (a : Answer) (i : ℕ) → i < length answers → slice_get (answers ++ a ∷ []) i ≡ slice_get answers i
@@ -149,12 +151,10 @@ module _ (t : Transit) (answers gone : List Answer) (a : Answer) (h : HasDeliver
   len = omega (arith, length-append answers (a ∷ []))
 
   late_is : (f : Fate) → f ≡ fate (suc (length answers)) → late_after (length (answers ++ a ∷ [])) ≡ late_by f (suc (length answers)) (late_after (length answers))
-  unfolding late_after
-  late_is f is = ap late_after len ∙ ap (λ (g : Fate). late_by g (suc (length answers)) (late_after (length answers))) (sym is)
+  late_is f is = ap late_after len ∙ late_step (length answers) ∙ ap (λ (g : Fate). late_by g (suc (length answers)) (late_after (length answers))) (sym is)
 
   arrivals_are : (f : Fate) → f ≡ fate (suc (length answers)) → arrivals (length (answers ++ a ∷ [])) ≡ arrivals (length answers) ++ coming_by f (suc (length answers)) (late_after (length answers))
-  unfolding arrivals
-  arrivals_are f is = ap arrivals len ∙ ap (λ (g : Fate). arrivals (length answers) ++ coming_by g (suc (length answers)) (late_after (length answers))) (sym is)
+  arrivals_are f is = ap arrivals len ∙ arrivals_step (length answers) ∙ ap (λ (g : Fate). arrivals (length answers) ++ coming_by g (suc (length answers)) (late_after (length answers))) (sym is)
 
   whole : (f : Fate) → f ≡ fate (suc (length answers)) → those (answers ++ a ∷ []) (arrivals (length (answers ++ a ∷ []))) ≡ (gone ++ t.waiting) ++ those (answers ++ a ∷ []) (coming_by f (suc (length answers)) (late_after (length answers)))
   whole f is =

@@ -69,6 +69,14 @@ acknowledged_by c place window Closed = c
 abbrev pub after_ack : Connection → SegmentParts → Connection
 after_ack c s = acknowledged_by c (place_of s) s.window c.state
 
--- What is sent is what waits for its acknowledgement then, or an acknowledgement alone.
-abbrev pub IsOf : Connection → StreamPart → Type 0
-IsOf c part = (waiting_part c.state ≡ Some part) ⊎ ((place : ℕ) × (part ≡ Acknowledgement place))
+-- whether an acknowledgement of a place advances, by the state
+abbrev pub advances_by : State → ℕ → Bool
+advances_by Opened place = false
+advances_by Reading place = false
+advances_by (Sending p) place = advances p place
+advances_by (Sent last) place = false
+advances_by Closed place = false
+
+-- what is sent for it: the next piece, where it advances and bytes or the FIN are left
+abbrev pub next_part : Connection → SegmentParts → Option StreamPart
+next_part c s = if advances_by c.state (place_of s) then waiting_part (after_ack c s).state else None

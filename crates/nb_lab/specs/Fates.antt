@@ -1,10 +1,17 @@
--- Own: what becomes of a frame by its number, and which frames come to the client when one is sent. A frame whose number
--- is divisible by 7 is lost. Else one divisible by 11 comes twice, and one divisible by 13 comes after the next frame that
--- isn't lost.
-use Rattle.std.specs.Prelude.{ℕ, zero, suc, ◌%◌, ◌==◌, Bool, List, [], ◌∷◌, ◌++◌, Option, Some, None, if◌then◌else◌}
+-- Own: what becomes of a frame by its number, counted from 1, and which frames come to the client as one is sent. A frame
+-- whose number is divisible by 7 is lost. Else one divisible by 11 comes twice, and one divisible by 13 comes after the next
+-- frame that isn't lost.
+use Rattle.std.specs.Prelude.{ℕ, ◌+◌, ◌-◌, ◌%◌, ◌==◌, Bool, false, List, [], ◌∷◌, ◌++◌, Option, Some, None, if◌then◌else◌}
+use Rattle.std.specs.List.{flat_map, range_with_len}
 use Rattle.std.specs.Option.{option_map_or}
 use Rattle.nb_lab.specs.declared.fate.Fate.{Fate}
 use Rattle.nb_lab.specs.declared.fate.Fate.TheVariants.{Lost, OnTime, Late}
+
+abbrev pub is_lost : ℕ → Bool
+is_lost n = n % 7 == 0
+
+abbrev pub is_late : ℕ → Bool
+is_late n = if is_lost n then false else n % 13 == 0
 
 abbrev pub comes_twice : ℕ → Bool
 comes_twice n = n % 11 == 0
@@ -20,24 +27,24 @@ times twice x = if twice then x ∷ x ∷ [] else x ∷ []
 abbrev pub copies : ℕ → List ℕ
 copies n = times (comes_twice n) n
 
--- the frame that is late still once one was sent, by the fate of that one and what was late before
-abbrev pub late_by : Fate → ℕ → Option ℕ → Option ℕ
-late_by Lost n before = before
-late_by (OnTime twice) n before = None
-late_by (Late twice) n before = Some n
+-- the last frame before that of a number that isn't lost: no two numbers in a row are divisible by 7
+abbrev pub last_before : ℕ → ℕ
+last_before n = if is_lost (n - 1) then n - 2 else n - 1
 
--- the one that is late still, once so many were sent
-unfoldable pub late_after : ℕ → Option ℕ
-late_after zero = None
-late_after (suc n) = late_by (fate (suc n)) (suc n) (late_after n)
+-- a frame, where it is late
+abbrev pub if_late : ℕ → Option ℕ
+if_late n = if is_late n then Some n else None
 
--- what comes when a frame is sent: it, unless it is late, and then the one that was late
-abbrev pub coming_by : Fate → ℕ → Option ℕ → List ℕ
-coming_by Lost n before = []
-coming_by (OnTime twice) n before = copies n ++ option_map_or copies before []
-coming_by (Late twice) n before = option_map_or copies before []
+-- what comes as a frame that isn't lost is sent: it, unless it is late, and then the last one before it, where that one is late
+unfoldable pub come_with : ℕ → List ℕ
+come_with n =
+    if is_lost n then []
+    else ((if is_late n then [] else copies n) ++ option_map_or copies (if_late (last_before n)) [])
 
 -- the numbers of the frames that have come once so many were sent, in order
 unfoldable pub arrivals : ℕ → List ℕ
-arrivals zero = []
-arrivals (suc n) = arrivals n ++ coming_by (fate (suc n)) (suc n) (late_after n)
+arrivals n = flat_map come_with (range_with_len 1 n)
+
+-- the one that is late still
+unfoldable pub late_after : ℕ → Option ℕ
+late_after n = if_late (last_before (n + 1))

@@ -6,6 +6,8 @@ pub mod Streams
 pub mod Answers
 pub mod Requests
 pub mod Connections
+pub mod Receptions
+pub mod OneResponse
 pub mod Bringing
 pub mod Servers
 pub mod Fates

@@ -2,7 +2,8 @@
 use Rattle.std.specs.Prelude.{◌≡◌, ◌≤◌, ℕ, ◌==◌, List, [], ◌∷◌, length, Option, Some, None, nat_lt, option_and_then, codes, if◌then◌else◌}
 use Rattle.std.specs.Option.{option_map_or}
 use Rattle.std.specs.Str.{bytes_eq}
-use Rattle.httparse.specs.Grammar.{RequestHead, ReadsRequest}
+use Rattle.httparse.specs.Grammar.{RequestHead, ReadsRequest, HasNoRequest, MayBecomeRequest}
+use Rattle.httparse.specs.Spans.{RequestOverflows}
 use Rattle.nb_numerals.specs.Addresses.{decimal_byte}
 use Rattle.nb_lab.specs.declared.image.Image.{Image}
 use Rattle.nb_lab.specs.declared.page.Page.{Page}
@@ -25,7 +26,10 @@ abbrev pub page_of : ℕ → List ℕ → List ℕ → Page
 page_of images method path =
     if bytes_eq method (codes "GET") then option_map_or Found (image_at images path) NotFound else BadRequest
 
--- a request, whole, of at most 16 fields, is answered by its method and its path
-abbrev pub IsPageFor : ℕ → List ℕ → Option Page → Type 0
-IsPageFor images bytes page = (head : RequestHead) (rest : List ℕ) → ReadsRequest bytes head rest → length head.fields ≤ 16
-    → page ≡ Some (page_of images head.method head.target)
+-- A request, whole, of at most 16 fields, is answered by its method and its path. None answers one that isn't whole and can
+-- be yet, and another answer is that no such request can come.
+pub record IsPageFor (images : ℕ) (bytes : List ℕ) (page : Option Page) : Type 0 where
+  pub whole : (head : RequestHead) (rest : List ℕ) → ReadsRequest bytes head rest → length head.fields ≤ 16
+      → page ≡ Some (page_of images head.method head.target)
+  pub waits : page ≡ None → HasNoRequest bytes × MayBecomeRequest bytes
+  pub refused : HasNoRequest bytes → (page ≡ None → ⊥) → RequestOverflows 16 bytes × (page ≡ Some BadRequest)

@@ -19,7 +19,8 @@ use Rattle.nb_lab.specs.declared.answer.Answer.TheVariants.{Interface, File, Str
 use Rattle.nb_lab.specs.declared.server.Server.{Server}
 use Rattle.nb_lab.specs.Files.{last_part, begun, acknowledged, after_acknowledged}
 use Rattle.nb_lab.specs.Requests.{image_in}
-use Rattle.nb_lab.specs.Connections.{opened, waiting_part, IsOf}
+use Rattle.nb_lab.specs.Connections.{opened, waiting_part}
+use Rattle.nb_lab.specs.Receptions.{IsTaken}
 use Rattle.nb_lab.specs.Bringing.{Brought, question, packet, segment, Brings}
 
 -- nobody has asked the servers of so many images anything
@@ -70,23 +71,26 @@ IsFileStep s from port (oack blksize tsize) step = step ≡ file_step None s.tra
 abbrev pub begins : SegmentParts → Bool
 begins s = bit_and s.flags 22 == 2
 
--- what is sent is of the connection that goes on with this peer
-abbrev pub GoesOnWith : Peer → Option Answer → Option Connection → Type 0
-GoesOnWith from answer after =
-    (d : Connection) × (after ≡ Some d) × (d.peer ≡ from) × IfSome answer (λ a. (part : StreamPart) × (a ≡ Stream from d.expected part) × IsOf d part)
+-- the connection goes on with this peer
+pub record GoesOn (c : Connection) (from : Peer) (s : SegmentParts) (images : ℕ) (answer : Option Answer) (after : Option Connection) : Type 0 where
+  pub part : Option StreamPart
+  pub next : Connection
+  pub taken : IsTaken c s images part next
+  pub sent : answer ≡ option_map (Stream from next.expected) part
+  pub stands : after ≡ Some next
 
 -- a segment counts from the connection's peer
-abbrev pub IsStreamed : Option Connection → Peer → Option Answer → Option Connection → Type 0
-IsStreamed None from answer after = (answer ≡ None) × (after ≡ None)
-IsStreamed (Some c) from answer after =
-    (c.peer ≡ from → GoesOnWith from answer after) × ((c.peer ≡ from → ⊥) → (answer ≡ None) × (after ≡ Some c))
+abbrev pub IsStreamed : Option Connection → Peer → SegmentParts → ℕ → Option Answer → Option Connection → Type 0
+IsStreamed None from s images answer after = (answer ≡ None) × (after ≡ None)
+IsStreamed (Some c) from s images answer after =
+    (c.peer ≡ from → GoesOn c from s images answer after) × ((c.peer ≡ from → ⊥) → (answer ≡ None) × (after ≡ Some c))
 
 -- what a segment comes to: to port 80 a SYN begins a connection in place of the last one
-pub record IsStreamStep (before : Option Connection) (from : Peer) (s : SegmentParts) (answer : Option Answer) (after : Option Connection) : Type 0 where
+pub record IsStreamStep (before : Option Connection) (from : Peer) (s : SegmentParts) (images : ℕ) (answer : Option Answer) (after : Option Connection) : Type 0 where
   pub other_port : (s.dst_port ≡ 80 → ⊥) → (answer ≡ None) × (after ≡ before)
   pub opens : s.dst_port ≡ 80 → begins s ≡ true
       → (after ≡ Some (opened from s)) × (answer ≡ Some (Stream from (opened from s).expected Opening))
-  pub goes_on : s.dst_port ≡ 80 → begins s ≡ false → IsStreamed before from answer after
+  pub goes_on : s.dst_port ≡ 80 → begins s ≡ false → IsStreamed before from s images answer after
 
 -- what the servers answer to what a frame brings, and how they stand then
 abbrev pub Answers : Server → Brought → Option Answer → Server → Type 0
@@ -94,7 +98,7 @@ Answers s (question mac ip) answer after = (answer ≡ Some (Interface mac ip)) 
 Answers s (packet from port text) answer after =
     (step : FileStep) × IsFileStep s from port text step × (answer ≡ option_map (File from) step.sent) × (after ≡ record s { transfer = step.transfer })
 Answers s (segment from parts) answer after =
-    (c : Option Connection) × IsStreamStep s.connection from parts answer c × (after ≡ record s { connection = c })
+    (c : Option Connection) × IsStreamStep s.connection from parts s.images answer c × (after ≡ record s { connection = c })
 
 -- a frame is taken: what it brings is answered, and one that brings nothing is not
 pub record TakesFrame (s : Server) (bytes : List ℕ) (answer : Option Answer) (after : Server) : Type 0 where

@@ -1,10 +1,9 @@
 //! A connection to the HTTP server (RFC 9293, section 3.10.7).
 
-ghost use Rattle.std.specs.Prelude.{◌≡◌, ◌<◌, ◌↔◌, true, false, Some, None, IfSome};
+ghost use Rattle.std.specs.Prelude.{◌≡◌, ◌==◌, ◌++◌, None, if◌then◌else◌};
 ghost use Rattle.nb_tcpseg.specs.SegmentText.{segment_parts};
-ghost use Rattle.nb_lab.specs.Streams.{sent_by};
-ghost use Rattle.nb_lab.specs.Connections.{has_flag, place_of, waiting_part, opened, piece_from, sends, advances, advanced, after_ack, IsOf};
-ghost use Rattle.nb_lab.specs.declared.connection.StreamPart.{StreamPart as Part};
+ghost use Rattle.nb_lab.specs.Connections.{has_flag, waiting_part, opened, piece_from, sends, advances, advanced, after_ack, next_part};
+ghost use Rattle.nb_lab.specs.Receptions.{place_after, number_after, with_bytes, IsPageOf, IsGathered, IsReceived, IsTaken};
 ghost use Rattle.nb_lab.specs.declared.connection.StreamPart.TheVariants.{Bytes};
 ghost use Rattle.nb_lab.specs.declared.connection.State.TheVariants.{Closed};
 
@@ -78,9 +77,7 @@ impl Connection {
 
     /// Takes a segment of the peer that begins no connection, and returns what is sent then.
     pub fn take(&mut self, segment: &Segment<'_>, images: u8) -> Option<StreamPart>
-        ensures peer { self.new.peer ≡ self.old.peer }
-        ensures sent { IfSome result (IsOf self.new) }
-        ensures reset { has_flag (segment_parts segment.now) 4 ≡ true → result ≡ None }
+        ensures { IsTaken self.old (segment_parts segment.now) images result self.new }
     {
         if has(segment, RST) {
             self.reset(segment.seq);
@@ -115,8 +112,7 @@ impl Connection {
 
     /// A reset counts at the number that is expected.
     fn reset(&mut self, number: u32)
-        ensures counts { number ≡ self.old.expected → self.new ≡ record self.old { state = Closed } }
-        ensures other { (number ≡ self.old.expected → ⊥) → self.new ≡ self.old }
+        ensures { self.new ≡ (if number == self.old.expected then record self.old { state = Closed } else self.old) }
     {
         if number == self.expected {
             self.state = State::Closed;
@@ -126,7 +122,7 @@ impl Connection {
     /// Takes an acknowledgement, and returns what is sent next where it advances.
     fn acknowledge(&mut self, segment: &Segment<'_>) -> Option<StreamPart>
         ensures after { self.new ≡ after_ack self.old (segment_parts segment.now) }
-        ensures sent { IfSome result (λ part. waiting_part self.new.state ≡ Some part) }
+        ensures sent { result ≡ next_part self.old (segment_parts segment.now) }
     {
         let place = segment.ack.wrapping_sub(FIRST_BYTE);
         match self.state {
@@ -140,7 +136,7 @@ impl Connection {
     /// Takes the acknowledgement of what stands before a place, while a piece waits for it.
     fn advance(&mut self, piece: Piece, place: u32, window: u16) -> Option<StreamPart>
         ensures after { self.new ≡ advanced self.old piece place window }
-        ensures sent { IfSome result (λ part. waiting_part self.new.state ≡ Some part) }
+        ensures sent { result ≡ (if advances piece place then waiting_part self.new.state else None) }
     {
         if place <= piece.from || place > piece.sent() {
             return None;
@@ -167,19 +163,12 @@ impl Connection {
     /// Takes the data and the FIN of a segment, where they are the next, and returns the response's first bytes once
     /// the request is complete.
     fn receive(&mut self, segment: &Segment<'_>, images: u8) -> Option<StreamPart>
-        ensures peer { self.new.peer ≡ self.old.peer }
-        ensures sent { IfSome result (λ part. waiting_part self.new.state ≡ Some part) }
-        ensures kept { (part : Part) → waiting_part self.old.state ≡ Some part → waiting_part self.new.state ≡ Some part }
-        ensures other { (segment.now.seq ≡ self.old.expected → ⊥) → self.new ≡ self.old }
+        ensures { IsReceived self.old (segment_parts segment.now) images result self.new }
     {
         if segment.seq != self.expected {
             return None;
         }
-        let len = segment.body.len() % 0x1_0000_0000;
-        self.expected = self.expected.wrapping_add(len as u32);
-        if has(segment, FIN) {
-            self.expected = self.expected.wrapping_add(1);
-        }
+        self.expected = number_after(segment);
         match self.state {
             State::Reading => self.gather(segment, images),
             State::Sent { .. } if has(segment, FIN) => {
@@ -192,18 +181,27 @@ impl Connection {
 
     /// Gathers the request.
     fn gather(&mut self, segment: &Segment<'_>, images: u8) -> Option<StreamPart>
-        ensures peer { self.new.peer ≡ self.old.peer }
-        ensures sent { IfSome result (λ part. waiting_part self.new.state ≡ Some part) }
+        ensures { IsGathered self.old (segment_parts segment.now) images result self.new }
     {
-        let page = match self.request.try_extend_from_slice(segment.body) {
-            Ok(()) => page_for(self.request.as_slice(), images)?,
-            Err(_) => Page::BadRequest,
-        };
+        let page = self.read_on(segment.body, images)?;
         Some(self.send(page, 0, segment.window))
     }
 
+    /// The answer to the request with these bytes more, once there is one.
+    fn read_on(&mut self, bytes: &[u8], images: u8) -> Option<Page>
+        ensures page { IsPageOf images (self.old.request.items ++ bytes.now) result }
+        ensures after { self.new ≡ with_bytes self.old bytes.now }
+    {
+        match self.request.try_extend_from_slice(bytes) {
+            Ok(()) => page_for(self.request.as_slice(), images),
+            Err(_) => Some(Page::BadRequest),
+        }
+    }
+
     /// The place after what was sent.
-    fn place(&self) -> u32 {
+    fn place(&self) -> u32
+        ensures { result ≡ place_after self.now.state }
+    {
         match self.state {
             State::Opened | State::Reading | State::Closed => 0,
             State::Sending(piece) => piece.sent(),
@@ -216,4 +214,17 @@ fn has(segment: &Segment<'_>, flag: u8) -> bool
     ensures { result ≡ has_flag (segment_parts segment.now) flag }
 {
     segment.flags & flag != 0
+}
+
+/// The number after a segment's bytes and its FIN.
+fn number_after(segment: &Segment<'_>) -> u32
+    ensures { result ≡ number_after (segment_parts segment.now) }
+{
+    let len = segment.body.len() % 0x1_0000_0000;
+    let end = segment.seq.wrapping_add(len as u32);
+    if has(segment, FIN) {
+        end.wrapping_add(1)
+    } else {
+        end
+    }
 }

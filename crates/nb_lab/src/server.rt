@@ -202,20 +202,14 @@ impl Server {
 
     /// Takes a segment of the connection, which counts from its peer.
     fn go_on(&mut self, from: Peer, segment: &Segment<'_>) -> Option<Answer>
-        ensures streams { IsStreamed self.old.connection from result self.new.connection }
+        ensures streams { IsStreamed self.old.connection from (segment_parts segment.now) self.old.images result self.new.connection }
         ensures rest { self.new ≡ record self.old { connection = self.new.connection } }
     {
         let images = self.images;
-        let connection = self.connection.as_mut()?;
-        if connection.peer != from {
-            return None;
+        match self.connection.as_mut() {
+            None => None,
+            Some(connection) => stream(connection, from, segment, images),
         }
-        let part = connection.take(segment, images)?;
-        Some(Answer::Stream {
-            to: from,
-            expected: connection.expected,
-            part,
-        })
     }
 
     fn file_again(&mut self) -> Option<Answer>
@@ -253,4 +247,24 @@ fn begins(flags: u8) -> bool
     ensures { result ≡ (bit_and flags 22 == 2) }
 {
     flags & (SYN + ACK + RST) == SYN
+}
+
+/// Takes a segment of a connection, which counts from its peer, and returns what is sent then.
+fn stream(
+    connection: &mut Connection,
+    from: Peer,
+    segment: &Segment<'_>,
+    images: u8,
+) -> Option<Answer>
+    ensures { IsStreamed (Some connection.old) from (segment_parts segment.now) images result (Some connection.new) }
+{
+    if connection.peer != from {
+        return None;
+    }
+    let part = connection.take(segment, images)?;
+    Some(Answer::Stream {
+        to: from,
+        expected: connection.expected,
+        part,
+    })
 }
