@@ -2,7 +2,7 @@
 use Rattle.std.proofs.Common.{◌≡◌, ◌==◌, ℕ, zero, suc, ◌+◌, ◌-◌, ◌%◌, Bool, true, false, List, [], ◌∷◌, ◌++◌, Option, Some, None, if◌then◌else◌, refl, sym, ap, ◌∙◌, arith}
 use Rattle.std.specs.List.{flat_map, range_with_len}
 use Rattle.std.specs.Option.{option_map_or}
-use Rattle.std.proofs.lemmas.Bool.{true≢false, ne_eqb}
+use Rattle.std.proofs.lemmas.Bool.{true≢false, eqb-true, ne_eqb}
 use Rattle.std.proofs.lemmas.List.{append-nil, map-id}
 use Rattle.std.proofs.lemmas.List.FromFn.{map-range_with_len_more}
 use Rattle.std.proofs.lemmas.Grind.{flat_map-append}
@@ -43,7 +43,9 @@ late_is n = ap if_late (last_before_is (n + 1) n refl) ∙ choose (is_lost n) (n
 
 -- of two in a row one isn't lost
 not_both : (n : ℕ) → is_lost (suc n) ≡ true → is_lost n ≡ false
-not_both n h = ne_eqb (n % 7) 0 (λ e. omega (arith, e, h))
+not_both n h =
+    let none : suc n % 7 ≡ 0 = eqb-true (suc n % 7) 0 h in
+    ne_eqb (n % 7) 0 (λ e. omega (arith, e, none))
 
 late_tests : (lost late twice before : Bool) (n : ℕ) → (lost ≡ true → before ≡ false)
     → (if lost then if_late n else (if (if lost then false else late) then Some (suc n) else None))

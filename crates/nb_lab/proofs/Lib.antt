@@ -6,7 +6,6 @@ pub mod TransitLemmas
 pub mod ReceivedLemmas
 pub mod ConnectionLemmas
 pub mod OneResponseLemmas
-pub mod RequestLemmas
 pub mod ServerLemmas
 pub mod ScriptLemmas
 pub mod SummaryLemmas

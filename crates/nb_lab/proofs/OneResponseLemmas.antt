@@ -92,12 +92,12 @@ sends_in_order c d p s images part state h =
     elim (decide (has_flag s 4)) [
       | inl is ↦ subst Goes (sym (h.reset is).1) (reset_by c p s state (s.seq == c.expected))
       | inr plain ↦ elim (decide (counts c s)) [
-          | inr no ↦ subst Goes (sym (h.dropped plain no).1) (stays_there c p s state)
-          | inl yes ↦ elim (decide (brings_more s)) [
-              | inr bare ↦ subst Goes (sym (h.acknowledges plain yes bare).1) (after_ack_goes c p s state)
-              | inl more ↦
-                  let r = (h.receives plain yes more).received in
-                  subst Goes (sym r.stands) (received_goes (after_ack c s) p s r.page (s.seq == (after_ack c s).expected) (after_ack_goes c p s state))
-            ]
+        | inr idle ↦ subst Goes (sym (h.dropped plain idle).1) (stays_there c p s state)
+        | inl active ↦ elim (decide (brings_more s)) [
+          | inr bare ↦ subst Goes (sym (h.acknowledges plain active bare).1) (after_ack_goes c p s state)
+          | inl more ↦
+              let r = (h.receives plain active more).received in
+              subst Goes (sym r.stands) (received_goes (after_ack c s) p s r.page (s.seq == (after_ack c s).expected) (after_ack_goes c p s state))
         ]
+      ]
     ]

@@ -28,13 +28,13 @@ numbered (Some i) = Some (record { 0 = i })
 abbrev pub image_named : List ℕ → Option Image
 image_named name = numbered (decimal_byte name)
 
+-- and that of a URL of the servers
+abbrev pub image_at_url : List ℕ → Option Image
+image_at_url url = if starts_with nat_eq url (codes "http://10.0.0.1/") then image_named (drop 16 url) else None
+
 -- the image that an open is for: by TFTP its target is the path, by HTTP the URL
 abbrev pub image_of : ℕ → List ℕ → Option Image
-image_of kind target =
-    if kind == 1 then image_named target
-    else (if kind == 2
-    then (if starts_with nat_eq target (codes "http://10.0.0.1/") then image_named (drop 16 target) else None)
-    else None)
+image_of kind target = if kind == 1 then image_named target else (if kind == 2 then image_at_url target else None)
 
 -- what a record shows
 abbrev pub seen : Out → Seen

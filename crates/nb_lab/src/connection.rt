@@ -3,7 +3,7 @@
 ghost use Rattle.std.specs.Prelude.{◌≡◌, ◌==◌, ◌++◌, None, if◌then◌else◌};
 ghost use Rattle.nb_tcpseg.specs.SegmentText.{segment_parts};
 ghost use Rattle.nb_lab.specs.Connections.{has_flag, waiting_part, opened, piece_from, sends, advances, advanced, after_ack, next_part};
-ghost use Rattle.nb_lab.specs.Receptions.{place_after, number_after, with_bytes, IsPageOf, IsGathered, IsReceived, IsTaken};
+ghost use Rattle.nb_lab.specs.Receptions.{is_closed, place_after, brings_more, number_after, with_bytes, IsPageOf, IsGathered, IsReceived, IsTaken};
 ghost use Rattle.nb_lab.specs.declared.connection.StreamPart.TheVariants.{Bytes};
 ghost use Rattle.nb_lab.specs.declared.connection.State.TheVariants.{Closed};
 
@@ -83,11 +83,11 @@ impl Connection {
             self.reset(segment.seq);
             return None;
         }
-        if !has(segment, ACK) || self.state == State::Closed {
+        if !has(segment, ACK) || self.is_closed() {
             return None;
         }
         let next = self.acknowledge(segment);
-        if segment.body.is_empty() && !has(segment, FIN) {
+        if !brings_more(segment) {
             return next;
         }
         let place = self.place();
@@ -97,6 +97,12 @@ impl Connection {
                 .or(next)
                 .unwrap_or(StreamPart::Acknowledgement { place }),
         )
+    }
+
+    fn is_closed(&self) -> bool
+        ensures { result ≡ is_closed self.now.state }
+    {
+        matches!(self.state, State::Closed)
     }
 
     /// What waits for its acknowledgement.
@@ -214,6 +220,13 @@ fn has(segment: &Segment<'_>, flag: u8) -> bool
     ensures { result ≡ has_flag (segment_parts segment.now) flag }
 {
     segment.flags & flag != 0
+}
+
+/// Whether bytes or a FIN come with a segment.
+fn brings_more(segment: &Segment<'_>) -> bool
+    ensures { result ≡ brings_more (segment_parts segment.now) }
+{
+    !segment.body.is_empty() || has(segment, FIN)
 }
 
 /// The number after a segment's bytes and its FIN.

@@ -2,7 +2,7 @@
 
 ghost use Rattle.std.specs.Prelude.{◌≡◌, ◌+◌, ◌<◌, ◌^◌, ◌++◌, ℕ, List, length, IsSomeAnd};
 ghost use Rattle.nb_defs.specs.Records.{Out, IsOut, out_text, record_text};
-ghost use Rattle.nb_lab.specs.Shows.{seen, seen_of, image_named, image_of};
+ghost use Rattle.nb_lab.specs.Shows.{seen, seen_of, image_named, image_at_url, image_of};
 ghost use Rattle.nb_lab.specs.Readings.{seen_by, begins_with_zero, image_by};
 
 use crate::image::Image;
@@ -16,6 +16,11 @@ const RESULT: u8 = 0x85;
 const OPEN: u8 = 0x87;
 
 const TRY: u8 = 0x88;
+
+/// Where the body of an OPEN has the kind, and where its target begins.
+const KIND: usize = 2;
+
+const TARGET: usize = 13;
 
 /// The kinds of an open for a file.
 const BY_TFTP: u8 = 1;
@@ -82,12 +87,14 @@ fn begins_with_zero(body: &[u8]) -> bool
     matches!(body, [0, ..])
 }
 
-/// The image that an OPEN is for: the kind is its third byte, and the target follows the first 13.
+/// The image that an OPEN is for.
 fn image_by(body: &[u8]) -> Option<Image>
     ensures { result ≡ image_by body.now }
 {
-    let (head, target) = body.split_first_chunk::<13>()?;
-    image_of(head[2], target)
+    if body.len() < TARGET {
+        return None;
+    }
+    image_of(body[KIND], &body[TARGET..])
 }
 
 fn image_of(kind: u8, target: &[u8]) -> Option<Image>
@@ -95,7 +102,17 @@ fn image_of(kind: u8, target: &[u8]) -> Option<Image>
 {
     match kind {
         BY_TFTP => Image::named(target),
-        BY_HTTP if target.starts_with(HTTP_ROOT) => Image::named(&target[HTTP_ROOT.len()..]),
+        BY_HTTP => image_at_url(target),
         _ => None,
     }
+}
+
+/// The image of a URL of the servers.
+fn image_at_url(url: &[u8]) -> Option<Image>
+    ensures { result ≡ image_at_url url.now }
+{
+    if !url.starts_with(HTTP_ROOT) {
+        return None;
+    }
+    Image::named(&url[HTTP_ROOT.len()..])
 }

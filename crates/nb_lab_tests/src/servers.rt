@@ -37,11 +37,17 @@ fn sends_an_image_by_tftp(rt: HostRuntime) -> Result<(), Fail> {
         assert_eq!(rt; got.len(), answer.len() + rest);
         assert_eq!(rt; &got[..answer.len()], answer);
         assert!(rt; are_of_image(&got[answer.len()..], 0, 0));
-        assert!(rt; matches!(lab.next(), InRec::Tick(250)), "nothing else comes");
+        assert!(rt;
+            matches!(lab.next(), InRec::Tick(250)),
+            "nothing else comes"
+        );
     }
     lab.give(ACK_2)?;
     for _ in 0..5 {
-        assert!(rt; matches!(lab.next(), InRec::Tick(250)), "the transfer is over");
+        assert!(rt;
+            matches!(lab.next(), InRec::Tick(250)),
+            "the transfer is over"
+        );
     }
     Ok(())
 }
@@ -67,7 +73,10 @@ fn sends_an_image_by_http(rt: HostRuntime) -> Result<(), Fail> {
             assert_eq!(rt; &got[..answer.len()], answer);
             assert!(rt; are_of_image(&got[answer.len()..], 1, from));
         }
-        assert!(rt; matches!(lab.next(), InRec::Tick(250)), "nothing else comes");
+        assert!(rt;
+            matches!(lab.next(), InRec::Tick(250)),
+            "nothing else comes"
+        );
     }
     Ok(())
 }
@@ -86,11 +95,18 @@ fn repeats_what_is_not_acknowledged(rt: HostRuntime) -> Result<(), Fail> {
             assert_eq!(rt; &got[..PLAIN_DATA_1.len()], PLAIN_DATA_1);
         }
         for _ in 0..3 {
-            assert!(rt; matches!(lab.next(), InRec::Tick(250)), "after frame {number}");
+            assert!(rt;
+                matches!(lab.next(), InRec::Tick(250)),
+                "after frame {number}"
+            );
         }
     }
     lab.give(OTHER_REQUEST)?;
-    assert_eq!(rt; frame(&lab.next()).len(), PLAIN_DATA_1.len() + 512, "frame 9");
+    assert_eq!(rt;
+        frame(&lab.next()).len(),
+        PLAIN_DATA_1.len() + 512,
+        "frame 9"
+    );
     assert_eq!(rt; frame(&lab.next()), NOT_FOUND);
     Ok(())
 }

@@ -27,7 +27,10 @@ fn starts_with_the_script(rt: HostRuntime) -> Result<(), Fail> {
     let lab = Lab::new(rt.alloc(), 5)?;
     let start = lab.start();
     assert_eq!(rt; start.mac, Mac([0x52, 0x54, 0, 0, 0, 1]));
-    assert_eq!(rt; [start.ip, start.mask, start.gateway, start.dns], [Ip4(0x0a00_0002), Ip4(0xffff_ff00), Ip4(0), Ip4(0)]);
+    assert_eq!(rt;
+        [start.ip, start.mask, start.gateway, start.dns],
+        [Ip4(0x0a00_0002), Ip4(0xffff_ff00), Ip4(0), Ip4(0)]
+    );
     assert_eq!(rt; start.uuid, [0; 16]);
     assert_eq!(rt; start.key, [0; 32]);
     assert_eq!(rt; (start.arch, start.w), (0, 0));
