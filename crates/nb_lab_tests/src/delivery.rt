@@ -25,37 +25,35 @@ fn host_of_next(lab: &mut Lab) -> u8 {
     }
 }
 
-/// What comes when a frame is sent, by its number: the 7th isn't seen, the 11th twice, the 13th after the next that is.
-/// Of two reasons at once, loss goes first (77, 91), and a late frame comes twice (143).
+/// What comes when a frame is sent, by its number, where it was worked by hand: the 7th isn't seen, the 11th comes twice,
+/// the 13th after the next that is seen. Of two reasons at once, loss goes first (77, 91), and a late frame comes twice (143).
+fn worked(number: u8) -> Option<[u8; 3]> {
+    match number {
+        7 | 13 | 14 | 26 | 77 | 78 | 91 | 143 => Some([0, 0, 0]),
+        11 => Some([11, 11, 0]),
+        15 => Some([15, 13, 0]),
+        22 => Some([22, 22, 0]),
+        27 => Some([27, 26, 0]),
+        79 => Some([79, 78, 0]),
+        92 => Some([92, 0, 0]),
+        144 => Some([144, 143, 143]),
+        145 => Some([145, 0, 0]),
+        _ => None,
+    }
+}
+
 #[test]
 fn frames_come_by_their_numbers(rt: HostRuntime) -> Result<(), Fail> {
     let mut lab = Lab::new(rt.alloc(), 0)?;
-    let mut number = 0;
-    for (next, hosts) in [
-        (7, [0, 0, 0]),
-        (11, [11, 11, 0]),
-        (13, [0, 0, 0]),
-        (14, [0, 0, 0]),
-        (15, [15, 13, 0]),
-        (22, [22, 22, 0]),
-        (26, [0, 0, 0]),
-        (27, [27, 26, 0]),
-        (77, [0, 0, 0]),
-        (78, [0, 0, 0]),
-        (79, [79, 78, 0]),
-        (91, [0, 0, 0]),
-        (92, [92, 0, 0]),
-        (143, [0, 0, 0]),
-        (144, [144, 143, 143]),
-        (145, [145, 0, 0]),
-    ] {
-        while number < next {
-            while host_of_next(&mut lab) != 0 {}
-            number += 1;
-            ask(&mut lab, number)?;
+    for number in 1..146_u8 {
+        for _ in 0..4_u8 {
+            host_of_next(&mut lab);
         }
-        for host in hosts {
-            assert_eq!(rt; host_of_next(&mut lab), host, "with frame {next}");
+        ask(&mut lab, number)?;
+        if let Some(hosts) = worked(number) {
+            for host in hosts {
+                assert_eq!(rt; host_of_next(&mut lab), host, "with frame {number}");
+            }
         }
     }
     Ok(())

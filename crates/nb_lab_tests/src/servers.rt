@@ -12,11 +12,13 @@ fn frame<'a>(entry: &InRec<'a>) -> &'a [u8] {
 }
 
 /// Whether these are bytes of an image from a place on: byte `j` of image `i` is `31 i + 7 j` modulo 256.
-fn are_of_image(bytes: &[u8], i: usize, from: usize) -> bool {
-    for k in 0..bytes.len() {
-        if usize::from(bytes[k]) != (31 * i + 7 * (from + k)) % 256 {
+fn are_of_image(bytes: &[u8], i: u8, from: u16) -> bool {
+    let mut expected = ((31 * u32::from(i) + 7 * u32::from(from)) % 256) as u8;
+    for byte in bytes {
+        if *byte != expected {
             return false;
         }
+        expected = expected.wrapping_add(7);
     }
     true
 }
@@ -87,7 +89,7 @@ fn sends_an_image_by_http(rt: HostRuntime) -> Result<(), Fail> {
 fn repeats_what_is_not_acknowledged(rt: HostRuntime) -> Result<(), Fail> {
     let mut lab = Lab::new(rt.alloc(), 1)?;
     lab.give(PLAIN_REQUEST)?;
-    for number in 1..9 {
+    for number in 1..9_u8 {
         if number != 7 {
             let entry = lab.next();
             let got = frame(&entry);
