@@ -7,7 +7,7 @@ use Rattle.nb_lab.specs.declared.connection.StreamPart.{StreamPart}
 use Rattle.nb_lab.specs.declared.connection.StreamPart.TheVariants.{Acknowledgement}
 use Rattle.nb_lab.specs.declared.connection.Connection.{Connection}
 use Rattle.nb_lab.specs.Connections.{has_flag, after_ack, next_part}
-use Rattle.nb_lab.specs.Receptions.{is_closed, place_after, counts, brings_more, IsReceived, Receives, IsTaken}
+use Rattle.nb_lab.specs.Receptions.{is_closed, place_after, counts, brings_more, IsReceived, ConnectionReceives, IsSegmentTaken}
 
 contrary : (b : Bool) → b ≡ true → b ≡ false → ⊥
 contrary b h k = true≢false (sym h ∙ k)
@@ -16,7 +16,7 @@ pub counts_so : (c : Connection) (s : SegmentParts) → has_flag s 16 ≡ true �
 counts_so c s h k = ap (λ (b : Bool). b && not (is_closed c.state)) h ∙ ap (λ (b : Bool). not b) k
 
 pub taken_more : (c : Connection) (s : SegmentParts) (images : ℕ) (part : Option StreamPart) (d : Connection) → has_flag s 4 ≡ false → counts c s ≡ true
-    → brings_more s ≡ true → Receives c s images part d → IsTaken c s images part d
+    → brings_more s ≡ true → ConnectionReceives c s images part d → IsSegmentTaken c s images part d
 taken_more c s images part d plain is more receives = record {
   reset = λ other. absurd (contrary (has_flag s 4) other plain);
   dropped = λ _ other. absurd (contrary (counts c s) is other);
@@ -27,7 +27,7 @@ taken_more c s images part d plain is more receives = record {
 -- what is sent where more comes
 pub receives_more : (c b : Connection) (s : SegmentParts) (images : ℕ) (first next part : Option StreamPart) (place : ℕ) (d : Connection) → b ≡ after_ack c s
     → IsReceived b s images first d → next ≡ next_part c s → place ≡ place_after b.state
-    → part ≡ Some (unwrap_or (option_or first next) (Acknowledgement place)) → Receives c s images part d
+    → part ≡ Some (unwrap_or (option_or first next) (Acknowledgement place)) → ConnectionReceives c s images part d
 receives_more c b s images first next part place d is received next_is place_is part_is =
     let sends : Option StreamPart → ℕ → Option StreamPart = λ n k. Some (unwrap_or (option_or first n) (Acknowledgement k)) in
     let Of : Connection → Type 0 = λ x. IsReceived x s images first d in

@@ -11,7 +11,7 @@ use Rattle.nb_lab.specs.declared.connection.Connection.{Connection}
 use Rattle.nb_lab.specs.Pages.{response_text}
 use Rattle.nb_lab.specs.Streams.{piece_len, end_of, is_last, sent_by}
 use Rattle.nb_lab.specs.Connections.{has_flag, place_of, piece_from, sends, advances, advanced, acknowledged_by, after_ack}
-use Rattle.nb_lab.specs.Receptions.{after_reset, counts, brings_more, number_after, received_by, received, IsTaken}
+use Rattle.nb_lab.specs.Receptions.{after_reset, counts, brings_more, number_after, received_by, received, IsSegmentTaken}
 use Rattle.nb_lab.specs.OneResponse.{GoesOnFrom, SendsInOrder}
 
 decide : (b : Bool) → (b ≡ true) ⊎ (b ≡ false)

@@ -9,7 +9,7 @@ use Rattle.nb_tcpseg.specs.SegmentText.{SegmentParts, IsSegment}
 use Rattle.nb_tftpmsg.specs.Packets.{Message, IsTftpPacket}
 use Rattle.nb_lab.specs.declared.hosts.Peer.{Peer}
 use Rattle.nb_lab.specs.Hosts.{server}
-use Rattle.nb_lab.specs.Bringing.{Brought, question, packet, segment, BringsIn, peer_of}
+use Rattle.nb_lab.specs.Bringing.{FrameBrought, question, packet, segment, FrameBringsIn, peer_of}
 
 flipped : (x : Bool) → true ≡ not x → x ≡ false
 flipped true h = h
@@ -23,13 +23,13 @@ is_other dst r taken test is =
 
 module _ (f : Frame) (kind : f.kind ≡ 2048) where
   -- no packet, or one for another host or of another protocol, brings nothing
-  pub no_packet : (b : Brought) → ((p : PacketParts) → IsPacket f.body p → ⊥) → BringsIn f b → ⊥
+  pub no_packet : (b : FrameBrought) → ((p : PacketParts) → IsPacket f.body p → ⊥) → FrameBringsIn f b → ⊥
   no_packet (question mac ip) none h = omega (arith, kind, h.1.kind)
   no_packet (packet from port text) none h = none h.0 h.2.packet.packet
   no_packet (segment from parts) none h = none h.0 h.1.packet.packet
 
   module _ (q : PacketParts) (only : (p : PacketParts) → IsPacket f.body p → q ≡ p) where
-    pub other_target : (b : Brought) → (q.dst ≡ server → ⊥) → BringsIn f b → ⊥
+    pub other_target : (b : FrameBrought) → (q.dst ≡ server → ⊥) → FrameBringsIn f b → ⊥
     other_target (question mac ip) other h = omega (arith, kind, h.1.kind)
     other_target (packet from port text) other h =
         let to : PacketParts → Ip4 = λ p. p.dst in
@@ -38,7 +38,7 @@ module _ (f : Frame) (kind : f.kind ≡ 2048) where
         let to : PacketParts → Ip4 = λ p. p.dst in
         other (ap to (only h.0 h.1.packet.packet) ∙ h.1.packet.target)
 
-    pub other_proto : (b : Brought) → (q.proto ≡ 17 → ⊥) → (q.proto ≡ 6 → ⊥) → BringsIn f b → ⊥
+    pub other_proto : (b : FrameBrought) → (q.proto ≡ 17 → ⊥) → (q.proto ≡ 6 → ⊥) → FrameBringsIn f b → ⊥
     other_proto (question mac ip) no17 no6 h = omega (arith, kind, h.1.kind)
     other_proto (packet from port text) no17 no6 h =
         let number : PacketParts → ℕ = λ p. p.proto in
@@ -48,9 +48,9 @@ module _ (f : Frame) (kind : f.kind ≡ 2048) where
         no6 (ap number (only h.0 h.1.packet.packet) ∙ h.1.packet.proto)
 
     -- a datagram's packet brings a packet of TFTP at most, and a segment's a segment
-    pub by_datagram : (P : Brought → Type 0) → q.proto ≡ 17
+    pub by_datagram : (P : FrameBrought → Type 0) → q.proto ≡ 17
         → ((d : UdpParts) (text : Message) → IsUdp q.src q.dst q.body d → IsTftpPacket d.body text → P (packet (peer_of f q d.src_port) d.dst_port text))
-        → (b : Brought) → BringsIn f b → P b
+        → (b : FrameBrought) → FrameBringsIn f b → P b
     by_datagram P proto each (question mac ip) h = absurd (omega (arith, kind, h.1.kind))
     by_datagram P proto each (packet from port text) h =
         let same = only h.0 h.2.packet.packet in
@@ -64,9 +64,9 @@ module _ (f : Frame) (kind : f.kind ≡ 2048) where
         let number : PacketParts → ℕ = λ p. p.proto in
         absurd (omega (arith, proto, ap number (only h.0 h.1.packet.packet), h.1.packet.proto))
 
-    pub by_segment : (P : Brought → Type 0) → q.proto ≡ 6
+    pub by_segment : (P : FrameBrought → Type 0) → q.proto ≡ 6
         → ((parts : SegmentParts) → IsSegment q.src q.dst q.body parts → P (segment (peer_of f q parts.src_port) parts))
-        → (b : Brought) → BringsIn f b → P b
+        → (b : FrameBrought) → FrameBringsIn f b → P b
     by_segment P proto each (question mac ip) h = absurd (omega (arith, kind, h.1.kind))
     by_segment P proto each (packet from port text) h =
         let number : PacketParts → ℕ = λ p. p.proto in

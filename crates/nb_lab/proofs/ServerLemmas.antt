@@ -6,24 +6,24 @@ use Rattle.nb_lab.specs.declared.hosts.Peer.{Peer}
 use Rattle.nb_lab.specs.declared.connection.StreamPart.{StreamPart}
 use Rattle.nb_lab.specs.declared.connection.Connection.{Connection}
 use Rattle.nb_lab.specs.declared.answer.Answer.TheVariants.{Stream}
-use Rattle.nb_lab.specs.Receptions.{IsTaken}
+use Rattle.nb_lab.specs.Receptions.{IsSegmentTaken}
 use Rattle.nb_lab.specs.declared.answer.Answer.{Answer}
 use Rattle.nb_lab.specs.declared.server.Server.{Server}
-use Rattle.nb_lab.specs.Bringing.{Brought, Brings}
+use Rattle.nb_lab.specs.Bringing.{FrameBrought, FrameBrings}
 use Rattle.nb_lab.specs.Servers.{Answers, TakesFrame, IsStreamed}
 
 -- a frame that brings this and nothing else
-pub takes_brought : (s : Server) (bytes : List ℕ) (b : Brought) (answer : Option Answer) (after : Server) → Brings bytes b
-    → ((other : Brought) → Brings bytes other → b ≡ other) → Answers s b answer after → TakesFrame s bytes answer after
+pub takes_brought : (s : Server) (bytes : List ℕ) (b : FrameBrought) (answer : Option Answer) (after : Server) → FrameBrings bytes b
+    → ((other : FrameBrought) → FrameBrings bytes other → b ≡ other) → Answers s b answer after → TakesFrame s bytes answer after
 takes_brought s bytes b answer after is only answers = record {
   brings = λ other h.
-      let P : Brought → Type 0 = λ x. Answers s x answer after in
+      let P : FrameBrought → Type 0 = λ x. Answers s x answer after in
       subst P (only other h) answers;
   nothing = λ none. absurd (none b is);
 }
 
 -- one that brings nothing
-pub takes_nothing : (s : Server) (bytes : List ℕ) → ((b : Brought) → Brings bytes b → ⊥) → TakesFrame s bytes None s
+pub takes_nothing : (s : Server) (bytes : List ℕ) → ((b : FrameBrought) → FrameBrings bytes b → ⊥) → TakesFrame s bytes None s
 takes_nothing s bytes none = record { brings = λ b h. absurd (none b h); nothing = λ _. (refl, refl) }
 
 -- a segment of another peer is nothing to a connection
@@ -32,6 +32,6 @@ stream_other c from s images other = (λ same. absurd (other same), λ _. (refl,
 
 -- one of its own is taken
 pub stream_on : (c d : Connection) (from : Peer) (s : SegmentParts) (images : ℕ) (part : Option StreamPart) (answer : Option Answer) → c.peer ≡ from
-    → IsTaken c s images part d → answer ≡ option_map (Stream from d.expected) part → IsStreamed (Some c) from s images answer (Some d)
+    → IsSegmentTaken c s images part d → answer ≡ option_map (Stream from d.expected) part → IsStreamed (Some c) from s images answer (Some d)
 stream_on c d from s images part answer same taken is =
     (λ _. record { part = part; next = d; taken = taken; sent = is; stands = refl }, λ other. absurd (other same))

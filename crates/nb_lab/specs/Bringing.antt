@@ -16,10 +16,10 @@ use Rattle.nb_lab.specs.declared.received.Received.TheVariants.{Question, Packet
 use Rattle.nb_lab.specs.Hosts.{server, server_mac, everyone}
 
 -- a host asks for the servers' interface; a packet of TFTP comes to a port; a segment comes
-pub data Brought : Type 0 where
-  question : (mac : Mac) (ip : Ip4) → Brought
-  packet : (from : Peer) (port : ℕ) (text : Message) → Brought
-  segment : (from : Peer) (parts : SegmentParts) → Brought
+pub data FrameBrought : Type 0 where
+  question : (mac : Mac) (ip : Ip4) → FrameBrought
+  packet : (from : Peer) (port : ℕ) (text : Message) → FrameBrought
+  segment : (from : Peer) (parts : SegmentParts) → FrameBrought
 
 -- the frame is for the servers' interface or for all
 pub record IsForServers (bytes : List ℕ) (f : Frame) : Type 0 where
@@ -50,24 +50,24 @@ pub record IsTftpIn (f : Frame) (p : PacketParts) (d : UdpParts) (text : Message
   pub spelled : IsTftpPacket d.body text
 
 -- the frame has this segment
-pub record IsSegmentIn (f : Frame) (p : PacketParts) (parts : SegmentParts) : Type 0 where
+pub record IsFrameSegment (f : Frame) (p : PacketParts) (parts : SegmentParts) : Type 0 where
   pub packet : IsPacketIn f 6 p
   pub segment : IsSegment p.src p.dst p.body parts
 
 -- the frame brings this
-abbrev pub BringsIn : Frame → Brought → Type 0
-BringsIn f (question mac ip) = (arp : Arp) × IsQuestionIn f arp × (mac ≡ arp.sha) × (ip ≡ arp.spa)
-BringsIn f (packet from port text) =
+abbrev pub FrameBringsIn : Frame → FrameBrought → Type 0
+FrameBringsIn f (question mac ip) = (arp : Arp) × IsQuestionIn f arp × (mac ≡ arp.sha) × (ip ≡ arp.spa)
+FrameBringsIn f (packet from port text) =
     (p : PacketParts) × (d : UdpParts) × IsTftpIn f p d text × (from ≡ peer_of f p d.src_port) × (port ≡ d.dst_port)
-BringsIn f (segment from parts) =
-    (p : PacketParts) × IsSegmentIn f p parts × (from ≡ peer_of f p parts.src_port)
+FrameBringsIn f (segment from parts) =
+    (p : PacketParts) × IsFrameSegment f p parts × (from ≡ peer_of f p parts.src_port)
 
 -- these bytes are a frame that brings the servers this
-abbrev pub Brings : List ℕ → Brought → Type 0
-Brings bytes b = (f : Frame) × IsForServers bytes f × BringsIn f b
+abbrev pub FrameBrings : List ℕ → FrameBrought → Type 0
+FrameBrings bytes b = (f : Frame) × IsForServers bytes f × FrameBringsIn f b
 
 -- what was read, without where it lies in memory
-abbrev pub brought : Received → Brought
+abbrev pub brought : Received → FrameBrought
 brought (Question mac ip) = question mac ip
 brought (Packet from port text) = packet from port (message text)
 brought (Segment from parts) = segment from (segment_parts parts)

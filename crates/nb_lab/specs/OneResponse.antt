@@ -8,7 +8,7 @@ use Rattle.nb_lab.specs.declared.connection.State.TheVariants.{Opened, Reading, 
 use Rattle.nb_lab.specs.declared.connection.Connection.{Connection}
 use Rattle.nb_lab.specs.Pages.{response_text}
 use Rattle.nb_lab.specs.Streams.{end_of}
-use Rattle.nb_lab.specs.Receptions.{IsTaken}
+use Rattle.nb_lab.specs.Receptions.{IsSegmentTaken}
 
 -- where a connection may stand that sent this piece: it waits still, or a later piece is sent, which begins within it or right
 -- after it; or all bytes and the FIN are acknowledged; or nothing is received any more
@@ -22,4 +22,4 @@ GoesOnFrom p Closed = ⊤
 -- whatever segment of the peer is taken
 abbrev pub SendsInOrder : Type 0
 SendsInOrder = (c d : Connection) (p : Piece) (s : SegmentParts) (images : ℕ) (part : Option StreamPart) → c.state ≡ Sending p
-    → IsTaken c s images part d → GoesOnFrom p d.state
+    → IsSegmentTaken c s images part d → GoesOnFrom p d.state

@@ -92,7 +92,7 @@ pub record IsPageOf (images : ℕ) (bytes : List ℕ) (page : Option Page) : Typ
   pub long : 1024 < length bytes → page ≡ Some BadRequest
 
 -- the request is read on with a segment's bytes
-pub record IsGathered (c : Connection) (s : SegmentParts) (images : ℕ) (part : Option StreamPart) (after : Connection) : Type 0 where
+pub record IsRequestGathered (c : Connection) (s : SegmentParts) (images : ℕ) (part : Option StreamPart) (after : Connection) : Type 0 where
   pub page : Option Page
   pub is_page : IsPageOf images (c.request.items ++ s.body) page
   pub sent : part ≡ answer_part c s page
@@ -106,14 +106,14 @@ pub record IsReceived (c : Connection) (s : SegmentParts) (images : ℕ) (part :
   pub stands : after ≡ received c s page
 
 -- Bytes or a FIN come with a segment: the first part of the response is sent, or else the next one, or else an acknowledgement.
-pub record Receives (c : Connection) (s : SegmentParts) (images : ℕ) (part : Option StreamPart) (after : Connection) : Type 0 where
+pub record ConnectionReceives (c : Connection) (s : SegmentParts) (images : ℕ) (part : Option StreamPart) (after : Connection) : Type 0 where
   pub first : Option StreamPart
   pub received : IsReceived (after_ack c s) s images first after
   pub sent : part ≡ Some (unwrap_or (option_or first (next_part c s)) (Acknowledgement (place_after (after_ack c s).state)))
 
 -- this is sent, and the connection stands so
-pub record IsTaken (c : Connection) (s : SegmentParts) (images : ℕ) (part : Option StreamPart) (after : Connection) : Type 0 where
+pub record IsSegmentTaken (c : Connection) (s : SegmentParts) (images : ℕ) (part : Option StreamPart) (after : Connection) : Type 0 where
   pub reset : has_flag s 4 ≡ true → (part ≡ None) × (after ≡ after_reset c s)
   pub dropped : has_flag s 4 ≡ false → counts c s ≡ false → (part ≡ None) × (after ≡ c)
   pub acknowledges : has_flag s 4 ≡ false → counts c s ≡ true → brings_more s ≡ false → (part ≡ next_part c s) × (after ≡ after_ack c s)
-  pub receives : has_flag s 4 ≡ false → counts c s ≡ true → brings_more s ≡ true → Receives c s images part after
+  pub receives : has_flag s 4 ≡ false → counts c s ≡ true → brings_more s ≡ true → ConnectionReceives c s images part after

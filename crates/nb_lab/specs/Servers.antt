@@ -20,8 +20,8 @@ use Rattle.nb_lab.specs.declared.server.Server.{Server}
 use Rattle.nb_lab.specs.Files.{last_part, begun, acknowledged, after_acknowledged}
 use Rattle.nb_lab.specs.Requests.{image_in}
 use Rattle.nb_lab.specs.Connections.{opened, waiting_part}
-use Rattle.nb_lab.specs.Receptions.{IsTaken}
-use Rattle.nb_lab.specs.Bringing.{Brought, question, packet, segment, Brings}
+use Rattle.nb_lab.specs.Receptions.{IsSegmentTaken}
+use Rattle.nb_lab.specs.Bringing.{FrameBrought, question, packet, segment, FrameBrings}
 
 -- nobody has asked the servers of so many images anything
 abbrev pub fresh : ℕ → Server
@@ -72,10 +72,10 @@ abbrev pub begins : SegmentParts → Bool
 begins s = bit_and s.flags 22 == 2
 
 -- the connection goes on with this peer
-pub record GoesOn (c : Connection) (from : Peer) (s : SegmentParts) (images : ℕ) (answer : Option Answer) (after : Option Connection) : Type 0 where
+pub record ServerGoesOn (c : Connection) (from : Peer) (s : SegmentParts) (images : ℕ) (answer : Option Answer) (after : Option Connection) : Type 0 where
   pub part : Option StreamPart
   pub next : Connection
-  pub taken : IsTaken c s images part next
+  pub taken : IsSegmentTaken c s images part next
   pub sent : answer ≡ option_map (Stream from next.expected) part
   pub stands : after ≡ Some next
 
@@ -83,7 +83,7 @@ pub record GoesOn (c : Connection) (from : Peer) (s : SegmentParts) (images : �
 abbrev pub IsStreamed : Option Connection → Peer → SegmentParts → ℕ → Option Answer → Option Connection → Type 0
 IsStreamed None from s images answer after = (answer ≡ None) × (after ≡ None)
 IsStreamed (Some c) from s images answer after =
-    (c.peer ≡ from → GoesOn c from s images answer after) × ((c.peer ≡ from → ⊥) → (answer ≡ None) × (after ≡ Some c))
+    (c.peer ≡ from → ServerGoesOn c from s images answer after) × ((c.peer ≡ from → ⊥) → (answer ≡ None) × (after ≡ Some c))
 
 -- what a segment comes to: to port 80 a SYN begins a connection in place of the last one
 pub record IsStreamStep (before : Option Connection) (from : Peer) (s : SegmentParts) (images : ℕ) (answer : Option Answer) (after : Option Connection) : Type 0 where
@@ -93,7 +93,7 @@ pub record IsStreamStep (before : Option Connection) (from : Peer) (s : SegmentP
   pub goes_on : s.dst_port ≡ 80 → begins s ≡ false → IsStreamed before from s images answer after
 
 -- what the servers answer to what a frame brings, and how they stand then
-abbrev pub Answers : Server → Brought → Option Answer → Server → Type 0
+abbrev pub Answers : Server → FrameBrought → Option Answer → Server → Type 0
 Answers s (question mac ip) answer after = (answer ≡ Some (Interface mac ip)) × (after ≡ s)
 Answers s (packet from port text) answer after =
     (step : FileStep) × IsFileStep s from port text step × (answer ≡ option_map (File from) step.sent) × (after ≡ record s { transfer = step.transfer })
@@ -102,8 +102,8 @@ Answers s (segment from parts) answer after =
 
 -- a frame is taken: what it brings is answered, and one that brings nothing is not
 pub record TakesFrame (s : Server) (bytes : List ℕ) (answer : Option Answer) (after : Server) : Type 0 where
-  pub brings : (b : Brought) → Brings bytes b → Answers s b answer after
-  pub nothing : ((b : Brought) → Brings bytes b → ⊥) → (answer ≡ None) × (after ≡ s)
+  pub brings : (b : FrameBrought) → FrameBrings bytes b → Answers s b answer after
+  pub nothing : ((b : FrameBrought) → FrameBrings bytes b → ⊥) → (answer ≡ None) × (after ≡ s)
 
 -- after three TICKs without an acknowledgement what waits for it is sent again
 abbrev pub is_time : Silence → Bool

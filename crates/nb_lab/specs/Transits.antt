@@ -57,21 +57,21 @@ held_of answers n = option_map (λ a. record { answer = a; twice = comes_twice n
 
 -- The frames that were sent are these in this order, and those have gone to the client: which come, and in which order, is a
 -- function of their numbers.
-pub record HasDelivered (t : Transit) (answers gone : List Answer) : Type 0 where
+pub record LabDelivered (t : Transit) (answers gone : List Answer) : Type 0 where
   pub number : t.number ≡ length answers % 1001
   pub late : t.late ≡ option_and_then (held_of answers) (late_after (length answers))
   pub waiting : gone ++ t.waiting ≡ those answers (arrivals (length answers))
 
 -- one frame more is sent
 abbrev pub ComeByNumbers : Type 0
-ComeByNumbers = (t : Transit) (answers gone : List Answer) (answer : Answer) → HasDelivered t answers gone
-    → HasDelivered (sent t answer) (answers ++ answer ∷ []) gone
+ComeByNumbers = (t : Transit) (answers gone : List Answer) (answer : Answer) → LabDelivered t answers gone
+    → LabDelivered (sent t answer) (answers ++ answer ∷ []) gone
 
 -- one frame more goes to the client
 abbrev pub GoInOrder : Type 0
-GoInOrder = (t : Transit) (answers gone rest : List Answer) (answer : Answer) → t.waiting ≡ answer ∷ rest → HasDelivered t answers gone
-    → HasDelivered (record t { waiting = rest }) answers (gone ++ answer ∷ [])
+GoInOrder = (t : Transit) (answers gone rest : List Answer) (answer : Answer) → t.waiting ≡ answer ∷ rest → LabDelivered t answers gone
+    → LabDelivered (record t { waiting = rest }) answers (gone ++ answer ∷ [])
 
 -- at first
 abbrev pub NothingHasCome : Type 0
-NothingHasCome = HasDelivered nothing_sent [] []
+NothingHasCome = LabDelivered nothing_sent [] []

@@ -3,7 +3,7 @@
 ghost use Rattle.std.specs.Prelude.{◌≡◌, ◌==◌, ◌++◌, None, if◌then◌else◌};
 ghost use Rattle.nb_tcpseg.specs.SegmentText.{segment_parts};
 ghost use Rattle.nb_lab.specs.Connections.{has_flag, waiting_part, opened, piece_from, sends, advances, advanced, after_ack, next_part};
-ghost use Rattle.nb_lab.specs.Receptions.{is_closed, place_after, brings_more, number_after, with_bytes, IsPageOf, IsGathered, IsReceived, IsTaken};
+ghost use Rattle.nb_lab.specs.Receptions.{is_closed, place_after, brings_more, number_after, with_bytes, IsPageOf, IsRequestGathered, IsReceived, IsSegmentTaken};
 ghost use Rattle.nb_lab.specs.declared.connection.StreamPart.TheVariants.{Bytes};
 ghost use Rattle.nb_lab.specs.declared.connection.State.TheVariants.{Closed};
 
@@ -77,7 +77,7 @@ impl Connection {
 
     /// Takes a segment of the peer that begins no connection, and returns what is sent then.
     pub fn take(&mut self, segment: &Segment<'_>, images: u8) -> Option<StreamPart>
-        ensures { IsTaken self.old (segment_parts segment.now) images result self.new }
+        ensures { IsSegmentTaken self.old (segment_parts segment.now) images result self.new }
     {
         if has(segment, RST) {
             self.reset(segment.seq);
@@ -187,7 +187,7 @@ impl Connection {
 
     /// Gathers the request.
     fn gather(&mut self, segment: &Segment<'_>, images: u8) -> Option<StreamPart>
-        ensures { IsGathered self.old (segment_parts segment.now) images result self.new }
+        ensures { IsRequestGathered self.old (segment_parts segment.now) images result self.new }
     {
         let page = self.read_on(segment.body, images)?;
         Some(self.send(page, 0, segment.window))

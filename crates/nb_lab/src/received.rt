@@ -7,7 +7,7 @@ ghost use Rattle.nb_ipv4.specs.UdpText.{UdpParts, IsUdp};
 ghost use Rattle.nb_tcpseg.specs.SegmentText.{SegmentParts, IsSegment};
 ghost use Rattle.nb_tftpmsg.specs.Packets.{Message, IsTftpPacket};
 ghost use Rattle.nb_lab.specs.Hosts.{server_mac, everyone};
-ghost use Rattle.nb_lab.specs.Bringing.{Brought, packet as packet_from, segment as segment_from, Brings, BringsIn, IsPacketIn, peer_of, brought};
+ghost use Rattle.nb_lab.specs.Bringing.{FrameBrought, packet as packet_from, segment as segment_from, FrameBrings, FrameBringsIn, IsPacketIn, peer_of, brought};
 
 use crate::hosts::{EVERYONE, Peer, SERVER, SERVER_MAC};
 use nb_ether::{ARP_REQUEST, Arp, EtherFrame, KIND_ARP, KIND_IPV4};
@@ -39,8 +39,8 @@ pub enum Received<'a> {
 
 /// What a frame brings, if anything.
 pub fn read_frame(bytes: &[u8]) -> Option<Received<'_>>
-    ensures sound { IfSome result (λ r. Brings bytes.now (brought r)) }
-    ensures complete { (b : Brought) → Brings bytes.now b → IsSomeAnd result (λ r. brought r ≡ b) }
+    ensures sound { IfSome result (λ r. FrameBrings bytes.now (brought r)) }
+    ensures complete { (b : FrameBrought) → FrameBrings bytes.now b → IsSomeAnd result (λ r. brought r ≡ b) }
 {
     let frame = EtherFrame::read(bytes)?;
     if !is_for_servers(frame.dst) {
@@ -61,8 +61,8 @@ fn is_for_servers(dst: Mac) -> bool
 
 fn question_in<'a>(frame: EtherFrame<'a>) -> Option<Received<'a>>
     requires { frame.kind ≡ 2054 }
-    ensures sound { IfSome result (λ r. BringsIn (frame_of frame.entry) (brought r)) }
-    ensures complete { (b : Brought) → BringsIn (frame_of frame.entry) b → IsSomeAnd result (λ r. brought r ≡ b) }
+    ensures sound { IfSome result (λ r. FrameBringsIn (frame_of frame.entry) (brought r)) }
+    ensures complete { (b : FrameBrought) → FrameBringsIn (frame_of frame.entry) b → IsSomeAnd result (λ r. brought r ≡ b) }
 {
     let arp = Arp::read(frame.body)?;
     if arp.op != ARP_REQUEST || arp.tpa != SERVER {
@@ -76,8 +76,8 @@ fn question_in<'a>(frame: EtherFrame<'a>) -> Option<Received<'a>>
 
 fn message_in<'a>(frame: EtherFrame<'a>) -> Option<Received<'a>>
     requires { frame.kind ≡ 2048 }
-    ensures sound { IfSome result (λ r. BringsIn (frame_of frame.entry) (brought r)) }
-    ensures complete { (b : Brought) → BringsIn (frame_of frame.entry) b → IsSomeAnd result (λ r. brought r ≡ b) }
+    ensures sound { IfSome result (λ r. FrameBringsIn (frame_of frame.entry) (brought r)) }
+    ensures complete { (b : FrameBrought) → FrameBringsIn (frame_of frame.entry) b → IsSomeAnd result (λ r. brought r ≡ b) }
 {
     let packet = Packet::read(frame.body)?;
     if packet.dst != SERVER {
@@ -92,7 +92,7 @@ fn message_in<'a>(frame: EtherFrame<'a>) -> Option<Received<'a>>
 
 fn datagram_in<'a>(frame: EtherFrame<'a>, packet: Packet<'a>) -> Option<Received<'a>>
     requires { IsPacketIn (frame_of frame) 17 (packet_parts packet) }
-    ensures sound { IfSome result (λ r. BringsIn (frame_of frame.entry) (brought r)) }
+    ensures sound { IfSome result (λ r. FrameBringsIn (frame_of frame.entry) (brought r)) }
     ensures complete { let p = packet_parts packet.entry in (d : UdpParts) (text : Message)
         → IsUdp p.src p.dst p.body d → IsTftpPacket d.body text
         → IsSomeAnd result (λ r. brought r ≡ packet_from (peer_of (frame_of frame.entry) p d.src_port) d.dst_port text) }
@@ -111,7 +111,7 @@ fn datagram_in<'a>(frame: EtherFrame<'a>, packet: Packet<'a>) -> Option<Received
 
 fn segment_in<'a>(frame: EtherFrame<'a>, packet: Packet<'a>) -> Option<Received<'a>>
     requires { IsPacketIn (frame_of frame) 6 (packet_parts packet) }
-    ensures sound { IfSome result (λ r. BringsIn (frame_of frame.entry) (brought r)) }
+    ensures sound { IfSome result (λ r. FrameBringsIn (frame_of frame.entry) (brought r)) }
     ensures complete { let p = packet_parts packet.entry in (parts : SegmentParts) → IsSegment p.src p.dst p.body parts
         → IsSomeAnd result (λ r. brought r ≡ segment_from (peer_of (frame_of frame.entry) p parts.src_port) parts) }
 {
