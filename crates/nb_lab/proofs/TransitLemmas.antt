@@ -1,6 +1,5 @@
 -- Frames come by their numbers.
 use Rattle.std.proofs.Common.{◌≡◌, ◌==◌, ℕ, zero, suc, ◌+◌, ◌-◌, ◌%◌, ◌≤◌, ◌<◌, Bool, true, false, List, [], ◌∷◌, ◌++◌, length, slice_get, Option, Some, None, option_and_then, option_to_list, if◌then◌else◌, refl, sym, ap, subst, ◌∙◌, append_assoc, arith}
-use Rattle.std.specs.List.{flat_map}
 use Rattle.std.specs.Option.{option_map, option_map_or}
 use Rattle.std.proofs.lemmas.List.{length-append, append-nil}
 use Rattle.std.proofs.lemmas.Grind.{flat_map-append}
@@ -10,7 +9,7 @@ use Rattle.nb_lab.specs.declared.fate.Fate.{Fate}
 use Rattle.nb_lab.specs.declared.fate.Fate.TheVariants.{Lost, OnTime, Late}
 use Rattle.nb_lab.specs.Fates.{fate, times, copies, comes_twice, late_after, arrivals}
 use Rattle.nb_lab.proofs.FateLemmas.{late_by, coming_by, late_step, arrivals_step}
-use Rattle.nb_lab.specs.Transits.{Transit, nothing_sent, held_copies, sent_by_fate, number_after, sent, numbered, those, held_of, HasDelivered, ComeByNumbers, GoInOrder, NothingHasCome}
+use Rattle.nb_lab.specs.Transits.{Transit, held_copies, sent_by_fate, number_after, numbered, those, held_of, HasDelivered, ComeByNumbers, GoInOrder, NothingHasCome}
 
 -- numbers from 1 up to a greatest
 Within : ℕ → List ℕ → Type 0
