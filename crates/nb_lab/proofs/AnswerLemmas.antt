@@ -1,9 +1,9 @@
 -- Frames of the servers: how they are put, and how long they are.
-use Rattle.std.proofs.Common.{◌≡◌, ◌==◌, ℕ, ◌+◌, ◌*◌, ◌≤◌, ◌<◌, ◌^◌, Bool, true, false, List, [], ◌∷◌, ◌++◌, length, take, map, Option, Some, Ok, Err, Result, if◌then◌else◌, refl, sym, ap, ◌∙◌, append_assoc, arith}
+use Rattle.std.proofs.Common.{◌≡◌, ◌==◌, ℕ, ◌+◌, ◌*◌, ◌≤◌, ◌<◌, Bool, true, false, List, [], ◌∷◌, ◌++◌, length, map, Option, Some, Ok, Err, Result, if◌then◌else◌, refl, sym, ap, ◌∙◌, append_assoc, arith}
 use Rattle.std.specs.Int.{w16, to_be_bytes}
 use Rattle.std.specs.Int.Digits.{digits_of}
 use Rattle.std.specs.Fmt.{decimal}
-use Rattle.std.proofs.lemmas.List.{length-append, length-take}
+use Rattle.std.proofs.lemmas.List.{length-append}
 use Rattle.std.proofs.lemmas.Fmt.{decimal-digits_of, length-decimal-le}
 use Rattle.std.proofs.lemmas.Bool.{ne_eqb, true≢false}
 use Rattle.std.specs.Result.{IsOk, IsErr}
@@ -11,7 +11,7 @@ use Rattle.nb_defs.specs.Records.{IsFrameRecord}
 use Rattle.nb_wire.specs.Checksum.{checksum}
 use Rattle.nb_wire.specs.declared.address.Ip4.{Ip4}
 use Rattle.nb_wire.specs.declared.address.Mac.{Mac}
-use Rattle.nb_ether.specs.Frame.{frame_head, frame_text}
+use Rattle.nb_ether.specs.Frame.{frame_head}
 use Rattle.nb_ipv4.specs.PacketText.{PacketParts, header_text, sent_header, sent_parts, sent_packet}
 use Rattle.nb_tcpseg.specs.SegmentText.{SegmentParts, tcp_header, sent_header_len, sent_options, sent_sum, sent_segment}
 use Rattle.nb_tcpseg.proofs.HeaderLemmas.{length-tcp_header}

@@ -1,5 +1,5 @@
 -- What comes and what is late, from one frame to the next.
-use Rattle.std.proofs.Common.{◌≡◌, ◌==◌, ℕ, zero, suc, ◌+◌, ◌-◌, ◌%◌, Bool, true, false, List, [], ◌∷◌, ◌++◌, Option, Some, None, if◌then◌else◌, refl, sym, ap, ◌∙◌, arith}
+use Rattle.std.proofs.Common.{◌≡◌, ◌==◌, ℕ, suc, ◌+◌, ◌-◌, ◌%◌, Bool, true, false, List, [], ◌∷◌, ◌++◌, Option, Some, None, if◌then◌else◌, refl, sym, ap, ◌∙◌, arith}
 use Rattle.std.specs.List.{flat_map, range_with_len}
 use Rattle.std.specs.Option.{option_map_or}
 use Rattle.std.proofs.lemmas.Bool.{true≢false, eqb-true, ne_eqb}
@@ -8,7 +8,7 @@ use Rattle.std.proofs.lemmas.List.FromFn.{map-range_with_len_more}
 use Rattle.std.proofs.lemmas.Grind.{flat_map-append}
 use Rattle.nb_lab.specs.declared.fate.Fate.{Fate}
 use Rattle.nb_lab.specs.declared.fate.Fate.TheVariants.{Lost, OnTime, Late}
-use Rattle.nb_lab.specs.Fates.{is_lost, is_late, comes_twice, fate, copies, last_before, if_late, come_with, arrivals, late_after}
+use Rattle.nb_lab.specs.Fates.{is_lost, comes_twice, fate, copies, last_before, if_late, come_with, arrivals, late_after}
 
 -- the frame that is late still once one was sent, by the fate of that one and what was late before
 abbrev pub late_by : Fate → ℕ → Option ℕ → Option ℕ

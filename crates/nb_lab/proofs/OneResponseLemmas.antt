@@ -1,17 +1,16 @@
 -- The pieces of a response are sent in order.
-use Rattle.std.proofs.Common.{◌≡◌, ◌⊎◌, ◌==◌, ◌&&◌, ℕ, ◌+◌, ◌-◌, ◌<◌, ◌≤◌, Bool, true, false, nat_lt, nat_le, min, length, Option, if◌then◌else◌, inl, inr, refl, sym, ap, subst, ◌∙◌, arith}
+use Rattle.std.proofs.Common.{◌≡◌, ◌⊎◌, ◌==◌, ◌&&◌, ℕ, ◌+◌, ◌-◌, ◌<◌, ◌≤◌, Bool, true, false, nat_lt, nat_le, min, length, Option, if◌then◌else◌, inl, inr, refl, sym, ap, subst, arith}
 use Rattle.std.proofs.lemmas.Bool.{eqb-true, ltb-true, ltb-false, leb-true}
 use Rattle.nb_tcpseg.specs.SegmentText.{SegmentParts}
 use Rattle.nb_lab.specs.declared.page.Page.{Page}
 use Rattle.nb_lab.specs.declared.piece.Piece.{Piece}
-use Rattle.nb_lab.specs.declared.connection.StreamPart.{StreamPart}
 use Rattle.nb_lab.specs.declared.connection.State.{State}
 use Rattle.nb_lab.specs.declared.connection.State.TheVariants.{Opened, Reading, Sending, Sent, Closed}
 use Rattle.nb_lab.specs.declared.connection.Connection.{Connection}
 use Rattle.nb_lab.specs.Pages.{response_text}
-use Rattle.nb_lab.specs.Streams.{piece_len, end_of, is_last, sent_by}
-use Rattle.nb_lab.specs.Connections.{has_flag, place_of, piece_from, sends, advances, advanced, acknowledged_by, after_ack}
-use Rattle.nb_lab.specs.Receptions.{after_reset, counts, brings_more, number_after, received_by, received, IsSegmentTaken}
+use Rattle.nb_lab.specs.Streams.{end_of, is_last, sent_by}
+use Rattle.nb_lab.specs.Connections.{has_flag, place_of, piece_from, sends, acknowledged_by, after_ack}
+use Rattle.nb_lab.specs.Receptions.{counts, brings_more, number_after, received_by, received}
 use Rattle.nb_lab.specs.OneResponse.{GoesOnFrom, SendsInOrder}
 
 decide : (b : Bool) → (b ≡ true) ⊎ (b ≡ false)

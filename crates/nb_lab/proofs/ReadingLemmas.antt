@@ -1,5 +1,5 @@
 -- What is read of an output record is what it shows.
-use Rattle.std.proofs.Common.{◌≡◌, ℕ, ◌+◌, ◌-◌, ◌<◌, ◌≤◌, ◌^◌, ◌==◌, ◌++◌, Bool, true, false, nat_lt, List, [], ◌∷◌, length, take, drop, slice_index, nat_eq, Option, Some, None, codes, if◌then◌else◌, refl, sym, ap, ◌∙◌, subst, arith}
+use Rattle.std.proofs.Common.{◌≡◌, ℕ, ◌+◌, ◌-◌, ◌<◌, ◌≤◌, ◌^◌, ◌==◌, ◌++◌, Bool, true, false, List, [], ◌∷◌, length, take, drop, slice_index, nat_eq, Option, Some, None, codes, if◌then◌else◌, refl, sym, ap, ◌∙◌, subst, arith}
 use Rattle.std.specs.Int.{w16, w32, to_be_bytes, from_be_bytes}
 use Rattle.std.specs.List.{flat_map, starts_with}
 use Rattle.std.specs.Option.{option_map}
@@ -11,7 +11,7 @@ use Rattle.nb_terms.specs.declared.event.Event.{Event}
 use Rattle.nb_defs.specs.Records.{Out, step, sent, text, command, script, opened, tried, advanced, ended, graph, part, done, IsOut, out_text, record_text, cause_text, event_text, word_text, flag_of}
 use Rattle.nb_defs.specs.Records as defs
 use Rattle.nb_lab.specs.declared.image.Image.{Image}
-use Rattle.nb_lab.specs.Shows.{Seen, frame, try, open_for, result, other, seen, numbered, image_named, image_at_url, image_of}
+use Rattle.nb_lab.specs.Shows.{open_for, result, seen, numbered, image_named, image_at_url, image_of}
 use Rattle.nb_lab.specs.Readings.{seen_by, image_by, begins_with_zero}
 
 -- an output record's type and body, of which this is read

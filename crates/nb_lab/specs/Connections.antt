@@ -1,11 +1,11 @@
 -- RFC 9293, section 3.10.7: a connection to the HTTP server
-use Rattle.std.specs.Prelude.{◌≡◌, ◌⊎◌, ℕ, ◌+◌, ◌-◌, ◌*◌, ◌%◌, ◌^◌, ◌==◌, ◌&&◌, min, max, Bool, true, false, bit_and, List, [], ◌++◌, length, nat_lt, nat_le, Option, Some, None, unwrap_or, if◌then◌else◌}
+use Rattle.std.specs.Prelude.{ℕ, ◌+◌, ◌-◌, ◌%◌, ◌^◌, ◌==◌, ◌&&◌, min, max, Bool, false, bit_and, [], length, nat_lt, nat_le, Option, Some, None, unwrap_or, if◌then◌else◌}
 use Rattle.nb_tcpseg.specs.SegmentText.{SegmentParts}
 use Rattle.nb_lab.specs.declared.hosts.Peer.{Peer}
 use Rattle.nb_lab.specs.declared.page.Page.{Page}
 use Rattle.nb_lab.specs.declared.piece.Piece.{Piece}
 use Rattle.nb_lab.specs.declared.connection.StreamPart.{StreamPart}
-use Rattle.nb_lab.specs.declared.connection.StreamPart.TheVariants.{Opening, Bytes, Acknowledgement}
+use Rattle.nb_lab.specs.declared.connection.StreamPart.TheVariants.{Opening, Bytes}
 use Rattle.nb_lab.specs.declared.connection.State.{State}
 use Rattle.nb_lab.specs.declared.connection.State.TheVariants.{Opened, Reading, Sending, Sent, Closed}
 use Rattle.nb_lab.specs.declared.connection.Connection.{Connection}

@@ -1,5 +1,5 @@
 -- own: the two hosts of a lab, in one net
-use Rattle.std.specs.Prelude.{ℕ, List, [], ◌∷◌}
+use Rattle.std.specs.Prelude.{[], ◌∷◌}
 use Rattle.nb_wire.specs.declared.address.Ip4.{Ip4}
 use Rattle.nb_wire.specs.declared.address.Mac.{Mac}
 

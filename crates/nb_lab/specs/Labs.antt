@@ -1,5 +1,5 @@
 -- What a lab is to its users, and what comes from it
-use Rattle.std.specs.Prelude.{◌≡◌, ℕ, List, [], ◌∷◌, Option, Some, None, option_and_then}
+use Rattle.std.specs.Prelude.{◌≡◌, ℕ, List, [], ◌∷◌, Option, option_and_then}
 use Rattle.nb_defs.specs.Records.{In, frame, tick}
 use Rattle.nb_lab.specs.declared.answer.Answer.{Answer}
 use Rattle.nb_lab.specs.declared.lab.Coming.{Coming}

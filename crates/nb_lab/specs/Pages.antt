@@ -1,7 +1,6 @@
 -- RFC 9112, section 4, and RFC 9110: the responses of the HTTP server
-use Rattle.std.specs.Prelude.{ℕ, ◌+◌, ◌==◌, Bool, List, [], ◌∷◌, ◌++◌, length, take, drop, codes, Option, Some, None, if◌then◌else◌}
+use Rattle.std.specs.Prelude.{ℕ, ◌+◌, List, [], ◌++◌, take, drop, codes}
 use Rattle.std.specs.Fmt.{decimal}
-use Rattle.nb_lab.specs.declared.image.Image.{Image}
 use Rattle.nb_lab.specs.declared.page.Page.{Page}
 use Rattle.nb_lab.specs.declared.page.Page.TheVariants.{Found, NotFound, BadRequest}
 use Rattle.nb_lab.specs.Images.{image_bytes, image_len, image_piece}

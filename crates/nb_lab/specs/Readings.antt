@@ -1,5 +1,5 @@
 -- What is read of a record's type and body. That it is what the record shows is what `Shown::read` promises.
-use Rattle.std.specs.Prelude.{ℕ, ◌==◌, Bool, false, nat_lt, List, [], ◌∷◌, length, drop, slice_index, Option, Some, None, if◌then◌else◌}
+use Rattle.std.specs.Prelude.{ℕ, ◌==◌, Bool, false, nat_lt, List, [], ◌∷◌, length, drop, slice_index, Option, None, if◌then◌else◌}
 use Rattle.nb_lab.specs.declared.image.Image.{Image}
 use Rattle.nb_lab.specs.Shows.{Seen, frame, try, open_for, result, other, image_of}
 

@@ -11,7 +11,7 @@ use Rattle.nb_lab.specs.declared.connection.State.TheVariants.{Opened, Reading, 
 use Rattle.nb_lab.specs.declared.connection.Connection.{Connection}
 use Rattle.nb_lab.specs.Requests.{IsPageFor}
 use Rattle.nb_lab.specs.Streams.{sent_by}
-use Rattle.nb_lab.specs.Connections.{has_flag, waiting_part, piece_from, sends, after_ack, next_part}
+use Rattle.nb_lab.specs.Connections.{has_flag, piece_from, sends, after_ack, next_part}
 
 abbrev pub is_closed : State → Bool
 is_closed Opened = false

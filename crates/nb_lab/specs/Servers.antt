@@ -1,5 +1,5 @@
 -- the servers: what they make of a frame, and of the time
-use Rattle.std.specs.Prelude.{◌≡◌, ℕ, ◌+◌, ◌==◌, Bool, true, false, bit_and, nat_le, List, Option, Some, None, option_and_then, IfSome, if◌then◌else◌}
+use Rattle.std.specs.Prelude.{◌≡◌, ℕ, ◌+◌, ◌==◌, Bool, true, false, bit_and, nat_le, List, Option, Some, None, if◌then◌else◌}
 use Rattle.std.specs.Option.{option_map}
 use Rattle.nb_tcpseg.specs.SegmentText.{SegmentParts}
 use Rattle.nb_tftpmsg.specs.Packets.{Message, rrq, block, ack, error, oack}

@@ -1,5 +1,5 @@
 -- What the output of a run shows of what is counted
-use Rattle.std.specs.Prelude.{ℕ, ◌==◌, Bool, nat_eq, List, [], ◌∷◌, drop, Option, Some, None, codes, if◌then◌else◌}
+use Rattle.std.specs.Prelude.{ℕ, ◌==◌, Bool, nat_eq, List, drop, Option, Some, None, codes, if◌then◌else◌}
 use Rattle.std.specs.List.{starts_with}
 use Rattle.nb_defs.specs.Records.{Out, step, sent, text, command, script, opened, advanced, ended, graph, part, done}
 use Rattle.nb_defs.specs.Records as defs

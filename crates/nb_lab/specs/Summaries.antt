@@ -1,5 +1,5 @@
 -- Own: the summary of a run over so many images, by its input and its output
-use Rattle.std.specs.Prelude.{◌≡◌, ℕ, ◌+◌, ◌-◌, ◌^◌, min, Bool, true, false, List, [], ◌∷◌, ◌++◌, length, map, count_by, sum_by, Option, Some, None, option_to_list, codes, if◌then◌else◌}
+use Rattle.std.specs.Prelude.{ℕ, ◌+◌, ◌-◌, ◌^◌, min, Bool, true, false, List, [], ◌∷◌, ◌++◌, length, map, count_by, sum_by, Option, option_to_list, codes, if◌then◌else◌}
 use Rattle.std.specs.Fmt.{decimal}
 use Rattle.nb_defs.specs.Records.{In, Out}
 use Rattle.nb_lab.specs.declared.image.Image.{Image}

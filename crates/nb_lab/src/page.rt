@@ -2,7 +2,7 @@
 
 ghost use Rattle.std.specs.Prelude.{◌≡◌, ◌+◌, ◌-◌, ◌<◌, ◌≤◌, ◌++◌, length, min};
 ghost use Rattle.arrayvec.specs.ArrayVec.{array_vec_len};
-ghost use Rattle.nb_lab.specs.Pages.{status_text, body_text, body_len, body_piece, head_text, response_text, response_piece};
+ghost use Rattle.nb_lab.specs.Pages.{status_text, body_len, body_piece, head_text, response_text, response_piece};
 
 use crate::image::Image;
 use arrayvec::ArrayVec;

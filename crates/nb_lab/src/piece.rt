@@ -1,6 +1,6 @@
 //! A piece of a response.
 
-ghost use Rattle.std.specs.Prelude.{◌≡◌, ◌+◌, ◌<◌, ◌≤◌, ◌^◌, true, if◌then◌else◌};
+ghost use Rattle.std.specs.Prelude.{◌≡◌, ◌+◌, ◌<◌, ◌≤◌, ◌^◌, true};
 ghost use Rattle.nb_lab.specs.Streams.{piece_len, end_of, is_last, sent_by};
 
 use crate::page::{MOST_BYTES, Page};

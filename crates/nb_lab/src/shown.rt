@@ -2,7 +2,7 @@
 
 ghost use Rattle.std.specs.Prelude.{◌≡◌, ◌+◌, ◌<◌, ◌^◌, ◌++◌, ℕ, List, length, IsSomeAnd};
 ghost use Rattle.nb_defs.specs.Records.{Out, IsOut, out_text, record_text};
-ghost use Rattle.nb_lab.specs.Shows.{seen, seen_of, image_named, image_at_url, image_of};
+ghost use Rattle.nb_lab.specs.Shows.{seen, seen_of, image_at_url, image_of};
 ghost use Rattle.nb_lab.specs.Readings.{seen_by, begins_with_zero, image_by};
 
 use crate::image::Image;

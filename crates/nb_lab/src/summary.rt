@@ -1,6 +1,6 @@
 //! The summary of a run.
 
-ghost use Rattle.std.specs.Prelude.{◌≡◌, ◌+◌, ◌++◌, ◌∷◌, [], ℕ, List, IfOk, OnOk};
+ghost use Rattle.std.specs.Prelude.{◌≡◌, ◌+◌, ◌++◌, ◌∷◌, [], List, IfOk, OnOk};
 ghost use Rattle.nb_defs.specs.Records.{In, Out};
 ghost use Rattle.nb_lab.specs.Shows.{seen, seen_of};
 ghost use Rattle.nb_lab.specs.Summaries.{counted, line, summary};

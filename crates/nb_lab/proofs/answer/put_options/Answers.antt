@@ -1,4 +1,4 @@
-use Rattle.std.proofs.Common.{ℕ, ◌*◌, ◌+◌, length, Some, ap, arith}
+use Rattle.std.proofs.Common.{ℕ, length, Some, ap, arith}
 use Rattle.nb_tftpmsg.specs.Packets.{packet_text, oack}
 use Rattle.nb_lab.specs.Images.{image_len}
 use Rattle.nb_lab.proofs.AnswerLemmas.{options_put, length-options, fits_ok}

@@ -1,4 +1,4 @@
-use Rattle.std.proofs.Common.{◌≡◌, ℕ, ◌+◌, List, ◌++◌, [], length, arith}
+use Rattle.std.proofs.Common.{◌≡◌, ◌+◌, ◌++◌, [], arith}
 use Rattle.std.proofs.lemmas.List.{length-append}
 use Rattle.nb_lab.proofs.AnswerLemmas.{packet_put, legal_packet}
 use Rattle.nb_lab.proofs.answer.put_packet.Goals as goal

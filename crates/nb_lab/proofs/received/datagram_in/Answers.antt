@@ -1,8 +1,8 @@
-use Rattle.std.proofs.Common.{◌≡◌, List, ℕ, Some, option_map, sym, ap, subst, ◌∙◌}
+use Rattle.std.proofs.Common.{◌≡◌, ℕ, sym, ap, subst, ◌∙◌}
 use Rattle.nb_ether.specs.Frame.{frame_of}
 use Rattle.nb_ipv4.specs.PacketText.{packet_parts}
-use Rattle.nb_ipv4.specs.UdpText.{UdpParts, udp_parts}
-use Rattle.nb_tftpmsg.specs.Packets.{Message, IsTftpPacket}
+use Rattle.nb_ipv4.specs.UdpText.{UdpParts}
+use Rattle.nb_tftpmsg.specs.Packets.{IsTftpPacket}
 use Rattle.nb_tftpmsg.specs.Views.{message}
 use Rattle.nb_lab.specs.declared.hosts.Peer.{Peer}
 use Rattle.nb_lab.specs.Bringing.{packet, peer_of}

@@ -1,7 +1,7 @@
 use Rattle.std.proofs.Common.{◌≡◌, IsSomeAnd, arith}
 use Rattle.nb_ether.specs.Frame.{frame_of}
 use Rattle.nb_ipv4.specs.PacketText.{packet_parts}
-use Rattle.nb_lab.specs.Bringing.{FrameBrought, brought}
+use Rattle.nb_lab.specs.Bringing.{brought}
 use Rattle.nb_lab.proofs.ReceivedLemmas.{is_other, no_packet, other_target, other_proto, by_datagram, by_segment}
 use Rattle.nb_lab.proofs.received.message_in.Goals as goal
 

@@ -1,7 +1,7 @@
-use Rattle.std.proofs.Common.{◌≡◌, ◌<◌, ℕ, ap, subst, ◌∙◌}
+use Rattle.std.proofs.Common.{◌≡◌, ◌<◌, ap, subst, ◌∙◌}
 use Rattle.nb_lab.specs.Labs.{LabState}
-use Rattle.nb_lab.specs.Scripts.{lab_start, script_text}
-use Rattle.nb_lab.proofs.ScriptLemmas.{started, started_with, start_is_valid}
+use Rattle.nb_lab.specs.Scripts.{script_text}
+use Rattle.nb_lab.proofs.ScriptLemmas.{started_with, start_is_valid}
 use Rattle.nb_lab.proofs.lab.Lab.start.Goals as goal
 
 pub returns-clause-value : goal.returns-clause-value

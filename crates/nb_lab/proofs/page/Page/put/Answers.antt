@@ -1,5 +1,5 @@
 use Rattle.std.proofs.Common.{◌≡◌, ℕ, ◌+◌, ◌-◌, min, List, ◌++◌, length, slice_range, ap, sym, ◌∙◌, append_assoc, arith}
-use Rattle.nb_lab.specs.Pages.{head_text, body_len, body_piece}
+use Rattle.nb_lab.specs.Pages.{head_text, body_piece}
 use Rattle.nb_lab.proofs.PageLemmas.{two_parts}
 use Rattle.nb_lab.proofs.page.Page.put.Goals as goal
 

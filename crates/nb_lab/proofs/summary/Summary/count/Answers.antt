@@ -1,4 +1,4 @@
-use Rattle.std.proofs.Common.{◌≡◌, ◌++◌, ◌∷◌, [], subst, sym}
+use Rattle.std.proofs.Common.{◌++◌, ◌∷◌, [], subst, sym}
 use Rattle.nb_lab.specs.Shows.{seen_of}
 use Rattle.nb_lab.specs.Tallies.{Tally, Counts}
 use Rattle.nb_lab.proofs.SummaryLemmas.{counts_more}
