@@ -9,7 +9,7 @@ use Rattle.nb_lab.specs.declared.fate.Fate.{Fate}
 use Rattle.nb_lab.specs.declared.fate.Fate.TheVariants.{Lost, OnTime, Late}
 use Rattle.nb_lab.specs.Fates.{fate, times, copies, comes_twice, late_after, arrivals}
 use Rattle.nb_lab.proofs.FateLemmas.{late_by, coming_by, late_step, arrivals_step}
-use Rattle.nb_lab.specs.Transits.{Transit, held_copies, sent_by_fate, number_after, numbered, those, held_of, HasDelivered, ComeByNumbers, GoInOrder, NothingHasCome}
+use Rattle.nb_lab.specs.Transits.{Transit, held_copies, sent_by_fate, number_after, numbered, those, held_of, LabDelivered, ComeByNumbers, GoInOrder, NothingHasCome}
 
 -- numbers from 1 up to a greatest
 Within : ℕ → List ℕ → Type 0
@@ -145,7 +145,7 @@ fate_again n =
     let by : ℕ → ℕ → ℕ → Fate = λ a b c. if a == 0 then Lost else (if c == 0 then Late (b == 0) else OnTime (b == 0)) in
     ap (λ k. by k (n % 1001 % 11) (n % 1001 % 13)) seven ∙ ap (λ k. by (n % 7) k (n % 1001 % 13)) eleven ∙ ap (by (n % 7) (n % 11)) thirteen
 
-module _ (t : Transit) (answers gone : List Answer) (a : Answer) (h : HasDelivered t answers gone) where
+module _ (t : Transit) (answers gone : List Answer) (a : Answer) (h : LabDelivered t answers gone) where
   len : length (answers ++ a ∷ []) ≡ suc (length answers)
   len = omega (arith, length-append answers (a ∷ []))
 
@@ -175,7 +175,7 @@ module _ (t : Transit) (answers gone : List Answer) (a : Answer) (h : HasDeliver
       ∙ ap (λ (o : Option Answer). option_map_or (times (comes_twice n)) o []) (numbered_last answers a)
       ∙ ap (λ (b : Bool). times b a) (sym is)
 
-  by_fate : (f : Fate) (number : ℕ) → f ≡ fate (suc (length answers)) → number ≡ suc (length answers) % 1001 → HasDelivered (sent_by_fate f number a t) (answers ++ a ∷ []) gone
+  by_fate : (f : Fate) (number : ℕ) → f ≡ fate (suc (length answers)) → number ≡ suc (length answers) % 1001 → LabDelivered (sent_by_fate f number a t) (answers ++ a ∷ []) gone
   by_fate Lost number is number_is = record {
     number = number_is ∙ ap (λ k. k % 1001) (sym len);
     late =
