@@ -1,0 +1,12 @@
+pub mod ImageLemmas
+pub mod PageLemmas
+pub mod AnswerLemmas
+pub mod FateLemmas
+pub mod TransitLemmas
+pub mod ReceivedLemmas
+pub mod ConnectionLemmas
+pub mod OneResponseLemmas
+pub mod ServerLemmas
+pub mod ScriptLemmas
+pub mod SummaryLemmas
+pub mod ReadingLemmas

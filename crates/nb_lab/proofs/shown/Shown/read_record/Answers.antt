@@ -1,0 +1,52 @@
+use Rattle.std.proofs.Common.{◌≡◌, ◌+◌, ◌≤◌, length, true, false, sym, ap, ◌∙◌, arith}
+use Rattle.std.proofs.lemmas.Bool.{true≢false}
+use Rattle.nb_lab.proofs.ReadingLemmas.{front, front_len, front_record, front_rest, same_seen, take_rest}
+use Rattle.nb_lab.proofs.shown.Shown.read_record.Goals as goal
+
+pub returns-in_err-len : goal.returns-in_err-len
+returns-in_err-len c = λ kind body rest short is.
+    let f = front c.args.records.now kind body rest short is in
+    let same = ap length c.new-view.ensures.bytes in
+    absurd (true≢false (sym (c.in_err-len.ensures.enough.1 (omega (arith, f.long, same, c.new-view.ensures.start)))))
+
+pub returns-in_err-record : goal.returns-in_err-record
+returns-in_err-record c = λ kind body rest short is.
+    let records = c.args.records.now in
+    let f = front records kind body rest short is in
+    let same = c.in_ok-len.ensures.same ∙ c.new-view.ensures.bytes in
+    let start = c.new-view.ensures.start in
+    let len =
+    front_len records c.new-view.result.bytes.now kind body rest f c.new-view.ensures.bytes c.new-view.result.at c.in_ok-len.field-0 start c.in_ok-len.ensures.value in
+    let fits : c.u32.new.self.at + c.in_ok-len.field-0 ≤ length c.u32.new.self.bytes.now =
+    omega (arith, f.long, ap length same, len, c.in_ok-len.ensures.read, start) in
+    absurd (true≢false (sym (c.in_err-record.ensures.enough.1 fits)))
+
+pub returns-in_err-kind : goal.returns-in_err-kind
+returns-in_err-kind c = λ kind body rest short is.
+    let records = c.args.records.now in
+    let f = front records kind body rest short is in
+    let same = c.in_ok-len.ensures.same ∙ c.new-view.ensures.bytes in
+    let start = c.new-view.ensures.start in
+    let len =
+    front_len records c.new-view.result.bytes.now kind body rest f c.new-view.ensures.bytes c.new-view.result.at c.in_ok-len.field-0 start c.in_ok-len.ensures.value in
+    let at : c.u32.new.self.at ≡ 4 = omega (arith, c.in_ok-len.ensures.read, start) in
+    let entry =
+    front_record records c.u32.new.self.bytes.now kind body rest f same c.u32.new.self.at c.in_ok-len.field-0 c.in_ok-record.record.now at len c.in_ok-record.ensures.part in
+    let none : ⊥ = omega (arith, c.in_err-kind.ensures.cases, ap length entry) in
+    absurd none
+
+pub returns : goal.returns
+returns c = λ kind body rest short is.
+    let records = c.args.records.now in
+    let f = front records kind body rest short is in
+    let same = c.in_ok-len.ensures.same ∙ c.new-view.ensures.bytes in
+    let start = c.new-view.ensures.start in
+    let len =
+    front_len records c.new-view.result.bytes.now kind body rest f c.new-view.ensures.bytes c.new-view.result.at c.in_ok-len.field-0 start c.in_ok-len.ensures.value in
+    let at : c.u32.new.self.at ≡ 4 = omega (arith, c.in_ok-len.ensures.read, start) in
+    let entry =
+    front_record records c.u32.new.self.bytes.now kind body rest f same c.u32.new.self.at c.in_ok-len.field-0 c.in_ok-record.record.now at len c.in_ok-record.ensures.part in
+    let end : c.take.new.self.at ≡ 4 + (length body + 1) = omega (arith, c.in_ok-record.ensures.read, at, len) in (
+      c.of.ensures ∙ same_seen c.in_ok-kind.kind.now kind c.in_ok-kind.body.now body (sym c.in_ok-kind.ensures.cases.0 ∙ entry),
+      take_rest c.take.new.self.at records ∙ front_rest records c.u32.new.self.bytes.now kind body rest f same c.take.new.self.at end,
+    )

@@ -1,0 +1,17 @@
+//! Laws of a lab, each a function that does nothing.
+
+ghost use Rattle.nb_lab.specs.OneResponse.{SendsInOrder};
+ghost use Rattle.nb_lab.specs.Transits.{ComeByNumbers, GoInOrder, NothingHasCome};
+
+/// Which frames come to the client, how often and in which order is a function of their numbers: at first nothing has come,
+/// and so it stays as each further frame is sent.
+pub fn frames_come_by_their_numbers()
+    ensures first { NothingHasCome }
+    ensures send { ComeByNumbers }
+    ensures take { GoInOrder }
+{}
+
+/// On a connection the pieces of one response are sent, in order, and no byte is left out; the FIN goes with the last byte.
+pub fn responses_are_sent_in_order()
+    ensures { SendsInOrder }
+{}
