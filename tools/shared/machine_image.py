@@ -18,7 +18,8 @@ from shared.needed import Need
 from shared.program import TOP
 
 SOURCES = TOP / "tools" / "machine"
-PROGRAMS = ("bridge", "card", "kexec")
+# each program's sources
+PROGRAMS = {"bridge": ("bridge.c", "console.c"), "card": ("card.c",), "kexec": ("kexec.c",)}
 HEADERS = ("/usr/include", "/usr/include/x86_64-linux-gnu")
 BUSYBOX = "/bin/busybox"
 LOADER = b"/lib64/ld-linux"
@@ -105,7 +106,7 @@ def compiler() -> list[str]:
 
 
 def _compiled(program: str, folder: Path) -> bytes:
-    words = [*compiler(), "-O2", "-static", "-s", "-o", program, str(SOURCES / f"{program}.c")]
+    words = [*compiler(), "-O2", "-static", "-s", "-o", program, *(str(SOURCES / name) for name in PROGRAMS[program])]
     done = subprocess.run(words, cwd=folder, capture_output=True, text=True, check=False)
     if done.returncode:
         lines = done.stderr.strip().splitlines() or ["it failed"]
