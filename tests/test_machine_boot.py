@@ -106,7 +106,8 @@ class Booting(Case):
             "init: cards: eth7 eth0",
             "card: eth7: No such device\n",
             "eth0: the address is 10.77.0.",
-            " 1: the server refuses, with the second number as its code\n",
+            " 1: 10.77.0.1 answered: file not found (none). To do: put the file there, or mend its name\n",
+            "  tftp://10.77.0.1/payload... ok, ",
             " goes on\n",
             f"payload: command line {WORDS}\n",
         ):

@@ -47,7 +47,7 @@ static void begin_line(void) {
     printf("%s[%9.3f] ", is_in_line ? "\n" : "", (double)now_ms() / 1000);
     is_at_open = false;
 }
-static void end_line(void) { putchar('\n'), fflush(stdout), is_in_line = false; }
+static void end_line(void) { putchar('\n'), fflush(stdout), is_in_line = is_at_open = false; }
 void say(const char *form, ...) {
     va_list rest;
     va_start(rest, form), begin_line(), vprintf(form, rest), end_line(), va_end(rest);
@@ -376,6 +376,7 @@ void see_output(enum type type, const uint8_t *body, size_t size, const char *de
     if (type == STEP) step = get32(body);
     if (type == SENT && tries.is_next) note_try(body, size);
     if (type == SENT) show_address(body, size, device);
+    if (type == TEXT && is_at_open) end_line();
     if (type == TEXT) show(body, size, true), fflush(stdout);
     if (type == COMMAND) say_command(body, size);
     if (type == RESULT && body[0]) say_failure(body);

@@ -30,11 +30,18 @@ NEEDS = (
     Need("ldd", "libc-bin"),
     Need(BUSYBOX, "busybox-static"),
 )
-# the machine's buses and ports, and the cards of virtual and of usual machines
+# the machine's buses and ports, what a stick with recordings and a keyboard need, and the cards of virtual and of usual
+# machines
 REQUIRED = ("virtio_pci", "virtio_net", "virtio_console")
+STICK = (
+    "xhci-pci", "ehci-pci", "ohci-pci", "uhci-hcd", "usb-storage", "uas", "sd_mod", "virtio_blk", "vfat", "nls_cp437",
+    "nls_ascii", "nls_utf8",
+)
+KEYBOARD = ("usbhid", "hid-generic")
 USUAL = (
     "virtio-rng", "vmxnet3", "hv_netvsc", "xen-netfront", "ena", "gve", "e1000", "e1000e", "igb", "igc",
     "ixgbe", "i40e", "r8169", "realtek", "tg3", "broadcom", "atlantic", "forcedeth", "sky2", "8139too",
+    *STICK, *KEYBOARD,
 )
 
 
