@@ -208,8 +208,8 @@ class MachineBridge(Spaced):
                 "near: the address is 10.0.0.2",
                 r'  tftp://10.0.0.1/"../../\x1b[2Jevil\n\x9b"... ok',
                 "  boot.test of 10.0.0.1...",
-                "  failed: Refused 7 3: the name server 10.0.0.1 answered, when asked for boot.test: there is no such name "
-                "(NXDOMAIN). To do: mend the name, or add it at the name server",
+                "  failed: Refused 7 3: the name server 10.0.0.1 answered, when asked for boot.test: there is no such "
+                "name (NXDOMAIN). To do: mend the name, or add it at the name server",
                 "  failed: ? 0 0: no cause has that number",
                 "the script ended, and hands nothing off",
             ],

@@ -1,4 +1,4 @@
-"""The console of a machine without a disk: its sentences are those of --why, and a transfer's line has URI, percent, rate."""
+"""The console of a machine without a disk: its sentences are those of --why, and a transfer's line has what came."""
 
 from __future__ import annotations
 
@@ -27,7 +27,7 @@ COMPILE = ("gcc", "-O1", "-g", "-Wall", "-Wextra", "-Wconversion", "-Werror", "-
            f"-I{TOP / 'tools/machine'}")
 MOST_LINES = 400
 # what these modules ask --why about
-MODULES = ("tests.test_why_opens", "tests.test_why_asking", "tests.test_why_names", "tests.test_why_causes", "tests.test_why")
+MODULES = tuple(f"tests.test_why{name}" for name in ("_opens", "_asking", "_names", "_causes", ""))
 LEAST_RUNS = 40
 # a failure of an open that a server took part in, or was silent in
 OF_OPENS = re.compile(r"  failed: (?:Refused|TimedOut|Broken) \d+ \d+: (.*)")
@@ -87,7 +87,7 @@ class Console(Case):
             return None
 
     def test_the_sentences_of_why(self) -> None:
-        """On each run of the tests of --why that an open's failure ended: both parts of a sentence stand in that line."""
+        """On each run of the tests of --why in which an open failed: a sentence of the console stands in that line."""
         compared = 0
         for inputs, outputs in [run for name in MODULES for run in runs_of(name)]:
             shown, wanted = self.shown(inputs, outputs), self.sentence(inputs, outputs)
@@ -95,7 +95,8 @@ class Console(Case):
             if not said or wanted is None:
                 continue
             compared += 1
-            self.assertTrue(any(all(part in wanted for part in parts_of(one, wanted)) for one in said), f"{said}\n{wanted}")
+            is_said = any(all(part in wanted for part in parts_of(one, wanted)) for one in said)
+            self.assertTrue(is_said, f"{said}\n{wanted}")
         self.assertGreaterEqual(compared, LEAST_RUNS)
 
     def test_size(self) -> None:
@@ -127,8 +128,8 @@ class Console(Case):
     def test_hostile_frames_and_names(self) -> None:
         """Each cut of each answer, and a target and a name of any bytes."""
         target = bytes(range(256)) * 8
-        answers = [tftp_error(0, target[:1_000]), tftp_error(0, b""), tftp_oack(tsize=10**20), tftp_oack(blksize="", tsize=0),
-                   b"\0\6blksize", b"\0\6\0\0\0", b"\0\5\0\0", b"\0", b""]
+        answers = [tftp_error(0, target[:1_000]), tftp_error(0, b""), tftp_oack(tsize=10**20),
+                   tftp_oack(blksize="", tsize=0), b"\0\6blksize", b"\0\6\0\0\0", b"\0\5\0\0", b"\0", b""]
         whole = [made.from_server(answer) for answer in answers]
         inputs = [*whole, *[Received(one.frame[:size]) for one in whole for size in range(14, len(one.frame), 7)]]
         steps = [Step(number) for number in range(2, len(inputs) + 2)]

@@ -89,7 +89,8 @@ class Init(Case):
             ({}, ["none"]),
             ({"netboot_record": "no", "has_stick": "0"}, ["none"]),
             ({"netboot_record": "stick"}, [*["sleep 1", "load_drivers"] * 10, "none"]),
-            ({"netboot_record": "stick", "has_stick": "2"}, [*["sleep 1", "load_drivers"] * 2, "mount", "init", "/dev/sdx1"]),
+            ({"netboot_record": "stick", "has_stick": "2"},
+             [*["sleep 1", "load_drivers"] * 2, "mount", "init", "/dev/sdx1"]),
             ({"has_stick": "0", "is_damaged": "yes"}, ["mount", "none"]),
         ):
             with self.subTest(words):

@@ -84,7 +84,10 @@ def try_options(made: argparse.ArgumentParser) -> None:
     made.add_argument("--from", dest="starts_from", choices=tuple(STARTS), default="kernel",
                       help="which of the files starts it")
     made.add_argument("--firmware", type=Path, metavar="FILE", help="in place of QEMU's BIOS, as ovmf's OVMF.fd for EFI")
-    made.add_argument("--variables", type=Path, metavar="FILE", help="the firmware's, as OVMF_VARS_4M.ms.fd for Secure Boot")
+    made.add_argument("--variables", type=Path, metavar="FILE",
+                      help="the firmware's, as OVMF_VARS_4M.ms.fd for Secure Boot; a copy is used")
+    made.add_argument("--stick", type=Path, metavar="FILE",
+                      help="a FAT volume labelled NETBOOT-REC, for later runs' recordings")
     made.add_argument("--ipxe", action="store_true", help="then try the same with iPXE's ROM, for its seconds")
     made.add_argument("--memory", default="1G", help="the machine's (default 1G)")
     made.add_argument("--emulate", action="store_true", help="emulate the processor, also where /dev/kvm is there")
@@ -174,6 +177,7 @@ def trial_of(arguments: argparse.Namespace) -> Trial:
         words=arguments.words or "",
         firmware=arguments.firmware,
         variables=arguments.variables,
+        stick=arguments.stick,
         memory=arguments.memory,
         is_emulated=arguments.emulate,
         until=arguments.until,

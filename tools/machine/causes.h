@@ -36,11 +36,15 @@ static const struct { const char *name, *meaning; } causes[] = {
     {"NoDrive", "no such drive is hooked"},
 };
 enum { CAUSES = sizeof causes / sizeof *causes };
-static const char *const tftp_errors[] = {0, "file not found", "access violation", "disk full or allocation exceeded",
-    "illegal TFTP operation", "unknown transfer ID", "file already exists", "no such user", "option negotiation refused"};
+static const char *const tftp_errors[] = {
+    0, "file not found", "access violation", "disk full or allocation exceeded", "illegal TFTP operation",
+    "unknown transfer ID", "file already exists", "no such user", "option negotiation refused",
+};
 enum { TFTP_ERRORS = sizeof tftp_errors / sizeof *tftp_errors };
-static const char *const dns_refusals[] = {0, "the query is malformed (FORMERR)", "it failed to look the name up (SERVFAIL)",
-    "there is no such name (NXDOMAIN)", "it doesn't serve such queries (NOTIMP)", "it refuses to answer (REFUSED)"};
+static const char *const dns_refusals[] = {
+    0, "the query is malformed (FORMERR)", "it failed to look the name up (SERVFAIL)",
+    "there is no such name (NXDOMAIN)", "it doesn't serve such queries (NOTIMP)", "it refuses to answer (REFUSED)",
+};
 enum { DNS_REFUSALS = sizeof dns_refusals / sizeof *dns_refusals };
 
 #endif

@@ -1,8 +1,8 @@
-/* What a person sees of a run: commands, transfers with URI, percent and rate, and each failure with its cause and a
- * sentence on it. For an open that a server refused or left without an answer that is the sentence of `show.py --why`.
+/* What a person sees of a run: commands, transfers with URI, percent and rate, and each failure with its cause and
+ * a sentence on it. For an open that a server refused or left without an answer that is what `show.py --why` says.
  *
- * It follows the records and changes nothing of them. No byte of theirs steers a terminal: what can't be seen is shown by
- * its number. */
+ * It follows the records and changes nothing of them. No byte of theirs steers a terminal: what can't be seen is
+ * shown by its number. */
 #include <stdarg.h>
 #include <stdbool.h>
 #include <stdio.h>
@@ -11,11 +11,13 @@
 #include <time.h>
 #include "causes.h"
 #include "console.h"
+#include "packets.h"
 
-enum { REPORT_MS = 2000, TICKS = 16, MOST_NAME = 1024, MOST_SENTENCE = 4096, MOST_BLOCK = 1432, USUAL_BLOCK = 512,
-       UNKNOWN = 22, ICMP = 1, DHCP_SERVER = 67, DHCP_MESSAGE = 240, REFUSED = 1, TIMED_OUT = 2, BROKEN = 3, BY_EXIT = 24 };
+enum { REPORT_MS = 2000, TICKS = 16, MOST_NAME = 1024, MOST_SENTENCE = 4096, MOST_BLOCK = 1432, USUAL_BLOCK = 512 };
+enum { REFUSED = 1, TIMED_OUT = 2, BROKEN = 3, UNKNOWN = 22 };         /* causes */
 enum { ACK = 4, ERROR = 5, OACK = 6 };                                 /* of TFTP (RFC 1350, RFC 2347) */
 enum { ADDRESS = 50, KIND = 53, SERVER = 54, MESSAGE = 56, NAK = 6 };  /* of DHCP (RFC 2132) */
+enum { ICMP = 1, DHCP_SERVER = 67 };
 
 struct text { char bytes[MOST_NAME]; };
 static struct {
@@ -23,12 +25,18 @@ static struct {
     unsigned number, kind, port, own, block_size;
     uint8_t server[4], offered[4], offerer[4];
     struct text target, name;
-    uint32_t place, size, ended; /* the last ADVANCE's; what the server says, or 0; the run's time at ENDED, in ms */
+    uint32_t place, size; /* the last ADVANCE's; what the server says, or 0 */
+    uint32_t ended;       /* the run's time at ENDED, in ms */
     uint64_t begun, when, bytes; /* the beginning and the last report, by the machine's clock */
 } open;
-/* The tries of the message that was sent last: all, and those of which the frame asks for no hardware address; the run's
+/* The tries of the message that was sent last: all, and those whose frame asks for no hardware address; and the run's
  * times at the first of each, in ms. */
-static struct { unsigned all, sent; uint32_t first, first_sent; bool is_next, asks_hop, is_ack; uint8_t hop[4]; } tries;
+static struct {
+    unsigned all, sent;
+    uint32_t first, first_sent;
+    bool is_next, asks_hop, is_ack;
+    uint8_t hop[4];
+} tries;
 static struct { uint32_t number, ms; } ticks[TICKS]; /* the last ones, and the run's time at each */
 static struct { uint32_t number; struct text text; } refusal; /* what a server said, and in which record */
 static unsigned tick;
@@ -69,7 +77,8 @@ static struct text word(const uint8_t *bytes, size_t size) {
     static const char names[] = "\tt\nn\rr\"\"\\\\";
     struct text made = {""};
     bool is_plain = size > 0;
-    for (size_t i = 0; i < size; i++) is_plain &= bytes[i] > 32 && bytes[i] < 127 && bytes[i] != '"' && bytes[i] != '\\';
+    for (size_t i = 0; i < size; i++)
+        is_plain &= bytes[i] > 32 && bytes[i] < 127 && bytes[i] != '"' && bytes[i] != '\\';
     char *at = made.bytes;
     if (!is_plain) *at++ = '"';
     for (size_t i = 0; i < size && at < made.bytes + MOST_NAME - 8; i++) {
@@ -96,34 +105,6 @@ static struct text dotted(const uint8_t ip[4]) {
 }
 
 /* ---- frames ---- */
-struct datagram { const uint8_t *bytes; size_t size; const uint8_t *source; unsigned from, to; };
-/* The body of a whole packet of this protocol, or null. */
-static const uint8_t *body_of(unsigned protocol, const uint8_t *f, size_t size, size_t *length) {
-    if (size < 34 || get16(f + 12) != IPV4 || f[14] >> 4 != 4 || f[23] != protocol || get16(f + 20) & 0x3fff) return 0;
-    size_t head = (f[14] & 15u) * 4, total = get16(f + 16);
-    if (head < 20 || total > size - 14 || total < head + 8) return 0;
-    *length = total - head;
-    return f + 14 + head;
-}
-static bool read_datagram(const uint8_t *f, size_t size, struct datagram *read) {
-    size_t length = 0;
-    const uint8_t *udp = body_of(UDP, f, size, &length);
-    if (!udp || get16(udp + 4) < 8 || get16(udp + 4) > length) return false;
-    *read = (struct datagram){udp + 8, get16(udp + 4) - 8u, f + 26, get16(udp), get16(udp + 2)};
-    return true;
-}
-/* An option of a DHCP message, of at least so many bytes, or null. */
-static const uint8_t *option(const struct datagram *of, unsigned tag, size_t least, size_t *size) {
-    size_t at = DHCP_MESSAGE;
-    while (at + 2 <= of->size && of->bytes[at] != 255) {
-        if (!of->bytes[at]) { at++; continue; }
-        size_t length = of->bytes[at + 1];
-        if (length > of->size - at - 2) return 0;
-        if (of->bytes[at] == tag) return *size = length, length >= least ? of->bytes + at + 2 : 0;
-        at += 2 + length;
-    }
-    return 0;
-}
 static uint32_t decimal(const char *text) {
     uint64_t value = 0;
     for (; *text >= '0' && *text <= '9' && value <= UINT32_MAX; text++) value = value * 10 + (uint64_t)(*text - '0');
@@ -132,11 +113,11 @@ static uint32_t decimal(const char *text) {
 /* What an OACK grants: pairs of texts, each with a zero byte after it. */
 static void note_options(const uint8_t *bytes, size_t size) {
     const char *name = 0;
-    for (const uint8_t *end; size && (end = memchr(bytes, 0, size)); size -= (size_t)(end + 1 - bytes), bytes = end + 1) {
+    for (const uint8_t *end; size && (end = memchr(bytes, 0, size)); bytes = end + 1) {
         const char *text = (const char *)bytes;
         if (name && !strcasecmp(name, "blksize")) open.block_size = decimal(text);
         if (name && !strcasecmp(name, "tsize")) open.size = decimal(text);
-        name = name ? 0 : text;
+        name = name ? 0 : text, size -= (size_t)(end + 1 - bytes);
     }
 }
 static void note_tftp(uint32_t number, const struct datagram *came) {
@@ -159,7 +140,7 @@ static void note_lease(uint32_t number, const struct datagram *came) {
 static void note_frame(uint32_t number, const uint8_t *f, size_t size) {
     struct datagram came;
     size_t length = 0;
-    const uint8_t *icmp = body_of(ICMP, f, size, &length);
+    const uint8_t *icmp = packet_body(ICMP, f, size, &length);
     if (!open.lives) return;
     if (icmp && length >= 28 && icmp[0] == 3 && icmp[1] == 3 && !memcmp(f + 26, open.server, 4))
         open.is_unreachable |= !memcmp(icmp + 24, open.server, 4);
@@ -192,9 +173,10 @@ static struct text server_name(void) {
     return made;
 }
 static void add_times(unsigned number) {
-    static const char *const numbers[] = {"no", "one", "two", "three", "four", "five", "six", "seven", "eight", "nine", "ten"};
-    if (number < 3) add("%s", number == 0 ? "never" : number == 1 ? "once" : "twice");
-    else if (number < sizeof numbers / sizeof *numbers) add("%s times", numbers[number]);
+    static const char *const names[] = {"never", "once", "twice", "three", "four", "five", "six", "seven", "eight",
+                                        "nine", "ten"};
+    if (number < 3) add("%s", names[number]);
+    else if (number < sizeof names / sizeof *names) add("%s times", names[number]);
     else add("%u times", number);
 }
 static void add_name_hint(void) {
@@ -258,25 +240,34 @@ static void add_silence(void) {
 static void add_break(void) {
     struct text server = server_name();
     if (open.kind == TFTP && open.block_size > MOST_BLOCK)
-        add("%s grants blocks of %u bytes of %s, and at most %d are asked for, as where a capture's client asked for more",
-            server.bytes, open.block_size, open.target.bytes, MOST_BLOCK);
+        add("%s grants blocks of %u bytes of %s, and at most %d are asked for, as where a capture's client asked for "
+            "more", server.bytes, open.block_size, open.target.bytes, MOST_BLOCK);
     else add("%s sent what isn't allowed in its place", server.bytes);
 }
-static void add_advice(unsigned code, uint32_t number) {
-    const char *to_do = "see the server's log";
-    if (code == TIMED_OUT && open.is_unreachable) { add(". To do: start a server for %s there", open_kinds[open.kind]); return; }
-    if (code == TIMED_OUT)
-        to_do = tries.asks_hop ? "see that it is switched on, and in the client's net"
-              : open.kind == TFTP ? "see that a TFTP server runs there, and that no firewall stops it"
-              : open.kind == DHCP ? "see that a DHCP server serves this net and this client"
-              : open.kind == DNS ? "see that a name server runs there, or give another by `set dns ADDRESS`"
-              : open.kind == PING ? "see that it is switched on, and answers pings" : "";
-    else if (open.kind == DNS) to_do = "mend the name, or add it at the name server";
-    else if (open.kind == TFTP && code == BROKEN)
-        to_do = "let the server grant blocks of at most 1432 bytes, if that is what it did; else see its log";
-    else if (open.kind == TFTP && number == 1) to_do = "put the file there, or mend its name";
-    else if (open.kind == TFTP && number == 2) to_do = "let the server read the file";
-    if (*to_do) add(". To do: %s", to_do);
+/* What to do where nobody answers. */
+static const char *of_silence(void) {
+    static const char *const by_kind[OPENS] = {
+        [TFTP] = "see that a TFTP server runs there, and that no firewall stops it",
+        [DNS] = "see that a name server runs there, or give another by `set dns ADDRESS`",
+        [DHCP] = "see that a DHCP server serves this net and this client",
+        [PING] = "see that it is switched on, and answers pings",
+    };
+    return tries.asks_hop ? "see that it is switched on, and in the client's net" : by_kind[open.kind];
+}
+/* What to do where a server refuses by this code, or sent what isn't allowed. */
+static const char *of_refusal(unsigned cause, uint32_t code) {
+    if (open.kind == DNS) return "mend the name, or add it at the name server";
+    if (open.kind == TFTP && cause == BROKEN)
+        return "let the server grant blocks of at most 1432 bytes, if that is what it did; else see its log";
+    if (open.kind == TFTP && code == 1) return "put the file there, or mend its name";
+    if (open.kind == TFTP && code == 2) return "let the server read the file";
+    return "see the server's log";
+}
+static void add_advice(unsigned cause, uint32_t code) {
+    bool is_silent = cause == TIMED_OUT;
+    const char *to_do = is_silent ? of_silence() : of_refusal(cause, code);
+    if (is_silent && open.is_unreachable) add(". To do: start a server for %s there", open_kinds[open.kind]);
+    else if (to_do) add(". To do: %s", to_do);
 }
 static void say_failure(const uint8_t *cause) {
     unsigned code = cause[0] < CAUSES ? cause[0] : UNKNOWN;
@@ -329,8 +320,8 @@ static void advance(const uint8_t *body) {
     if (passed < REPORT_MS || !open.lives) return;
     uint64_t bytes = bytes_now(), speed = rate(bytes - open.bytes, passed);
     begin_again();
-    if (open.size) printf(" %llu%%, %llu kB/s   ", (unsigned long long)(bytes * 100 / open.size), (unsigned long long)speed);
-    else printf(" %llu kB, %llu kB/s   ", (unsigned long long)(bytes / 1000), (unsigned long long)speed);
+    printf(" %llu%s, %llu kB/s   ", (unsigned long long)(open.size ? bytes * 100 / open.size : bytes / 1000),
+           open.size ? "%" : " kB", (unsigned long long)speed);
     fflush(stdout), is_in_line = is_at_open = true, open.when = now, open.bytes = bytes;
 }
 static void end_open(const uint8_t *body) {
@@ -355,8 +346,9 @@ static void say_command(const uint8_t *body, size_t size) {
 }
 /* The client's address, which it says in each packet, is shown when it is another. */
 static void show_address(const uint8_t *f, size_t size, const char *device) {
-    const uint8_t *ip = f + (get16(f + 12) == ARP ? 28 : 26);
-    if (size < 34 || (get16(f + 12) != IPV4 && get16(f + 12) != ARP) || !get32(ip) || !memcmp(ip, own_address, 4)) return;
+    unsigned carries = get16(f + 12);
+    const uint8_t *ip = f + (carries == ARP ? 28 : 26);
+    if (size < 34 || (carries != IPV4 && carries != ARP) || !get32(ip) || !memcmp(ip, own_address, 4)) return;
     memcpy(own_address, ip, 4);
     say("%s: the address is %s", device, dotted(ip).bytes);
 }

@@ -111,7 +111,7 @@ def without_time(program: bytes) -> bytes:
 def signed_files(kernel: bytes) -> dict[str, bytes]:
     """Shim and GRUB, which start this kernel under Secure Boot where it is signed as Debian's are."""
     if not is_signed(kernel):
-        raise Refused("the kernel has no signature, so nothing starts it under Secure Boot; Debian's linux-image-amd64 has one")
+        raise Refused("the kernel has no signature, so nothing starts it under Secure Boot; Debian's own has one")
     return {BY_FIRMWARE: Path(SHIM).read_bytes(), BY_SHIM: Path(SIGNED_GRUB).read_bytes()}
 
 

@@ -42,6 +42,7 @@ class Table:
     def see(self, line: str, seconds: float) -> None:
         for mark in self.marks:
             if re.search(mark.line, line) and (mark.is_last or mark.part not in self.parts):
+                self.parts.pop(mark.part, None)
                 self.parts[mark.part] = seconds
 
     def end(self, name: str, seconds: float) -> None:
@@ -49,7 +50,7 @@ class Table:
 
     def __str__(self) -> str:
         lines, before = [f"{self.title:26} {'took':>8} {'at':>8}"], 0.0
-        for name, seconds in sorted(self.parts.items(), key=lambda part: part[1]):
+        for name, seconds in self.parts.items():
             lines.append(f"{name:26} {seconds - before:8.2f} {seconds:8.2f}")
             before = seconds
         return "\n".join(lines)

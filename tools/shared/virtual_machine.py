@@ -54,6 +54,7 @@ class Trial:
     words: str
     firmware: Path | None
     variables: Path | None
+    stick: Path | None
     memory: str
     is_emulated: bool
     until: str | None
@@ -105,6 +106,8 @@ def qemu_words(trial: Trial, joined: Network, folder: Path) -> list[str]:
     for name in PORTS:
         words += ["-chardev", f"file,id={name},path={folder / name}"]
         words += ["-device", f"virtserialport,chardev={name},name=netboot.{name}"]
+    if trial.stick:
+        words += ["-drive", f"if=none,id=stick,format=raw,file={trial.stick}", "-device", "virtio-blk-pci,drive=stick"]
     words += firmware_words(trial, folder)
     return joined.in_client(*words, *start_words(trial, folder / "initramfs"))
 
