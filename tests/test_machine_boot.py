@@ -29,7 +29,9 @@ from tests.test_machine import Built
 
 # where the machine's own kernel comes from, as build's --kernel; else it is the installed one
 NAMED = os.environ.get("NETBOOT_KERNEL")
-MOST_SECONDS = 170
+MOST_SECONDS = 600
+# as `try` has them, for a file that is built with its own
+MEDIA_WORDS = "console=ttyS0 quiet panic=5 netboot_fail=off no_timer_check"
 LEASES = Leases(SERVER + 99, SERVER + 149, MASK, "payload")
 SCRIPT = b"""\
 #!ipxe
@@ -126,7 +128,7 @@ class Booting(Case):
     @unittest.skipIf(no_media(), f"booting from an ISO and an EFI file: {no_media()}")
     def test_from_a_cd_and_by_efi(self) -> None:
         """The same from the ISO, by BIOS and by EFI, and from the EFI file, each with the script that it was built with."""
-        kernel = self.prepare("build --to machine --iso --efi --script s.ipxe --words console=ttyS0")
+        kernel = self.prepare("build --to machine --iso --efi --script s.ipxe --words", MEDIA_WORDS)
         for start in ("iso", f"iso --firmware {FIRMWARE}", f"efi --firmware {FIRMWARE}"):
             with self.subTest(start):
                 printed = self.works_as_process(
@@ -138,7 +140,7 @@ class Booting(Case):
     @unittest.skipIf(not_secure(), f"booting by Secure Boot: {not_secure()}")
     def test_under_secure_boot(self) -> None:
         """By Debian's shim, GRUB and kernel; the kernel that is handed off has no signature, and isn't started."""
-        self.prepare("build --to machine --secure --script s.ipxe --words console=ttyS0")
+        self.prepare("build --to machine --secure --script s.ipxe --words", MEDIA_WORDS)
         done = self.called_as_process(
             f"try machine --serve served --file payload --emulate --seconds {MOST_SECONDS} --from iso "
             f"--firmware {SECURE} --variables {VARIABLES} --input run.rec --output run.out"
@@ -165,12 +167,12 @@ class Booting(Case):
             subprocess.run(["mcopy", "-i", "stick", f"::{name}", to], cwd=self.folder, check=True)
         self.is_replayed()
 
-    def prepare(self, build: str) -> bytes:
+    def prepare(self, build: str, *more: str) -> bytes:
         """What is served, the script, and the machine; the kernel that is to be started."""
         kernel = payload(self.folder)
         self.serve(payload=kernel, first=FIRST, second=SECOND)
         self.put("s.ipxe", SCRIPT)
-        self.works_as_process(build, *(kernel_words() or ()))
+        self.works_as_process(build, *more, *(kernel_words() or ()))
         return kernel
 
     def has_started(self, kernel: bytes, printed: str) -> None:

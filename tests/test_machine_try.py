@@ -151,7 +151,7 @@ class Trying(Case):
         self.tries("--append a,b --words debug --emulate --memory 384M", SAYS, [Step(1), Done(Status.ENDED)])
         words = self.words()
         line = words[words.index("-append") + 1]
-        self.assertTrue(line.endswith('netboot_fail=off debug netboot_append="a,b"'), line)
+        self.assertTrue(line.endswith('netboot_fail=off no_timer_check debug netboot_append="a,b"'), line)
         self.assertEqual(words[words.index("-kernel") + 1], "machine/vmlinuz")
         self.assertEqual([words[words.index(name) + 1] for name in ("-m", "-smp", "-accel")], ["384M", "1", "tcg"])
         for name in ("-drive", "-hda", "-cdrom"):

@@ -30,8 +30,9 @@ IPXE_NEEDS = (Need(ROM, "ipxe-qemu"),)
 KVM = Path("/dev/kvm")
 CARD = "virtio-net-pci"
 HARDWARE_ADDRESS = "52:54:00:12:34:56"
-# the machine's, and one that ends QEMU where a kernel stops or a run fails
-WORDS = "console=ttyS0 quiet panic=5 netboot_fail=off"
+# The machine's, and one that ends QEMU where a kernel stops or a run fails. A kernel measures its timer by that of QEMU,
+# which runs on while a busy host doesn't emulate the processor: so it isn't to.
+WORDS = "console=ttyS0 quiet panic=5 netboot_fail=off no_timer_check"
 PORTS = ("input", "output")
 SERVER = IPv4Address(SERVER_ADDRESS)
 MASK = IPv4Network(f"{SERVER}/{PREFIX}", strict=False).netmask
