@@ -160,7 +160,7 @@ class Booting(Case):
             "--words netboot_device=eth0,eth0"
         )
         self.assertEqual((done.returncode, done.stderr), (int(Status.SCRIPT_FAILED), ""), done.stdout)
-        self.assertIn("init: recordings go to /dev/vda\n", done.stdout)
+        self.assertIn("init: recordings go to /dev/vda", done.stdout)
         self.assertEqual(done.stdout.splitlines()[-1],
                          "10.77.0.1 answered: file not found (none). To do: put the file there, or mend its name")
         for name, to in (("input1.rec", "run.rec"), ("output1.rec", "run.out")):
