@@ -31,7 +31,7 @@
 #include "console.h"
 #include "records.h"
 
-enum { TICK_MS = 50, AHEAD_MS = 200, MOST_AHEAD = 5, MOST_TICK = 60000, CLIENT_MS = 10000, OFF_MS = 800,
+enum { TICK_MS = 50, AHEAD_MS = 200, MOST_AHEAD = 5, MOST_TICK = 60000, CLIENT_MS = 30000, OFF_MS = 800,
        FAILED = 100, USAGE = 2, UNFINISHED = 5, EVERY = 0x0003, ETHERNET = 1, MOST_WAITING = 4 << 20,
        START_BYTES = 75, MIN_ON_WIRE = 60 };
 
