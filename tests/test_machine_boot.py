@@ -165,7 +165,7 @@ class Booting(Case):
                          "10.77.0.1 answered: file not found (none). To do: put the file there, or mend its name")
         for name, to in (("input1.rec", "run.rec"), ("output1.rec", "run.out")):
             subprocess.run(["mcopy", "-i", "stick", f"::{name}", to], cwd=self.folder, check=True)
-        self.is_replayed()
+        self.is_replayed(Status.SCRIPT_FAILED)
 
     def prepare(self, build: str, *more: str) -> bytes:
         """What is served, the script, and the machine; the kernel that is to be started."""
@@ -198,9 +198,10 @@ class Booting(Case):
         self.assertEqual(done.returncode, 0, done.stdout + done.stderr)
         return done.stdout
 
-    def is_replayed(self) -> None:
+    def is_replayed(self, status: Status = Status.HANDED_OFF) -> None:
         words = [program(), "replay", self.folder / "run.rec", self.folder / "again.out"]
-        subprocess.run(words, cwd=CRATE, capture_output=True, check=True)
+        ran = subprocess.run(words, cwd=CRATE, capture_output=True, check=False)
+        self.assertEqual(ran.returncode, int(status), ran.stderr)
         self.assertEqual(self.get("again.out"), self.get("run.out"))
 
 
