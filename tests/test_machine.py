@@ -12,7 +12,7 @@ import unittest
 
 from shared.kernel_modules import alias_list, name_of, needs_list, read_module, with_needs
 from shared.machine_image import NEEDS, with_script
-from shared.machine_media import ISO_NEEDS
+from shared.machine_media import ISO_NEEDS, SECURE_NEEDS
 from shared.needed import missing_packages
 from tests import TOP
 from tests.case import Called, Case
@@ -22,6 +22,7 @@ RELEASE = "6.1.0-test"
 CLIENT = "/bin/true"
 WHY = missing_packages(NEEDS)
 WHY_NO_MEDIA = WHY or missing_packages(ISO_NEEDS)
+WHY_NOT_SECURE = WHY or missing_packages((*ISO_NEEDS, *SECURE_NEEDS))
 CONTROL = b"""\
 Package: linux-image-test
 Version: 1
@@ -132,6 +133,11 @@ class Building(Built):
         for word in ("a;b", "a&&b", "$x", "a'b"):
             self.is_refused(self.build(f"--iso --words {word}"), "GRUB has a meaning of its own")
             self.assertFalse((self.folder / "out").exists())
+
+    @unittest.skipIf(WHY_NOT_SECURE, f"building an ISO for Secure Boot: {WHY_NOT_SECURE}")
+    def test_a_kernel_that_secure_boot_would_refuse(self) -> None:
+        self.is_refused(self.build("--secure"), "the kernel has no signature, so nothing starts it under Secure Boot")
+        self.assertFalse((self.folder / "out").exists())
 
     def test_nothing_is_overwritten(self) -> None:
         first = self.builds()

@@ -5,6 +5,7 @@ from __future__ import annotations
 import gzip
 import hashlib
 import os
+import shutil
 import subprocess
 import sys
 import time
@@ -13,10 +14,11 @@ from pathlib import Path
 
 from boot import CRATE
 from shared.kernel_files import needs_of
+from shared.kinds import Status
 from shared.machine_image import NEEDS
-from shared.machine_media import ISO_NEEDS
+from shared.machine_media import ISO_NEEDS, SECURE_NEEDS
 from shared.namespaces import missing, network
-from shared.needed import missing_packages
+from shared.needed import Need, missing_packages
 from shared.program import not_runnable, program
 from shared.servers import Leases, Tftp, dnsmasq
 from shared.virtual_machine import MASK, SERVER
@@ -27,7 +29,9 @@ from tests.test_machine import Built
 
 # where the machine's own kernel comes from, as build's --kernel; else it is the installed one
 NAMED = os.environ.get("NETBOOT_KERNEL")
-MOST_SECONDS = 170
+MOST_SECONDS = 600
+# as `try` has them, for a file that is built with its own
+MEDIA_WORDS = "console=ttyS0 quiet panic=5 netboot_fail=off no_timer_check"
 LEASES = Leases(SERVER + 99, SERVER + 149, MASK, "payload")
 SCRIPT = b"""\
 #!ipxe
@@ -40,6 +44,8 @@ imgexec tftp://${next-server}/${filename}
 WORDS = "console=ttyS0 said=here"
 # EFI for QEMU, of Debian's package ovmf
 FIRMWARE = Path("/usr/share/ovmf/OVMF.fd")
+# the same with Secure Boot, and its variables with Microsoft's keys
+SECURE, VARIABLES = Path("/usr/share/OVMF/OVMF_CODE_4M.secboot.fd"), Path("/usr/share/OVMF/OVMF_VARS_4M.ms.fd")
 FIRST, SECOND = b"the first initrd", bytes(range(256)) * 9
 
 
@@ -65,6 +71,11 @@ def why_not() -> str | None:
 
 def no_media() -> str | None:
     return missing_packages(ISO_NEEDS) or (None if FIRMWARE.exists() else f"{FIRMWARE} is missing: apt-get install ovmf")
+
+
+def not_secure() -> str | None:
+    firmware = (Need(str(SECURE), "ovmf"), Need(str(VARIABLES), "ovmf"))
+    return missing_packages((*ISO_NEEDS, *SECURE_NEEDS, *firmware))
 
 
 WHY_NOT_HERE = missing("dnsmasq") or missing_packages(NEEDS) or not_runnable()
@@ -106,7 +117,8 @@ class Booting(Case):
             "init: cards: eth7 eth0",
             "card: eth7: No such device\n",
             "eth0: the address is 10.77.0.",
-            " 1: the server refuses, with the second number as its code\n",
+            " 1: 10.77.0.1 answered: file not found (none). To do: put the file there, or mend its name\n",
+            "  tftp://10.77.0.1/payload... ok, ",
             " goes on\n",
             f"payload: command line {WORDS}\n",
         ):
@@ -116,7 +128,7 @@ class Booting(Case):
     @unittest.skipIf(no_media(), f"booting from an ISO and an EFI file: {no_media()}")
     def test_from_a_cd_and_by_efi(self) -> None:
         """The same from the ISO, by BIOS and by EFI, and from the EFI file, each with the script that it was built with."""
-        kernel = self.prepare("build --to machine --iso --efi --script s.ipxe --words console=ttyS0")
+        kernel = self.prepare("build --to machine --iso --efi --script s.ipxe --words", MEDIA_WORDS)
         for start in ("iso", f"iso --firmware {FIRMWARE}", f"efi --firmware {FIRMWARE}"):
             with self.subTest(start):
                 printed = self.works_as_process(
@@ -125,12 +137,42 @@ class Booting(Case):
                 )
                 self.has_started(kernel, printed)
 
-    def prepare(self, build: str) -> bytes:
+    @unittest.skipIf(not_secure(), f"booting by Secure Boot: {not_secure()}")
+    def test_under_secure_boot(self) -> None:
+        """By Debian's shim, GRUB and kernel; the kernel that is handed off has no signature, and isn't started."""
+        self.prepare("build --to machine --secure --script s.ipxe --words", MEDIA_WORDS)
+        done = self.called_as_process(
+            f"try machine --serve served --file payload --emulate --seconds {MOST_SECONDS} --from iso "
+            f"--firmware {SECURE} --variables {VARIABLES} --input run.rec --output run.out"
+        )
+        refused = "kexec: kernel: it has no signature that this machine trusts, and Secure Boot asks for one"
+        self.assertEqual((done.returncode, done.stderr), (1, f"machine.py: {refused}\n"), done.stdout)
+        self.is_replayed()
+
+    @unittest.skipUnless(shutil.which("mcopy"), "mcopy is missing: apt-get install mtools")
+    def test_a_later_run_is_recorded_on_a_stick(self) -> None:
+        self.prepare("build --to machine")
+        self.put("fails.ipxe", b"#!ipxe\ndhcp\nimgfetch tftp://${next-server}/none\n")
+        made = ["mformat", "-i", "stick", "-C", "-f", "2880", "-v", "NETBOOT-REC", "::"]
+        subprocess.run(made, cwd=self.folder, check=True)
+        done = self.called_as_process(
+            f"try machine --serve served --script fails.ipxe --emulate --seconds {MOST_SECONDS} --stick stick "
+            "--words netboot_device=eth0,eth0"
+        )
+        self.assertEqual((done.returncode, done.stderr), (int(Status.SCRIPT_FAILED), ""), done.stdout)
+        self.assertIn("init: recordings go to /dev/vda", done.stdout)
+        self.assertEqual(done.stdout.splitlines()[-1],
+                         "10.77.0.1 answered: file not found (none). To do: put the file there, or mend its name")
+        for name, to in (("input1.rec", "run.rec"), ("output1.rec", "run.out")):
+            subprocess.run(["mcopy", "-i", "stick", f"::{name}", to], cwd=self.folder, check=True)
+        self.is_replayed(Status.SCRIPT_FAILED)
+
+    def prepare(self, build: str, *more: str) -> bytes:
         """What is served, the script, and the machine; the kernel that is to be started."""
         kernel = payload(self.folder)
         self.serve(payload=kernel, first=FIRST, second=SECOND)
         self.put("s.ipxe", SCRIPT)
-        self.works_as_process(build, *(kernel_words() or ()))
+        self.works_as_process(build, *more, *(kernel_words() or ()))
         return kernel
 
     def has_started(self, kernel: bytes, printed: str) -> None:
@@ -145,17 +187,21 @@ class Booting(Case):
         for name, content in files.items():
             self.put(f"served/{name}", content)
 
-    def works_as_process(self, line: str, *more: str) -> str:
+    def called_as_process(self, line: str, *more: str) -> subprocess.CompletedProcess[str]:
         words = [sys.executable, "-B", "tools/machine.py", *line.split(), *more]
-        done = subprocess.run(
+        return subprocess.run(
             words, cwd=self.folder, capture_output=True, text=True, check=False, timeout=MOST_SECONDS + 60
         )
+
+    def works_as_process(self, line: str, *more: str) -> str:
+        done = self.called_as_process(line, *more)
         self.assertEqual(done.returncode, 0, done.stdout + done.stderr)
         return done.stdout
 
-    def is_replayed(self) -> None:
+    def is_replayed(self, status: Status = Status.HANDED_OFF) -> None:
         words = [program(), "replay", self.folder / "run.rec", self.folder / "again.out"]
-        subprocess.run(words, cwd=CRATE, capture_output=True, check=True)
+        ran = subprocess.run(words, cwd=CRATE, capture_output=True, check=False)
+        self.assertEqual(ran.returncode, int(status), ran.stderr)
         self.assertEqual(self.get("again.out"), self.get("run.out"))
 
 

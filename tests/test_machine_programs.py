@@ -8,12 +8,11 @@ import unittest
 from pathlib import Path
 
 from shared.kinds import Status
+from shared.machine_image import PROGRAMS, SOURCES
 from shared.namespaces import missing
-from tests import TOP
 from tests.case import Case
 from tests.spaces import Spaced
 
-SOURCES = TOP / "tools" / "machine"
 COMPILE = ("gcc", "-O1", "-Wall", "-Wextra", "-Wconversion", "-Werror")
 USAGE, NO_LINK = 2, 3
 SIOCETHTOOL, ETHTOOL_GGRO, ETHTOOL_SGRO = 0x8946, 0x2B, 0x2C
@@ -31,7 +30,7 @@ cat <&3 >/dev/null
 
 def compiled(name: str, folder: str) -> Path:
     built = Path(folder) / name
-    subprocess.run([*COMPILE, "-o", built, SOURCES / f"{name}.c"], check=True)
+    subprocess.run([*COMPILE, "-o", built, *(SOURCES / source for source in PROGRAMS[name])], check=True)
     return built
 
 

@@ -13,11 +13,14 @@ import unittest
 from shared.kinds import PartKind, Status
 from shared.namespaces import missing
 from shared.records import Done, Part, Record, Step
-from shared.seconds_table import Table
+from shared.needed import missing_packages
+from shared.seconds_table import OURS, Table
+from shared.virtual_machine import IPXE_NEEDS
 from tests import made
 from tests.case import Called, Case
 
 WHY = missing("dnsmasq")
+WHY_NO_ROM = missing_packages(IPXE_NEEDS)
 # It says what a machine's console does and leaves the recordings; its own words, and what it could be asked, are kept. Its
 # number is there, whole, before its first line, since it may be ended at any of its lines.
 QEMU = """#!{python}
@@ -28,9 +31,13 @@ words = sys.argv[1:]
 json.dump(words, open("{folder}/words", "w"))
 listening = subprocess.run(["cat", "/proc/net/udp"], capture_output=True, text=True).stdout
 open("{folder}/listening", "w").write(listening)
+try:
+    open("{folder}/script", "wb").write(urllib.request.urlopen("http://10.77.0.1/netboot-beside.ipxe").read())
+except OSError:
+    pass
 open("{folder}/fetched", "wb").write(urllib.request.urlopen("http://10.77.0.1/file").read())
 for name in ("input", "output"):
-    path = next(word.split("path=")[1] for word in words if word.startswith("file,id=" + name))
+    path = next((word.split("path=")[1] for word in words if word.startswith("file,id=" + name)), "/dev/null")
     open(path, "wb").write(open("{folder}/" + name, "rb").read())
 for line in open("{folder}/says", newline=""):
     sys.stdout.write(line)
@@ -43,8 +50,14 @@ SAYS = """\
 init: started, at 1.0 s\r
 init: cards: eth0, at 2.0 s\r
 [    3.000] bridge: this run: --w 1\r
+[    3.100]   a lease...\r[    3.900]   a lease... ok\r
 [    4.000] eth0: the address is 10.77.0.100\r
 [    5.000] bridge: 7 frames received, 7 sent, 0 not\r
+"""
+OF_IPXE = """\
+iPXE initialising devices...ok\r
+net0: 10.77.0.100/255.255.255.0 gw 10.77.0.1\r
+tftp://10.77.0.1/first... ok\r
 """
 LOADED = "kexec: loaded; the kernel's command line is: quiet\r\nkexec: going over to it\r\n"
 PARTS: list[Record] = [
@@ -85,9 +98,27 @@ class Trying(Case):
         return list(json.loads(self.get("words")))
 
     def test_each_status(self) -> None:
-        for status in (Status.ENDED, Status.SCRIPT_FAILED, Status.UNFINISHED):
+        for status, why in (
+            (Status.ENDED, "the script ended well"),
+            (Status.SCRIPT_FAILED, "the script failed"),
+            (Status.UNFINISHED, "the recording ends after 0 s, before the script's end"),
+        ):
             done = self.tries("", SAYS, [Step(1), Done(status)])
             self.assertEqual((done.status, done.said), (int(status), ""))
+            self.assertEqual(done.printed.splitlines()[-1], why)
+
+    @unittest.skipIf(WHY_NO_ROM, f"trying iPXE's ROM: {WHY_NO_ROM}")
+    def test_ipxe_beside_it(self) -> None:
+        """The same server names iPXE a script that has the lease's file, and its seconds stand after ours."""
+        done = self.tries("--ipxe --file kernel --script s.ipxe", SAYS + OF_IPXE, [Step(1), Done(Status.ENDED)])
+        self.assertEqual((done.status, done.said), (int(Status.ENDED), ""))
+        table = done.printed.partition("part by iPXE")[2].splitlines()
+        self.assertEqual([line.split()[0] for line in table[1:]], ["firmware", "lease", "run"])
+        self.assertEqual(self.get("script"), b"#!ipxe\nset filename kernel\nexit 9\n")
+        words = self.words()
+        self.assertIn("romfile=/usr/lib/ipxe/qemu/pxe-virtio.rom", words[words.index("-device") + 1])
+        for name in ("-kernel", "-cdrom", "-drive"):
+            self.assertNotIn(name, words)
 
     def test_a_hand_off(self) -> None:
         """Its console without what steers a terminal, and the seconds of each part."""
@@ -95,6 +126,7 @@ class Trying(Case):
         self.assertEqual((done.status, done.said), (0, ""))
         lines = done.printed.splitlines()
         self.assertEqual(lines[:2], ["[    0.0] Linux", "init: started, at 1.0 s"])
+        self.assertIn("[    3.900]   a lease... ok", lines)
         table = lines[lines.index("") + 1 :]
         self.assertEqual([" ".join(line.split()[:-2]) for line in table],
                          ["part", "init", "drivers", "card and client", "lease", "run", "kexec's load", "going over"])
@@ -119,7 +151,7 @@ class Trying(Case):
         self.tries("--append a,b --words debug --emulate --memory 384M", SAYS, [Step(1), Done(Status.ENDED)])
         words = self.words()
         line = words[words.index("-append") + 1]
-        self.assertTrue(line.endswith('netboot_fail=off debug netboot_append="a,b"'), line)
+        self.assertTrue(line.endswith('netboot_fail=off no_timer_check debug netboot_append="a,b"'), line)
         self.assertEqual(words[words.index("-kernel") + 1], "machine/vmlinuz")
         self.assertEqual([words[words.index(name) + 1] for name in ("-m", "-smp", "-accel")], ["384M", "1", "tcg"])
         for name in ("-drive", "-hda", "-cdrom"):
@@ -132,6 +164,13 @@ class Trying(Case):
             words = self.words()
             self.assertEqual(words[words.index(first) + 1], f"machine/netboot.{kind}")
             self.assertEqual(words[words.index("-bios") + 1], "fw")
+        self.put("vars", b"keys")
+        self.tries("--from iso --firmware fw --variables vars --stick rec", SAYS, [Step(1), Done(Status.ENDED)])
+        drives = [word for before, word in zip(self.words(), self.words()[1:]) if before == "-drive"]
+        code = "if=pflash,format=raw,unit=0,readonly=on,file=fw"
+        self.assertEqual(drives[:2], ["if=none,id=stick,format=raw,file=rec", code])
+        self.assertNotIn("file=vars", drives[2])
+        self.assertNotIn("-bios", self.words())
 
     def test_an_end_by_what_is_waited_for(self) -> None:
         handed_off = [Step(1), *PARTS, Done(Status.HANDED_OFF)]
@@ -142,6 +181,15 @@ class Trying(Case):
         self.assertIn("`payload:`", printed)
         self.assertLess(time.monotonic() - begun, 50)
         self.is_gone(process)
+
+    def test_an_end_by_what_a_screen_shows(self) -> None:
+        """It has no line's end, and stands before the cursor goes elsewhere."""
+        handed_off = [Step(1), *PARTS, Done(Status.HANDED_OFF)]
+        screen = "\x1b[3;4H\x1b[1mSelect a language\x1b[0m\r\x1b[24;1H"
+        with self.begin("--until language", SAYS + LOADED + screen, handed_off, sleeps=60) as process:
+            printed, said = process.communicate(timeout=50)
+        self.assertEqual((process.returncode, said), (0, ""))
+        self.assertIn("`language`", printed)
 
     def test_an_end_by_time(self) -> None:
         with self.begin("--seconds 5", SAYS, [Step(1)], sleeps=60) as process:
@@ -184,6 +232,7 @@ class Trying(Case):
 class Tables(unittest.TestCase):
     def test_each_part_once(self) -> None:
         table = Table()
+        self.assertEqual(table.marks, OURS)
         for seconds, line in enumerate(("init: started", "noise", "init: started", "init: cards: eth0"), 1):
             table.see(line, seconds)
         table.end("`x`", 7.5)

@@ -14,13 +14,15 @@ from shared.command_line import Refused, run
 from shared.kernel_files import Kernel, kernel_of, needs_of
 from shared.kinds import Status
 from shared.machine_image import NEEDS, SOURCES, Contents, initramfs
-from shared.machine_media import EFI_NEEDS, ISO_NEEDS, System, efi_file, iso_file
+from shared.machine_media import BY_FIRMWARE, EFI_NEEDS, ISO_NEEDS, SECURE_NEEDS, System, efi_file, iso_file
+from shared.machine_media import signed_files
 from shared.namespaces import missing
 from shared.needed import check_needs
 from shared.output import report, writing
 from shared.program import program
+from shared.virtual_machine import IPXE_NEEDS, Ended, Trial, tried, tried_by_ipxe
 from shared.virtual_machine import NEEDS as QEMU_NEEDS
-from shared.virtual_machine import Ended, Trial, tried
+from shared.why import reasons
 
 KERNEL = "linux-image-cloud-amd64"
 SCRIPT = SOURCES / "boot.ipxe"
@@ -43,9 +45,10 @@ tools give the same bytes. What is missing here is said by its packages' names."
 
 TRY = """\
 Starts the files of FOLDER in QEMU, in a network namespace with a server of leases and of files by
-TFTP and HTTP, prints the console and then the seconds that each part took, and ends with the run's status; with 1 where
-no run came to its end, where its kernel couldn't be started, or where --until didn't come. Nothing
-stays, also at Ctrl-C. It needs root."""
+TFTP and HTTP, prints the console and then the seconds that each part took, and ends with the run's
+status; with 1 where no run came to its end, where its kernel couldn't be started, or where --until
+didn't come. --ipxe shows the same script's seconds by the ROM of QEMU's card beside it. Nothing stays,
+also at Ctrl-C. It needs root."""
 
 EPILOG = """\
 examples:
@@ -66,6 +69,8 @@ def build_options(made: argparse.ArgumentParser) -> None:
     made.add_argument("--words", default=WORDS, help=f"the kernel's command line on --efi and --iso (default {WORDS})")
     made.add_argument("--efi", action="store_true", help="make netboot.efi too")
     made.add_argument("--iso", action="store_true", help="make netboot.iso too")
+    made.add_argument("--secure", action="store_true",
+                      help="make netboot.iso for Secure Boot, which starts it by Debian's shim and GRUB")
     made.add_argument("--replace", action="store_true", help="write over an earlier result")
 
 
@@ -79,6 +84,11 @@ def try_options(made: argparse.ArgumentParser) -> None:
     made.add_argument("--from", dest="starts_from", choices=tuple(STARTS), default="kernel",
                       help="which of the files starts it")
     made.add_argument("--firmware", type=Path, metavar="FILE", help="in place of QEMU's BIOS, as ovmf's OVMF.fd for EFI")
+    made.add_argument("--variables", type=Path, metavar="FILE",
+                      help="the firmware's, as OVMF_VARS_4M.ms.fd for Secure Boot; a copy is used")
+    made.add_argument("--stick", type=Path, metavar="FILE",
+                      help="a FAT volume labelled NETBOOT-REC, for later runs' recordings")
+    made.add_argument("--ipxe", action="store_true", help="then try the same with iPXE's ROM, for its seconds")
     made.add_argument("--memory", default="1G", help="the machine's (default 1G)")
     made.add_argument("--emulate", action="store_true", help="emulate the processor, also where /dev/kvm is there")
     made.add_argument("--until", metavar="TEXT", help="end when a line of the console has this")
@@ -96,8 +106,12 @@ def parse(words: list[str]) -> argparse.Namespace:
     return parser.parse_args(words)
 
 
+def has_iso(arguments: argparse.Namespace) -> bool:
+    return bool(arguments.iso or arguments.secure)
+
+
 def results_of(arguments: argparse.Namespace) -> list[Path]:
-    names = ["vmlinuz", "initramfs", *["netboot.efi"] * arguments.efi, *["netboot.iso"] * arguments.iso]
+    names = ["vmlinuz", "initramfs", *["netboot.efi"] * arguments.efi, *["netboot.iso"] * has_iso(arguments)]
     return [arguments.to / name for name in names]
 
 
@@ -126,15 +140,18 @@ def files_of(arguments: argparse.Namespace, kernel: Kernel) -> dict[str, bytes]:
     made = {"vmlinuz": system.kernel, "initramfs": system.initramfs}
     if arguments.efi or arguments.iso:
         made["netboot.efi"] = efi_file(system)
-    if arguments.iso:
-        made["netboot.iso"] = iso_file(system, made["netboot.efi"])
+    if arguments.secure:
+        made["netboot.iso"] = iso_file(system, signed_files(system.kernel))
+    elif arguments.iso:
+        made["netboot.iso"] = iso_file(system, {BY_FIRMWARE: made["netboot.efi"]})
     return made
 
 
 def build(arguments: argparse.Namespace) -> int:
     check_place(arguments)
-    media = ISO_NEEDS if arguments.iso else EFI_NEEDS if arguments.efi else ()
-    check_needs((*NEEDS, *needs_of(arguments.kernel), *media))
+    media = ISO_NEEDS if has_iso(arguments) else EFI_NEEDS if arguments.efi else ()
+    secure = SECURE_NEEDS if arguments.secure else ()
+    check_needs((*NEEDS, *needs_of(arguments.kernel), *media, *secure))
     with kernel_of(arguments.kernel, arguments.release) as kernel:
         made = files_of(arguments, kernel)
     arguments.to.mkdir(parents=True, exist_ok=True)
@@ -159,6 +176,8 @@ def trial_of(arguments: argparse.Namespace) -> Trial:
         append=APPEND if arguments.append is None else arguments.append,
         words=arguments.words or "",
         firmware=arguments.firmware,
+        variables=arguments.variables,
+        stick=arguments.stick,
         memory=arguments.memory,
         is_emulated=arguments.emulate,
         until=arguments.until,
@@ -168,7 +187,7 @@ def trial_of(arguments: argparse.Namespace) -> Trial:
 
 def check_try(arguments: argparse.Namespace) -> None:
     check_apart({"--input": arguments.input, "--output": arguments.output}, {"--script": arguments.script})
-    check_needs(QEMU_NEEDS)
+    check_needs((*QEMU_NEEDS, *(IPXE_NEEDS if arguments.ipxe else ())))
     why = missing()
     if why:
         raise Refused(why)
@@ -188,6 +207,14 @@ def status_after(ended: Ended, until: str | None) -> int:
     return int(ended.status)
 
 
+def say_why(ended: Ended, folder: Path) -> None:
+    """Of a run that handed nothing off, the sentence of show.py --why."""
+    if ended.status in (None, Status.HANDED_OFF):
+        return
+    with (folder / "output").open("rb") as stream:
+        print(f"\n{next(reasons(folder / 'output', stream, folder / 'input'))}")
+
+
 def try_it(arguments: argparse.Namespace) -> int:
     check_try(arguments)
     trial = trial_of(arguments)
@@ -196,7 +223,10 @@ def try_it(arguments: argparse.Namespace) -> int:
         for kind, path in (("input", arguments.input), ("output", arguments.output)):
             if path:
                 keep(path, (Path(name) / kind).read_bytes())
-    print(f"\n{ended.table}")
+        print(f"\n{ended.table}")
+        say_why(ended, Path(name))
+        if arguments.ipxe:
+            print(f"\n{tried_by_ipxe(trial, (arguments.script or SCRIPT).read_bytes(), Path(name) / 'served')}")
     return status_after(ended, trial.until)
 
 

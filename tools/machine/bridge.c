@@ -28,16 +28,20 @@
 #include <sys/wait.h>
 #include <time.h>
 #include <unistd.h>
+#include "console.h"
 #include "records.h"
 
-enum { TICK_MS = 50, AHEAD_MS = 200, MOST_AHEAD = 5, MOST_TICK = 60000, CLIENT_MS = 10000, OFF_MS = 800,
-       REPORT_MS = 2000, FAILED = 100, USAGE = 2, UNFINISHED = 5, EVERY = 0x0003, ETHERNET = 1, IPV4 = 0x800, ARP = 0x806,
-       MOST_WAITING = 4 << 20, START_BYTES = 75, MIN_ON_WIRE = 60 };
+enum { TICK_MS = 50, AHEAD_MS = 200, MOST_AHEAD = 5, MOST_TICK = 60000, CLIENT_MS = 30000, OFF_MS = 800,
+       FAILED = 100, USAGE = 2, UNFINISHED = 5, EVERY = 0x0003, ETHERNET = 1, MOST_WAITING = 4 << 20,
+       START_BYTES = 75, MIN_ON_WIRE = 60 };
+
+/* The least and the most bytes of each record's body, from STEP on. */
+static const uint32_t SIZES[][2] = {{4, 4}, {MIN_FRAME, MAX_FRAME}, {0, 4160}, {8, MOST_RECORD - 1}, {9, 9}, {11, 11},
+    {13, 13 + 65535}, {3, 3}, {6, 6}, {11, 11}, {28, 28}, {7, 7 + PIECE}, {1, 1}};
 
 static struct file { const char *path; FILE *stream; } record, output;
 static const char *device = "eth0", *folder = "/run/netboot", *script, *program;
-static struct { unsigned received, sent, lost, unsent, joined; uint64_t bytes; } counts;
-static struct { uint64_t when, bytes; uint8_t ip[4]; } shown; /* on the console last */
+static struct { unsigned received, sent, lost, unsent, joined; } counts;
 static struct { uint8_t bytes[MOST_WAITING + MOST_RECORD + 4]; size_t size; } waiting; /* for the client */
 static struct { uint8_t bytes[MOST_RECORD + 4]; size_t size; uint64_t passed; } held;  /* of the client */
 static struct { bool is_begun, is_full; unsigned kind, index; uint32_t length; struct file file; } last; /* the part */
@@ -47,28 +51,9 @@ static pid_t child;
 static uid_t user; /* the client's, where it is another */
 static uint8_t mac[6];
 static uint32_t number, step; /* of the record given last, and of the one that the client is at */
-static bool is_in_line;
 static volatile sig_atomic_t wants_off;
 
-/* ---- the console ---- */
-static uint64_t now_ms(void) {
-    struct timespec now;
-    clock_gettime(CLOCK_BOOTTIME, &now);
-    return (uint64_t)now.tv_sec * 1000 + (uint64_t)now.tv_nsec / 1000000;
-}
-static void show(const uint8_t *bytes, size_t size, bool is_text) {
-    for (size_t i = 0; i < size; i++)
-        if ((bytes[i] >= 32 && bytes[i] < 127) || (is_text && (bytes[i] == '\n' || bytes[i] == '\t')))
-            putchar(bytes[i]);
-        else printf("\\x%02x", bytes[i]);
-    if (size) is_in_line = bytes[size - 1] != '\n';
-}
-static void begin_line(void) { printf("%s[%9.3f] ", is_in_line ? "\n" : "", (double)now_ms() / 1000); }
-static void end_line(void) { putchar('\n'), fflush(stdout), is_in_line = false; }
-__attribute__((format(printf, 1, 2))) static void say(const char *form, ...) {
-    va_list rest;
-    va_start(rest, form), begin_line(), vprintf(form, rest), end_line(), va_end(rest);
-}
+/* ---- failures ---- */
 static _Noreturn void leave(int with) {
     if (child > 0) kill(child, SIGKILL), waitpid(child, 0, 0);
     exit(with);
@@ -83,8 +68,6 @@ static _Noreturn void refuse(const char *why) {
 }
 
 /* ---- numbers and files ---- */
-static unsigned get16(const uint8_t *p) { return (unsigned)p[0] << 8 | p[1]; }
-static uint32_t get32(const uint8_t *p) { return (uint32_t)get16(p) << 16 | get16(p + 2); }
 static void put16(uint8_t *p, unsigned n) { p[0] = (uint8_t)(n >> 8), p[1] = (uint8_t)n; }
 static void put32(uint8_t *p, uint32_t n) { put16(p, n >> 16), put16(p + 2, n & 0xffff); }
 
@@ -143,14 +126,14 @@ static uint32_t sum(const uint8_t *p, size_t n, uint32_t before) {
 /* Fills in the checksums that a sender on this machine left to a card that isn't there (RFC 1071). */
 static void complete(uint8_t *f, size_t size) {
     if (size < 34 || get16(f + 12) != IPV4 || f[14] >> 4 != 4) return;
-    size_t head = (f[14] & 15u) * 4, total = get16(f + 16), at = f[23] == 17 ? 6 : 16;
+    size_t head = (f[14] & 15u) * 4, total = get16(f + 16), at = f[23] == UDP ? 6 : 16;
     if (head < 20 || head > total || total > size - 14) return;
     put16(f + 24, 0), put16(f + 24, ~sum(f + 14, head, 0) & 0xffff);
     uint8_t *body = f + 14 + head;
     size_t length = total - head;
-    if ((f[23] != 17 && f[23] != 6) || get16(f + 20) & 0x3fff || length < at + 2) return;
-    if (f[23] == 17 && (get16(body + 4) < 8 || get16(body + 4) > length)) return;
-    if (f[23] == 17) length = get16(body + 4);
+    if ((f[23] != UDP && f[23] != TCP) || get16(f + 20) & 0x3fff || length < at + 2) return;
+    if (f[23] == UDP && (get16(body + 4) < 8 || get16(body + 4) > length)) return;
+    if (f[23] == UDP) length = get16(body + 4);
     put16(body + at, 0);
     uint32_t left = ~sum(body, length, sum(f + 26, 8, (uint32_t)(f[23] + length))) & 0xffff;
     put16(body + at, left ? left : 0xffff);
@@ -169,6 +152,7 @@ static void put(enum type type, const uint8_t *body, size_t size) {
     if (size) memcpy(at + 5, body, size);
     keep(record, at, size + 5);
     waiting.size += size + 5, number++;
+    see_input(number, type, body, size);
     flush_waiting();
 }
 static void take_frame(uint8_t *f, size_t size, unsigned notes) {
@@ -177,7 +161,7 @@ static void take_frame(uint8_t *f, size_t size, unsigned notes) {
     if (notes & TP_STATUS_CSUMNOTREADY) complete(f, size);
     if (size < MIN_FRAME || size > MAX_FRAME) counts.joined++;
     else if (waiting.size > MOST_WAITING) counts.lost++;
-    else counts.received++, counts.bytes += size, put(FRAME, f, size);
+    else counts.received++, put(FRAME, f, size);
 }
 static void take_frames(void) {
     union { struct cmsghdr head; uint8_t bytes[CMSG_SPACE(sizeof(struct tpacket_auxdata))]; } notes;
@@ -216,11 +200,11 @@ static void start(void) {
     s[57] &= 0x3f;
     put(START, s, START_BYTES + (size_t)n);
     say("%s: %02x:%02x:%02x:%02x:%02x:%02x", device, mac[0], mac[1], mac[2], mac[3], mac[4], mac[5]);
-    begin_line(), printf("bridge: this run: --w %u --uuid ", get16(s + 57));
-    for (int i = 0; i < 16; i++) printf("%s%02x", i == 4 || i == 6 || i == 8 || i == 10 ? "-" : "", s[7 + i]);
-    printf(" --key ");
-    for (int i = 0; i < 32; i++) printf("%02x", s[23 + i]);
-    end_line();
+    char uuid[40] = "", key[65] = "";
+    for (int i = 0, at = 0; i < 16; i++)
+        at += sprintf(uuid + at, "%s%02x", i == 4 || i == 6 || i == 8 || i == 10 ? "-" : "", s[7 + i]);
+    for (int i = 0; i < 32; i++) sprintf(key + 2 * i, "%02x", s[23 + i]);
+    say("bridge: this run: --w %u --uuid %s --key %s", get16(s + 57), uuid, key);
 }
 
 /* ---- from the client ---- */
@@ -271,51 +255,16 @@ static void take_part(const uint8_t *body, size_t size) {
     keep(last.file, body + 7, size - 7);
     last.length += (uint32_t)(size - 7), last.is_full = size - 7 == PIECE;
 }
-/* The client's address, which it says in each packet, is shown when it is another. */
-static void show_address(const uint8_t *f, size_t size) {
-    const uint8_t *ip = f + (get16(f + 12) == ARP ? 28 : 26);
-    if (size < 34 || (get16(f + 12) != IPV4 && get16(f + 12) != ARP) || !get32(ip) || !memcmp(ip, shown.ip, 4)) return;
-    memcpy(shown.ip, ip, 4);
-    say("%s: the address is %d.%d.%d.%d", device, ip[0], ip[1], ip[2], ip[3]);
-}
 static void send_frame(const uint8_t *body, size_t size) {
     uint8_t frame[MAX_FRAME] = {0};
-    memcpy(frame, body, size), show_address(frame, size);
+    memcpy(frame, body, size);
     ssize_t n = send(card, frame, size < MIN_ON_WIRE ? MIN_ON_WIRE : size, 0);
     ++*(n < 0 ? &counts.unsent : &counts.sent);
 }
-static void say_command(const uint8_t *body, size_t size) {
-    begin_line();
-    for (size_t at = 8, n = 0; at < size; at += 2 + n)
-        n = get16(body + at), show(body + at + 2, n, false), putchar(' ');
-    end_line();
-}
-static void say_open(const uint8_t *body, size_t size) {
-    const uint8_t *ip = body + 3;
-    begin_line(), printf("  %s %d.%d.%d.%d ", open_kinds[body[2] < OPEN_KINDS ? body[2] : 0], ip[0], ip[1], ip[2], ip[3]);
-    show(body + 13, size - 13, false), end_line();
-    shown.when = now_ms(), shown.bytes = counts.bytes;
-}
-/* Where an open stands, now and then, and how fast it comes. */
-static void say_advance(const uint8_t *body) {
-    uint64_t now = now_ms(), passed = now - shown.when;
-    if (passed < REPORT_MS) return;
-    say("  at %u, %llu kB/s", get32(body + 2), (unsigned long long)((counts.bytes - shown.bytes) / passed));
-    shown.when = now, shown.bytes = counts.bytes;
-}
-static void say_cause(const uint8_t *c) {
-    unsigned code = c[0] < CAUSES ? c[0] : 22; /* no cause has that number */
-    if (code) say("  failed: %s %u %u: %s", causes[code].name, get32(c + 1), get32(c + 5), causes[code].meaning);
-}
-static void take(unsigned type, const uint8_t *body, size_t size) {
+static void take(enum type type, const uint8_t *body, size_t size) {
     if (type == STEP) step = get32(body);
     if (type == SENT) send_frame(body, size);
-    if (type == TEXT) show(body, size, true), fflush(stdout);
-    if (type == COMMAND) say_command(body, size);
-    if (type == RESULT) say_cause(body);
-    if (type == OPEN) say_open(body, size);
-    if (type == ADVANCE) say_advance(body);
-    if (type == ENDED && !body[2]) say("  ok");
+    see_output(type, body, size, device);
     if (type == PART) take_part(body, size);
     if (type == DONE) status = body[0];
 }
@@ -331,8 +280,8 @@ static bool take_output(void) {
         size = get32(held.bytes + at);
         if (!size || size > MOST_RECORD) refuse("the length is no record's");
         if (held.size - at < 4 + size) break;
-        check(held.bytes[at + 4], held.bytes + at + 5, size - 1);
-        take(held.bytes[at + 4], held.bytes + at + 5, size - 1);
+        check((enum type)held.bytes[at + 4], held.bytes + at + 5, size - 1);
+        take((enum type)held.bytes[at + 4], held.bytes + at + 5, size - 1);
         keep(output, held.bytes + at, 4 + size);
     }
     memmove(held.bytes, held.bytes + at, held.size -= at);

@@ -17,13 +17,19 @@
 
 enum { LINK_MS = 8000, LOOK_MS = 20, MOST_FEATURES = 512, FAILED = 1, USAGE = 2, NO_LINK = 3 };
 
+#ifdef __GLIBC__
+typedef unsigned long request;
+#else
+typedef int request; /* as POSIX and musl have it */
+#endif
+
 static int asking;
 
 static _Noreturn void fail(const char *name) {
     printf("card: %s: %s\n", name, strerror(errno));
     exit(FAILED);
 }
-static int ask(unsigned long what, struct ifreq *about, const char *name) {
+static int ask(request what, struct ifreq *about, const char *name) {
     memcpy(about->ifr_name, name, strnlen(name, IFNAMSIZ - 1));
     return ioctl(asking, what, about);
 }

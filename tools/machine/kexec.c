@@ -28,7 +28,7 @@ static const char *reason(int number) {
     static char other[128];
     switch (number) {
     case ENOEXEC: return "it isn't a Linux kernel that can be started from another";
-    case EKEYREJECTED: case ENOKEY: case EBADMSG: case ENODATA: case ENOPKG:
+    case EKEYREJECTED: case ENOKEY: case EBADMSG: case ENODATA: case ENOPKG: case ELIBBAD:
         return "it has no signature that this machine trusts, and Secure Boot asks for one";
     case EPERM: case EACCES: return "the system doesn't allow it, or not without a signature that it trusts";
     case ENOMEM: case EADDRNOTAVAIL: return "kernel and initrds don't fit into this machine's memory";

@@ -18,9 +18,13 @@ SECONDS_BETWEEN_LOOKS = 0.2
 STEERS = re.compile(rb"\x1b[\[(][0-9;?]*[A-Za-z]?|[^\t -~]")
 
 
+def unsteered(text: bytes) -> str:
+    return STEERS.sub(b"", text).decode("ascii")
+
+
 def text_of(line: bytes) -> str:
-    """A line without what steers a terminal."""
-    return STEERS.sub(b"", line).decode("ascii").strip()
+    """A line as a terminal shows it in the end: what was written over its beginning counts, and nothing steers it."""
+    return unsteered(line.rstrip(b"\r").rpartition(b"\r")[2]).strip()
 
 
 @contextmanager
@@ -37,8 +41,11 @@ def started(words: list[str]) -> Iterator[subprocess.Popen[bytes]]:
             process.stdout.close()
 
 
-def lines_of(process: subprocess.Popen[bytes], most_seconds: float) -> Iterator[tuple[float, str]]:
-    """Its lines that aren't empty, until it ends or so many seconds have passed."""
+def lines_of(
+    process: subprocess.Popen[bytes], most_seconds: float, until: str | None = None
+) -> Iterator[tuple[float, str]]:
+    """Its lines that aren't empty, until it ends or so many seconds have passed. What is waited for may be a part of a
+    screen, which has no lines, and is one then."""
     assert process.stdout
     begun, left = time.monotonic(), b""
     while (passed := time.monotonic() - begun) < most_seconds:
@@ -51,5 +58,8 @@ def lines_of(process: subprocess.Popen[bytes], most_seconds: float) -> Iterator[
         for text in map(text_of, whole):
             if text:
                 yield passed, text
+        if until and until in unsteered(left):
+            yield passed, until
+            left = b""
         if not piece:
             return

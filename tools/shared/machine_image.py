@@ -18,7 +18,8 @@ from shared.needed import Need
 from shared.program import TOP
 
 SOURCES = TOP / "tools" / "machine"
-PROGRAMS = ("bridge", "card", "kexec")
+# each program's sources
+PROGRAMS = {"bridge": ("bridge.c", "console.c"), "card": ("card.c",), "kexec": ("kexec.c",)}
 HEADERS = ("/usr/include", "/usr/include/x86_64-linux-gnu")
 BUSYBOX = "/bin/busybox"
 LOADER = b"/lib64/ld-linux"
@@ -29,11 +30,18 @@ NEEDS = (
     Need("ldd", "libc-bin"),
     Need(BUSYBOX, "busybox-static"),
 )
-# the machine's buses and ports, and the cards of virtual and of usual machines
+# the machine's buses and ports, what a stick with recordings and a keyboard need, and the cards of virtual and of usual
+# machines
 REQUIRED = ("virtio_pci", "virtio_net", "virtio_console")
+STICK = (
+    "xhci-pci", "ehci-pci", "ohci-pci", "uhci-hcd", "usb-storage", "uas", "sd_mod", "virtio_blk", "vfat", "nls_cp437",
+    "nls_ascii", "nls_utf8",
+)
+KEYBOARD = ("usbhid", "hid-generic")
 USUAL = (
     "virtio-rng", "vmxnet3", "hv_netvsc", "xen-netfront", "ena", "gve", "e1000", "e1000e", "igb", "igc",
     "ixgbe", "i40e", "r8169", "realtek", "tg3", "broadcom", "atlantic", "forcedeth", "sky2", "8139too",
+    *STICK, *KEYBOARD,
 )
 
 
@@ -105,7 +113,7 @@ def compiler() -> list[str]:
 
 
 def _compiled(program: str, folder: Path) -> bytes:
-    words = [*compiler(), "-O2", "-static", "-s", "-o", program, str(SOURCES / f"{program}.c")]
+    words = [*compiler(), "-O2", "-static", "-s", "-o", program, *(str(SOURCES / name) for name in PROGRAMS[program])]
     done = subprocess.run(words, cwd=folder, capture_output=True, text=True, check=False)
     if done.returncode:
         lines = done.stderr.strip().splitlines() or ["it failed"]

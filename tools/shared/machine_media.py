@@ -21,6 +21,11 @@ from shared.needed import Need
 STUB = "/usr/lib/systemd/boot/efi/linuxx64.efi.stub"
 GRUB = "/usr/lib/grub/i386-pc"
 EFI_NEEDS = (Need(STUB, "systemd-boot-efi"), Need("objcopy", "binutils"), Need("objdump", "binutils"))
+# Debian's, which firmware with Microsoft's keys starts, and which start a kernel of Debian's
+SHIM, SIGNED_GRUB = "/usr/lib/shim/shimx64.efi.signed", "/usr/lib/grub/x86_64-efi-signed/gcdx64.efi.signed"
+SECURE_NEEDS = (Need(SHIM, "shim-signed"), Need(SIGNED_GRUB, "grub-efi-amd64-signed"))
+# what firmware starts of a stick or a CD, and what shim starts
+BY_FIRMWARE, BY_SHIM = "BOOTX64.EFI", "grubx64.efi"
 ISO_NEEDS = (
     *EFI_NEEDS,
     Need("grub-mkimage", "grub-common"),
@@ -31,7 +36,7 @@ ISO_NEEDS = (
 # the time of all files, the earliest that FAT can say
 EPOCH = 315_532_800
 ALIGNMENT = 4096
-PE_START, PE_TIME, PE_SUM = 0x3C, 8, 88
+PE_START, PE_TIME, PE_SUM, PE_SIGNATURE_SIZE = 0x3C, 8, 88, 172
 # of a FAT volume, which has room for its folders and tables beside the file
 HEADS, SECTORS, SECTOR = 64, 32, 512
 TRACK = HEADS * SECTORS * SECTOR
@@ -103,8 +108,22 @@ def without_time(program: bytes) -> bytes:
     return bytes(made)
 
 
-def iso_file(system: System, efi: bytes) -> bytes:
-    """The ISO, with the EFI file of the same system."""
+def signed_files(kernel: bytes) -> dict[str, bytes]:
+    """Shim and GRUB, which start this kernel under Secure Boot where it is signed as Debian's are."""
+    if not is_signed(kernel):
+        raise Refused("the kernel has no signature, so nothing starts it under Secure Boot; Debian's own has one")
+    return {BY_FIRMWARE: Path(SHIM).read_bytes(), BY_SHIM: Path(SIGNED_GRUB).read_bytes()}
+
+
+def is_signed(program: bytes) -> bool:
+    """Whether a program of EFI has a table of certificates (Microsoft's PE format, the optional header for 64 bits)."""
+    start = int.from_bytes(program[PE_START : PE_START + 4], "little")
+    size = program[start + PE_SIGNATURE_SIZE : start + PE_SIGNATURE_SIZE + 4]
+    return program[start : start + 4] == b"PE\0\0" and any(size)
+
+
+def iso_file(system: System, efi: dict[str, bytes]) -> bytes:
+    """The ISO of a system, with these files of EFI."""
     if NOT_FOR_GRUB.search(system.words):
         raise Refused("GRUB has a meaning of its own for a character of --words; a script is given by --script")
     with _folder() as folder:
@@ -113,6 +132,9 @@ def iso_file(system: System, efi: bytes) -> bytes:
         (grub.parent / "vmlinuz").write_bytes(system.kernel)
         (grub.parent / "initramfs").write_bytes(system.initramfs)
         (grub / "grub.cfg").write_text(_grub_configuration(system.words))
+        # by this file the signed GRUB finds the volume
+        (folder / "root" / ".disk").mkdir()
+        (folder / "root" / ".disk" / "info").write_text(f"{LABEL}\n")
         _make_bios_image(folder, grub)
         _make_fat(folder, efi)
         _make_iso(folder)
@@ -132,14 +154,15 @@ def _make_bios_image(folder: Path, grub: Path) -> None:
     _run([*words, f"--output={grub / 'bios.img'}", *GRUB_MODULES], folder)
 
 
-def _make_fat(folder: Path, efi: bytes) -> None:
-    (folder / "BOOTX64.EFI").write_bytes(efi)
-    os.utime(folder / "BOOTX64.EFI", (EPOCH, EPOCH))
-    tracks = -(-(len(efi) + MORE) // TRACK)
+def _make_fat(folder: Path, efi: dict[str, bytes]) -> None:
+    for name, content in efi.items():
+        (folder / name).write_bytes(content)
+        os.utime(folder / name, (EPOCH, EPOCH))
+    tracks = -(-(sum(map(len, efi.values())) + MORE) // TRACK)
     shape = ["-h", str(HEADS), "-s", str(SECTORS), "-t", str(tracks)]
     _run(["mformat", "-i", "efi.img", "-C", "-N", "00000000", *shape], folder)
     _run(["mmd", "-i", "efi.img", "::/EFI", "::/EFI/BOOT"], folder)
-    _run(["mcopy", "-m", "-i", "efi.img", "BOOTX64.EFI", "::/EFI/BOOT/"], folder)
+    _run(["mcopy", "-m", "-i", "efi.img", *efi, "::/EFI/BOOT/"], folder)
 
 
 def _make_iso(folder: Path) -> None:

@@ -17,7 +17,7 @@ from typing import Iterator, Protocol
 from shared.command_line import Refused
 from shared.namespaces import SERVER_ADDRESS, Network
 
-MOST_SECONDS_TO_START = 5.0
+MOST_SECONDS_TO_START = 30.0
 TFTP_PORT, DHCP_PORT, DNS_PORT = 69, 67, 53
 MINUTES = 60
 # one process in the foreground, for this interface alone, with no file of the machine's own

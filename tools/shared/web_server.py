@@ -13,7 +13,7 @@ from shared.command_line import Refused
 from shared.namespaces import SERVER_ADDRESS, Network
 
 PORT = 80
-MOST_SECONDS_TO_START = 10.0
+MOST_SECONDS_TO_START = 30.0
 SECONDS_BETWEEN_LOOKS = 0.05
 TCP_SOCKETS = "/proc/net/tcp"
 # the state of a socket that listens (linux/include/net/tcp_states.h)
