@@ -4,6 +4,7 @@ from __future__ import annotations
 
 import subprocess
 import tempfile
+import time
 import unittest
 from pathlib import Path
 
@@ -102,6 +103,9 @@ class Card(Spaced):
 
     def test_what_cannot_be(self) -> None:
         self.ip("link set far down", is_inside=True)
+        # the other end's link is gone a moment later
+        while "state UP" in self.ip("link show near", is_inside=True):
+            time.sleep(0.02)
         self.assertEqual(self.ends("up near"), (NO_LINK, "near: no link; is its cable in?\n"))
         self.assertEqual(self.ends("up none"), (1, "card: none: No such device\n"))
         for line in ("up", "near", "up near far", "on near", "up 0123456789abcdef"):
