@@ -1,13 +1,15 @@
 #!/usr/bin/env python3
-"""Measures the program on recorded boots by TFTP: memory, time, and instructions for each byte."""
+"""Measures the program on recorded boots by TFTP and HTTP: memory, time, and instructions for each byte."""
 
 from __future__ import annotations
 
 import argparse
 import sys
 import tempfile
+from functools import partial
 from itertools import pairwise
 from pathlib import Path
+from typing import Callable
 
 TOP = Path(__file__).resolve().parent.parent
 sys.path.insert(0, str(TOP / "tools"))
@@ -18,10 +20,12 @@ from boots import (  # noqa: E402
     GRANTED,
     MEGABYTE,
     MOST_MEGABYTES,
+    MOST_WEB_MEGABYTES,
     SERVER,
     image,
     replay,
     write_transfer,
+    write_web_transfer,
 )
 from instructions import Counted, costs_of, count, missing  # noqa: E402
 from meter import Measured, build_meter, measure  # noqa: E402
@@ -31,7 +35,7 @@ MOST_FUNCTIONS = 10
 
 DESCRIPTION = """\
 Measures the built program on recorded boots by TFTP in blocks of 512 bytes, or of 1,432 that the
-server grants: the peak of its memory, its processor time, and its instructions for each byte,
+server grants, or by HTTP: the peak of its memory, its processor time, and its instructions for each byte,
 beside those of a C loop that only checks sums and copies, and the ten functions that cost most. Memory and time are measured where cc is
 installed, instructions counted where valgrind is too. `rt run` in crates/netboot proves and builds
 the program."""
@@ -116,37 +120,48 @@ def parse(words: list[str]) -> argparse.Namespace:
         "--program", type=Path, default=TOP / "crates" / "netboot" / "out" / "netboot"
     )
     parser.add_argument(
-        "megabytes", type=int, nargs="*", default=[3, 30], help="sizes of images, from 1 to 31"
-    )
+        "megabytes", type=int, nargs="*", default=[3, 30],
+        help=f"sizes of images, from 1 to {MOST_MEGABYTES}, by HTTP to {MOST_WEB_MEGABYTES}",
+    )  # fmt: skip
     parser.add_argument("--keep", type=Path, metavar="DIR", help="only write the recordings here")
     parser.add_argument(
         "--granted", action="store_true", help="the server grants blocks of 1,432 bytes"
     )
+    parser.add_argument("--http", action="store_true", help="by HTTP, in segments of 1,460 bytes")
+    parser.add_argument(
+        "--swapped", action="store_true", help="by HTTP, and every eighth segment comes after the next"
+    )
     return parser.parse_args(words)
 
 
-def write_transfers(sizes: list[int], folder: Path, block: int) -> dict[int, Path]:
+def write_transfers(sizes: list[int], folder: Path, write: Callable[[int, Path], None], most: int) -> dict[int, Path]:
     """Writes a recording for each size in megabytes; answers them by their images' lengths."""
     recordings = {}
     for megabytes in sorted(set(sizes)):
-        if not 1 <= megabytes <= MOST_MEGABYTES:
-            why = f"can't be measured: 1 to {MOST_MEGABYTES} can"
-            raise Refused(f"an image of {megabytes} megabytes {why}")
+        if not 1 <= megabytes <= most:
+            raise Refused(f"an image of {megabytes} megabytes can't be measured: 1 to {most} can")
         length = megabytes * MEGABYTE
         recording = recordings[length] = folder / f"{megabytes}.rec"
-        write_transfer(length, recording, block)
+        write(length, recording)
     return recordings
+
+
+def writer_of(arguments: argparse.Namespace) -> tuple[Callable[[int, Path], None], int]:
+    """What writes a recording, and the most megabytes that it can have."""
+    if arguments.http or arguments.swapped:
+        return partial(write_web_transfer, is_swapped=arguments.swapped), MOST_WEB_MEGABYTES
+    return partial(write_transfer, block=GRANTED if arguments.granted else BLOCK), MOST_MEGABYTES
 
 
 def measure_all(words: list[str]) -> None:
     arguments = parse(words)
-    block = GRANTED if arguments.granted else BLOCK
+    write, most = writer_of(arguments)
     if arguments.keep:
-        write_transfers(arguments.megabytes, arguments.keep, block)
+        write_transfers(arguments.megabytes, arguments.keep, write, most)
         return
     with tempfile.TemporaryDirectory() as name:
         folder = Path(name)
-        recordings = write_transfers(arguments.megabytes, folder, block)
+        recordings = write_transfers(arguments.megabytes, folder, write, most)
         report_runs(arguments.program, recordings, folder)
         report_instructions(arguments.program, recordings, folder)
 

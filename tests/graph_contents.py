@@ -1,7 +1,7 @@
 """Checks what enters the lowest object of each open, and what goes down out of it.
 
 A second reading of crates/nb_boot/specs/Entries.antt, which names no kind of open: the lowest object is the one made
-last of those that live at the OPEN. What a frame is, is read here from RFC 826, 791, 768 and 792.
+last of those that live at the OPEN. What a frame is, is read here from RFC 826, 791, 768, 792 and 9293.
 """
 
 from __future__ import annotations
@@ -12,9 +12,9 @@ from typing import Iterable, NamedTuple
 from shared.causes import OK
 from shared.kinds import GraphEvent, OpenKind, Way
 from shared.records import Advance, Ended, Graph, Open, Received, Record, Result, Sent, Start, Step, Tick, Try
-from tests.graph_entries import ICMP, IPV4, UDP, UNSET, Client, brings, lease_in
+from tests.graph_entries import ICMP, IPV4, TCP, UDP, UNSET, Client, brings, lease_in
 
-ARP, TCP = 0x0806, 6
+ARP = 0x0806
 ARP_REQUEST, ARP_REPLY = 1, 2
 ECHO_REPLY = 0
 FROM_OUTSIDE = (Way.UP, Way.TIME)
@@ -116,7 +116,8 @@ def may_send(frame: bytes, opened: Open) -> bool:
     if opened.kind is OpenKind.PING:
         is_request = (kind, packet[9]) == (IPV4, ICMP) and body[0] != ECHO_REPLY
         return is_request and int.from_bytes(body[4:6], "big") == opened.own
-    return (kind, packet[9]) == (IPV4, UDP) and int.from_bytes(body[:2], "big") == opened.own
+    carrier = TCP if opened.kind is OpenKind.HTTP else UDP
+    return (kind, packet[9]) == (IPV4, carrier) and int.from_bytes(body[:2], "big") == opened.own
 
 
 def is_reply(frame: bytes) -> bool:

@@ -1,6 +1,6 @@
 """Checks which input records enter the objects of an open: each time and each message for it, and no other.
 
-What a frame brings is read here anew, from RFC 791, 768, 792 and 826, without the tools' own reading.
+What a frame brings is read here anew, from RFC 791, 768, 792, 826 and 9293, without the tools' own reading.
 """
 
 from __future__ import annotations
@@ -16,14 +16,14 @@ from tests.graph_records import BELOW, SOLE_KINDS, TIMER, entered
 
 UNSET = IPv4Address(0)
 EVERYONE, ALL_HOSTS = b"\xff" * 6, b"\xff" * 4
-IPV4, ICMP, UDP = 0x0800, 1, 17
+IPV4, ICMP, TCP, UDP = 0x0800, 1, 6, 17
 # a ones' complement sum that is zero; all bits 0 is the sum of zeros alone
 ZEROS = (0xFFFF, 0)
 LEAST_HEAD = 20
 ECHO_REPLY = b"\0\0"
 DNS_PORT, DHCP_PORT = 53, 67
 # the object of an open that uses the network
-LOWEST = {**SOLE_KINDS, OpenKind.TFTP: ObjectKind.TFTP}
+LOWEST = {**SOLE_KINDS, OpenKind.TFTP: ObjectKind.TFTP, OpenKind.HTTP: ObjectKind.TCP}
 # where a DHCP message has the address that it gives, after the heads of frame, packet and datagram
 GIVEN = slice(58, 62)
 
@@ -62,6 +62,8 @@ def brings(frame: bytes, client: Client, opened: Open) -> bool:
         return False
     if opened.kind is OpenKind.PING:
         return packet[9] == ICMP and target == client.ip.packed and is_reply(body, opened)
+    if opened.kind is OpenKind.HTTP:
+        return packet[9] == TCP and target == client.ip.packed and is_segment(source, target, body, opened)
     return packet[9] == UDP and is_datagram(source, target, body, client, opened)
 
 
@@ -69,6 +71,14 @@ def is_reply(body: bytes, opened: Open) -> bool:
     """Whether it is an echo reply with the number of the ping."""
     is_echo = len(body) >= 8 and body[:2] == ECHO_REPLY and ones(body) in ZEROS
     return is_echo and int.from_bytes(body[4:6], "big") == opened.own
+
+
+def is_segment(source: bytes, target: bytes, body: bytes, opened: Open) -> bool:
+    """Whether it is a segment from the server's port to the open's own."""
+    head = (body[12] >> 4) * 4 if len(body) >= LEAST_HEAD else 0
+    ports = opened.port.to_bytes(2, "big") + opened.own.to_bytes(2, "big")
+    pseudo = source + target + bytes([0, TCP]) + len(body).to_bytes(2, "big")
+    return LEAST_HEAD <= head <= len(body) and body[:4] == ports and ones(pseudo + body) == 0xFFFF
 
 
 def is_datagram(source: bytes, target: bytes, body: bytes, client: Client, opened: Open) -> bool:

@@ -12,14 +12,14 @@ from __future__ import annotations
 from collections import deque
 from dataclasses import dataclass, field
 
-from shared.causes import Cause
+from shared.causes import OK, Cause
 from shared.kinds import GraphEvent, ObjectKind, OpenKind, Way
 from shared.records import Advance, Command, Done, Ended, Graph, Open, Record, Sent, Try
 from tests import graph_records
-from tests.graph_records import ABOVE, BELOW, SOLE_KINDS, TIMER, TOO_LARGE, Cast, Pair, Sole, Waiter
+from tests.graph_records import ABOVE, BELOW, SOLE_KINDS, TIMER, TOO_LARGE, Cast, Pair, Sole, Trio, Waiter
 
-# a COMMAND, and the five events that make the objects of an open by TFTP
-LOOKED_BACK = 6
+# a COMMAND, and the eight events that make the objects of an open by HTTP
+LOOKED_BACK = 9
 MOST_AT_TOO_LARGE = 40
 # what waits while its open's server is looked up
 WAITING = (ObjectKind.FETCH, ObjectKind.PING)
@@ -49,6 +49,8 @@ class Ends:
     made: int = 0
     live: dict[int, Live] = field(default_factory=dict)
     waiter: Waiter | None = None
+    # the open by HTTP that has ended well last: it may have been moved
+    moved: int | None = None
 
     def take(self, record: Record) -> None:
         match record:
@@ -66,7 +68,8 @@ class Ends:
 
     def _began(self, opened: Open) -> None:
         is_next = self.waiter is not None
-        cast = self.waiter.opens(opened.number, self.made - 1) if self.waiter else self._cast(opened)
+        below = len(graph_records.cast_for(opened, 1).objects()) - 1
+        cast = self.waiter.opens(opened.number, self.made - below, opened.kind) if self.waiter else self._cast(opened)
         wanted = graph_records.completed(cast) if is_next else graph_records.made(cast)
         before = list(self.recent)
         if before[len(before) - len(wanted) :] != wanted:
@@ -75,15 +78,14 @@ class Ends:
         self.waiter = None if is_next else self._waiting(opened, before)
         if self.waiter:
             del before[-2:]
-        if not isinstance(before[-1], Ended if is_next else Command):
+        if not (isinstance(before[-1], Ended if is_next else Command) or before[-1] == Ended(self.moved or 0, OK)):
             after = "the end of a look-up" if is_next else "a COMMAND"
             raise NotLegal(f"the objects of open {opened.number} aren't made directly after {after}")
         self.live[opened.number] = Live(cast)
 
     def _cast(self, opened: Open) -> Cast:
         """The objects of an open before which nothing has waited."""
-        is_sole = opened.kind in SOLE_KINDS
-        return graph_records.cast_for(opened, self.made if is_sole else self.made - 1)
+        return graph_records.cast_for(opened, self.made + 1 - len(graph_records.cast_for(opened, 1).objects()))
 
     def _waiting(self, opened: Open, before: list[Record]) -> Waiter | None:
         """What was made directly before the resolver of a look-up, and waits for it."""
@@ -106,6 +108,7 @@ class Ends:
             raise NotLegal(f"the objects of open {ended.number} aren't freed directly before its ENDED")
         if live.first != ended.cause:
             raise NotLegal(f"open {ended.number} ended with {ended.cause}, and the first close is {live.first}")
+        self.moved = ended.number if isinstance(live.cast, Trio) and ended.cause == OK else None
 
 
 class Order:
@@ -114,6 +117,10 @@ class Order:
     def __init__(self, records: list[Record]) -> None:
         self.records, self.place = records, 0
         self.made = 0
+        # the objects of the open that began last
+        self.last: Cast | None = None
+        # its TCP has closed its port below when its response was decided
+        self.is_cut = True
 
     def check(self) -> None:
         try:
@@ -149,7 +156,8 @@ class Order:
         while True:
             record = self._next()
             before = self.records[self.place - 1] if self.place else None
-            if isinstance(record, Graph) and isinstance(before, Command):
+            is_moved = isinstance(before, Ended) and isinstance(self.last, Trio) and before == Ended(self.last.number, OK)
+            if isinstance(record, Graph) and (isinstance(before, Command) or is_moved):
                 opens += self._command(opens, record)
             elif isinstance(record, (Graph, Open, Ended, Advance, Try)):
                 raise NotLegal(f"no open lives at {record}")
@@ -179,7 +187,10 @@ class Order:
         if self._next() == given_up[0]:
             self._expect(*given_up)
             return 0
-        cast = waiter.opens(k, self.made)
+        # a fetch gets a TFTP, or an HTTP and a TCP
+        made = self._next()
+        is_http = isinstance(made, Graph) and (made.event, made.other) == (GraphEvent.MADE, ObjectKind.HTTP)
+        cast = waiter.opens(k, self.made, OpenKind.HTTP if is_http else OpenKind.TFTP)
         self._made(*graph_records.completed(cast))
         self._open(cast)
         return 1
@@ -195,7 +206,9 @@ class Order:
         """The objects of open k, whose first is made by this event."""
         if first.other in SOLE_KINDS.values():
             return Sole(k, self.made + 1, ObjectKind(first.other))
-        return Pair(k, self.made + 1)
+        second = self.records[self.place + 2 : self.place + 3]
+        is_http = [isinstance(one, Graph) and one.other == ObjectKind.HTTP for one in second] == [True]
+        return Trio(k, self.made + 1) if is_http else Pair(k, self.made + 1)
 
     def _made(self, *wanted: Record) -> None:
         """Objects are made."""
@@ -204,7 +217,7 @@ class Order:
 
     def _open(self, cast: Cast, waiter: Waiter | None = None) -> bool:
         """An open, from its OPEN on, while something waits beside it or nothing does; whether it ends with the run."""
-        opened = self._next()
+        opened, self.last = self._next(), cast
         if not isinstance(opened, Open) or opened.number != cast.number:
             raise NotLegal(f"in place of OPEN {cast.number} there is {opened}")
         if list(cast.objects().values()) != list(graph_records.cast_for(opened, 1).objects().values()):
@@ -227,9 +240,9 @@ class Order:
             self._expect(*graph_records.shut_both(waiter, cast, cause))
             return True
         front = graph_records.closed_above(cast, cause)
-        self._expect(*front)
+        self._closes(cast, front)
         if self._is_close() and waiter is None:
-            self._expect(*graph_records.shut(cast, cause)[len(front) :])
+            self._expect(*graph_records.shut(cast, cause=cause)[len(front) :])
             return True
         if is_sent:
             raise NotLegal(f"open {cast.number} sent its request, and is closed from above")
@@ -242,8 +255,8 @@ class Order:
             self._asides()
             if self._is_close():
                 cause = self._next().cause
-                shut = graph_records.shut_both(waiter, cast, cause) if waiter else graph_records.shut(cast, cause)
-                self._expect(*shut)
+                shut = graph_records.shut_both(waiter, cast, cause) if waiter else graph_records.shut(cast, cause=cause)
+                self._closes(cast, shut)
                 return True
             if self._call(cast):
                 return False
@@ -258,9 +271,12 @@ class Order:
         self._sends()
         if isinstance(cast, Pair) and self._gives(cast, record.slot):
             return True
-        over = self._next().cause if self._is_close() else None
-        if over:
+        decided = self._rises(cast) if isinstance(cast, Trio) else None
+        over = decided or (self._next().cause if self._is_close() else None)
+        if over and decided is None:
             self._expect(*graph_records.closed_below(cast, over))
+        elif over and not self.is_cut:
+            self._expect(graph_records.closed(number, BELOW, self._next().cause))
         self._expect(graph_records.left(number, record.slot))
         if over:
             self._expect(*graph_records.freed(cast), Ended(cast.number, over))
@@ -275,6 +291,55 @@ class Order:
             return self._too_large(pair, slot)
         self._expect(graph_records.left(pair.fetch, BELOW))
         return False
+
+    def _closes(self, cast: Cast, wanted: list[Record]) -> None:
+        """Ports are closed; a TCP that is closed from above may say so to the server."""
+        closing = graph_records.entered(cast.tcp, ABOVE, Way.CLOSE) if isinstance(cast, Trio) else None
+        for record in wanted:
+            self._expect(record)
+            if record == closing:
+                self._sends()
+
+    def _rises(self, trio: Trio) -> Cause | None:
+        """What goes up from the TCP, piece by piece; the cause with which the response ends the open, if it does."""
+        cause = None
+        while True:
+            record = self._next()
+            if record == Graph(GraphEvent.DROPPED, trio.tcp, ABOVE):
+                self.place += 1
+            elif record == graph_records.entered(trio.http, BELOW, Way.UP) and cause is None:
+                self.place += 1
+                cause = self._read(trio)
+            else:
+                return cause
+
+    def _read(self, trio: Trio) -> Cause | None:
+        """An entry of the HTTP: bytes go up or not, and the response is decided or not."""
+        cause, is_moved = None, False
+        while self._next() == graph_records.entered(trio.fetch, BELOW, Way.UP):
+            self.place += 1
+            is_moved = self._is_close()
+            if is_moved:
+                self._expect(*graph_records.fetch_moved(trio))
+            self._expect(graph_records.left(trio.fetch, BELOW))
+        if self._is_close():
+            cause = self._next().cause
+            self._expect(*([] if is_moved else trio.fetch_closed(cause)))
+            self._cut(trio, cause)
+            if self._next() == Graph(GraphEvent.DROPPED, trio.http, BELOW):
+                self.place += 1
+        self._expect(graph_records.left(trio.http, BELOW))
+        return cause
+
+    def _cut(self, trio: Trio, cause: Cause) -> None:
+        """The HTTP closes to the TCP, which may say so to the server, or has ended by itself."""
+        self._expect(*trio.tcp_closed(cause)[:3])
+        place = self.place
+        self._sends()
+        self.is_cut = self._is_close()
+        if not self.is_cut and self.place > place:
+            raise NotLegal(f"the TCP of open {trio.number} sends, and has ended by itself")
+        self._expect(*trio.tcp_closed(cause, has_ended=not self.is_cut)[3:])
 
     def _is_close(self) -> bool:
         record = self._next()
@@ -295,4 +360,5 @@ class Order:
 def _halves(records: list[Record], middle: Record) -> tuple[list[Record], list[Record]]:
     """What stands between a record and the innermost place of the entries after it, and what stands after that."""
     later = records[records.index(middle) + 1 :]
-    return later[: len(later) // 2], later[len(later) // 2 :]
+    first_left = next(at for at, one in enumerate(later) if isinstance(one, Graph) and one.event is GraphEvent.LEFT)
+    return later[:first_left], later[first_left:]

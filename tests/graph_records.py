@@ -1,6 +1,7 @@
 """The GRAPH records of an open, written by hand from docs/RECORDS.md.
 
-An open by TFTP has a pair of objects: a fetch and, plugged to it, a TFTP. One that asks and is answered (by DNS,
+An open by TFTP has a pair of objects: a fetch and, plugged to it, a TFTP. One by HTTP has three, a fetch, an HTTP and a
+TCP (web_records.py has what happens to them). One that asks and is answered (by DNS,
 DHCP or a ping) has one object alone. Where the server of a fetch or a ping is a name, its first object waits beside the
 resolver of the look-up. Where all opens before it are by TFTP, the objects of open k by TFTP are 2k + 1
 and 2k + 2, and it is named by k; any other is named by its objects. Each function answers a list of records in their
@@ -12,7 +13,7 @@ from __future__ import annotations
 
 from typing import NamedTuple
 
-from shared.causes import Cause, Code
+from shared.causes import OK, Cause, Code
 from shared.kinds import GraphEvent, ObjectKind, OpenKind, Way
 from shared.records import Ended, Graph, Open, Record
 
@@ -71,6 +72,77 @@ class Pair(NamedTuple):
         ]
 
 
+class Trio(NamedTuple):
+    """An open by HTTP, and the number of its fetch; the others have the next ones, unless the fetch has waited."""
+
+    number: int
+    fetch: int
+    lower: int | None = None
+
+    @property
+    def http(self) -> int:
+        return self.lower or self.fetch + 1
+
+    @property
+    def tcp(self) -> int:
+        return self.http + 1
+
+    def objects(self) -> dict[int, ObjectKind]:
+        return {self.fetch: ObjectKind.FETCH, self.http: ObjectKind.HTTP, self.tcp: ObjectKind.TCP}
+
+    def links(self) -> list[Record]:
+        return [
+            Graph(GraphEvent.PLUGGED, self.fetch, BELOW, self.http, ABOVE),
+            Graph(GraphEvent.PLUGGED, self.http, BELOW, self.tcp, ABOVE),
+        ]
+
+    def closed_above(self, cause: Cause, *put: Record) -> list[Record]:
+        """The user closes both ports of the fetch; the others pass that on, and the TCP says so to the server."""
+        return [
+            closed(self.fetch, ABOVE, cause),
+            closed(self.fetch, BELOW, cause),
+            closed(self.http, ABOVE, cause),
+            entered(self.http, ABOVE, Way.CLOSE),
+            *self.tcp_closed(cause, *put),
+            left(self.http, ABOVE),
+            unplugged(self.fetch, BELOW, self.http, ABOVE),
+        ]
+
+    def tcp_closed(self, cause: Cause, *put: Record, has_ended: bool = False) -> list[Record]:
+        """The HTTP closes its port below; a connection that has ended by itself does nothing at that."""
+        return [
+            closed(self.http, BELOW, cause),
+            closed(self.tcp, ABOVE, cause),
+            entered(self.tcp, ABOVE, Way.CLOSE),
+            *([] if has_ended else [*put, closed(self.tcp, BELOW, cause)]),
+            left(self.tcp, ABOVE),
+            unplugged(self.http, BELOW, self.tcp, ABOVE),
+        ]
+
+    def fetch_closed(self, cause: Cause) -> list[Record]:
+        """The HTTP closes its port above."""
+        return [
+            closed(self.http, ABOVE, cause),
+            closed(self.fetch, BELOW, cause),
+            entered(self.fetch, BELOW, Way.CLOSE),
+            closed(self.fetch, ABOVE, cause),
+            left(self.fetch, BELOW),
+            unplugged(self.http, ABOVE, self.fetch, BELOW),
+        ]
+
+    def closed_below(self, cause: Cause) -> list[Record]:
+        """The TCP closes its port above, the others pass that on, and then that below is closed."""
+        return [
+            closed(self.tcp, ABOVE, cause),
+            closed(self.http, BELOW, cause),
+            entered(self.http, BELOW, Way.CLOSE),
+            *self.fetch_closed(cause),
+            left(self.http, BELOW),
+            unplugged(self.tcp, ABOVE, self.http, BELOW),
+            closed(self.tcp, BELOW, cause),
+        ]
+
+
 class Sole(NamedTuple):
     """An open that asks and is answered, and its object."""
 
@@ -91,7 +163,7 @@ class Sole(NamedTuple):
         return self.closed_above(cause)
 
 
-Cast = Pair | Sole
+Cast = Pair | Trio | Sole
 
 
 class Waiter(NamedTuple):
@@ -100,8 +172,10 @@ class Waiter(NamedTuple):
     object: int
     kind: ObjectKind
 
-    def opens(self, number: int, last: int) -> Cast:
+    def opens(self, number: int, last: int, kind: OpenKind = OpenKind.TFTP) -> Cast:
         """It with all objects of its open, where `last` was made last before that."""
+        if kind is OpenKind.HTTP:
+            return Trio(number, self.object, last + 1)
         if self.kind is ObjectKind.FETCH:
             return Pair(number, self.object, last + 1)
         return Sole(number, self.object, self.kind)
@@ -116,7 +190,7 @@ def cast_for(opened: Open, first: int) -> Cast:
     """The objects of an open, the first of which has this number."""
     if opened.kind in SOLE_KINDS:
         return Sole(opened.number, first, SOLE_KINDS[opened.kind])
-    return Pair(opened.number, first)
+    return Trio(opened.number, first) if opened.kind is OpenKind.HTTP else Pair(opened.number, first)
 
 
 def lowest(k: int | Cast) -> int:
@@ -152,14 +226,19 @@ def one_freed(number: int) -> list[Record]:
 
 def made(k: int | Cast) -> list[Record]:
     """Between COMMAND and OPEN: the objects are made, and plugged."""
-    cast = cast_of(k)
-    events = [event for number, kind in cast.objects().items() for event in one_made(number, kind)]
-    return [*events, *cast.links()]
+    return _made_from(0, cast_of(k))
 
 
 def completed(cast: Cast) -> list[Record]:
-    """Between the end of a look-up and the OPEN after it: a fetch gets its TFTP, a ping nothing."""
-    return [*one_made(cast.tftp, ObjectKind.TFTP), *cast.links()] if isinstance(cast, Pair) else []
+    """Between the end of a look-up and the OPEN after it: a fetch gets what is below it, a ping nothing."""
+    return _made_from(1, cast)
+
+
+def _made_from(first: int, cast: Cast) -> list[Record]:
+    """Objects are made from this place on, and each but the uppermost is plugged to the one above it."""
+    links = [[], *([link] for link in cast.links())]
+    each = [[*one_made(*made_one), *links[at]] for at, made_one in enumerate(cast.objects().items())]
+    return [event for events in each[first:] for event in events]
 
 
 def begins(opened: Open, *put: Record, cast: Cast | None = None) -> list[Record]:
@@ -167,7 +246,9 @@ def begins(opened: Open, *put: Record, cast: Cast | None = None) -> list[Record]
     cast = cast or cast_of(opened.number)
     downs = [entered(number, ABOVE, Way.DOWN) for number in cast.objects()]
     lefts = [left(number, ABOVE) for number in reversed(cast.objects())]
-    return [opened, *downs, *put, *lefts]
+    # the text of a request goes down to the TCP after the connection is asked for, and waits there
+    text = [lefts[0], downs[-1]] if isinstance(cast, Trio) else []
+    return [opened, *downs, *put, *text, *lefts]
 
 
 def asked(opened: Open, *put: Record, cast: Cast | None = None) -> list[Record]:
@@ -186,9 +267,10 @@ def freed(k: int | Cast) -> list[Record]:
     return [event for number in cast_of(k).objects() for event in one_freed(number)]
 
 
-def closed_above(k: int | Cast, cause: Cause) -> list[Record]:
-    """The user closes the open from above."""
-    return cast_of(k).closed_above(cause)
+def closed_above(k: int | Cast, cause: Cause, *put: Record) -> list[Record]:
+    """The user closes the open from above; what a TCP says to the server stands in its entry."""
+    cast = cast_of(k)
+    return cast.closed_above(cause, *put) if isinstance(cast, Trio) else cast.closed_above(cause)
 
 
 def no_way(cast: Cast, cause: Cause) -> list[Record]:
@@ -210,6 +292,18 @@ def closed_below(k: int | Cast, cause: Cause) -> list[Record]:
 def given(pair: Pair) -> list[Record]:
     """Bytes of the file go up."""
     return [entered(pair.fetch, BELOW, Way.UP), left(pair.fetch, BELOW)]
+
+
+def fetch_moved(trio: Trio) -> list[Record]:
+    """A move goes up, at which the fetch closes its ports: the HTTP is through with it, and says no more."""
+    return [
+        closed(trio.fetch, ABOVE, OK),
+        closed(trio.fetch, BELOW, OK),
+        closed(trio.http, ABOVE, OK),
+        entered(trio.http, ABOVE, Way.CLOSE),
+        left(trio.http, ABOVE),
+        unplugged(trio.fetch, BELOW, trio.http, ABOVE),
+    ]
 
 
 def _call(k: int | Cast, slot: int, way: Way, within: list[Record], over: Cause | None) -> list[Record]:
@@ -263,11 +357,11 @@ def all_closed(number: int, cause: Cause) -> list[Record]:
     return [closed(number, slot, cause) for slot in (ABOVE, BELOW, THIRD, FOURTH)]
 
 
-def shut(k: int | Cast, cause: Cause = STOPPED) -> list[Record]:
+def shut(k: int | Cast, *put: Record, cause: Cause = STOPPED) -> list[Record]:
     """The run ends while the open lives: all ports are closed by rising number and slot, and all objects let go."""
     cast = cast_of(k)
     spare = [closed(number, slot, cause) for number in cast.objects() for slot in (THIRD, FOURTH)]
-    return [*closed_above(cast, cause), *spare, *freed(cast), Ended(cast.number, cause)]
+    return [*closed_above(cast, cause, *put), *spare, *freed(cast), Ended(cast.number, cause)]
 
 
 def shut_both(waiter: Waiter, cast: Cast, cause: Cause = STOPPED) -> list[Record]:

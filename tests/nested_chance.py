@@ -21,7 +21,7 @@ FETCHES, SELECTS, EXECUTES = ((b"imgfetch", b"initrd", b"module"), (b"imgselect"
 OTHERS = (b"echo x", b"foo", b"exit", b"exit 3", b"exit 0", b"goto a", b"goto b", b"goto none", b"iseq a b", b"iseq a a",
           b"", b"# c", b"imgstat", b"imgstat", b"imgstat x", b"boot", b"imgexec", b"chain --replace", b"imgfree",
           b"imgargs", b"imgargs --x", b"imgfree --x")  # fmt: skip
-FRONTS = (b"", b"", b"", b"/", b"../", b"./", b"d/", b"d/../", URI, URI + b"d/", b"http://10.0.0.1/", URI + b"../")
+FRONTS = (b"", b"", b"", b"/", b"../", b"./", b"d/", b"d/../", URI, URI + b"d/", b"https://10.0.0.1/", URI + b"../")
 WHOLE = (URI, URI, URI, URI + b"d/")
 
 

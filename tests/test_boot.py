@@ -122,7 +122,7 @@ class Programs(Launched):
         self.put("s.pcap", pcap_file(SILENT))
         for line, said in (
             ("boot.py hello.out", "hello.out is an output recording: show.py shows what it has"),
-            ("boot.py s.pcap", "s.pcap: it has no TFTP request, so --script must say what to run"),
+            ("boot.py s.pcap", "s.pcap: it has no request by TFTP or HTTP, so --script must say what to run"),
             ("boot.py none", "none: No such file or directory"),
             ("boot.py /dev/null", "/dev/null is no regular file"),
             ("show.py s.pcap", "s.pcap is a capture, and record.py makes a recording of it"),

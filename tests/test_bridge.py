@@ -12,6 +12,7 @@ import time
 import unittest
 from dataclasses import replace
 from ipaddress import IPv4Address
+from typing import Callable
 from unittest import mock
 
 from boot import is_built
@@ -27,7 +28,8 @@ from shared.messages import LeaseMessage, lease_message
 from shared.progress import Progress
 from shared.records import Command, Direction, Ended, Off, Received, Record, Result, Sent, Start
 from shared.records import Step, Tick, read_records
-from shared.wire import ARP, Opcode, arp_reply, padded, tftp_data, tftp_oack, udp_frame
+from shared.wire import ARP, PROTOCOL_TCP, Opcode, arp_reply, packet_frame, padded, segment, tftp_data, tftp_oack
+from shared.wire import udp_frame
 from shared.wire_dhcp import Asker, Kind, Tag, answer, to_client
 from tests import TOP, made
 from tests.asking_records import LEASED, LEASED_CLIENT, NETMASK, Lease, LookUp, Ping
@@ -200,7 +202,9 @@ class Bridged(unittest.TestCase):
         placed = read_records(io.BytesIO(self.input.getvalue()), Direction.INPUT)
         return [one.record for one in placed]
 
-    def with_client(self, answer: bytes, wants_off: bool = False, holds: float = 0.0) -> Session:
+    def with_client(
+        self, answer: bytes, wants_off: bool = False, holds: float = 0.0, loses: Callable[[], bool] = lambda: False
+    ) -> Session:
         """A session with a client that says this, reads on for a while, and leaves."""
 
         def act() -> None:
@@ -217,7 +221,7 @@ class Bridged(unittest.TestCase):
         thread = threading.Thread(target=act, daemon=True)
         thread.start()
         session = self.session()
-        session.wants_off = wants_off
+        session.wants_off, session.loses = wants_off, loses
         session.run(made.spelled([made.start(SCRIPT)]))
         thread.join(MOST_SECONDS)
         return session
@@ -240,6 +244,31 @@ class Bridged(unittest.TestCase):
         packets = list(read_capture(io.BytesIO(self.pcap.getvalue())))
         self.assertEqual(len(packets), 3)
         self.assertIsNone(session.status)
+
+    def test_a_joined_frame(self) -> None:
+        """Segments that were joined come one by one, and a datagram of that length doesn't."""
+        body = bytes(place % 251 for place in range(5_000))
+        text = segment(made.SERVER.ip, made.CLIENT.ip, (80, made.OWN_PORT), (1, 2), 0x18, 1_000, body)
+        joined = packet_frame(made.SERVER, made.CLIENT, PROTOCOL_TCP, text)
+        for frame in (joined, udp_frame(made.SERVER, made.CLIENT, (69, made.OWN_PORT), body)):
+            self.wire.outer.send(frame)
+        session = self.with_client(b"", holds=0.3)
+        frames = [one.frame for one in self.inputs() if isinstance(one, Received)]
+        self.assertEqual([len(frame) for frame in frames], [1_514, 1_514, 1_514, 674])
+        self.assertEqual(b"".join(frame[54:] for frame in frames), body)
+        counts = session.counts
+        self.assertEqual((counts.joined, counts.cut_into, counts.too_long, counts.received), (1, 4, 1, 4))
+
+    def test_loss(self) -> None:
+        for frame in (made.found().frame, made.found().frame):
+            self.wire.outer.send(frame)
+        chance = iter((True, True, False))
+        session = self.with_client(
+            made.spelled([Step(1), Sent(made.asked().frame)]), holds=0.6, loses=lambda: next(chance)
+        )
+        passed = sum(isinstance(one, Received) for one in self.inputs())
+        sent = session.counts.sent - (session.counts.lost - (2 - passed))
+        self.assertEqual((session.counts.lost, passed + sent), (2, 1))
 
     def test_off(self) -> None:
         self.with_client(b"", wants_off=True, holds=0.3)

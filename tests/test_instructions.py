@@ -16,7 +16,7 @@ from unittest.mock import patch
 from shared.command_line import Refused
 from instructions import Counted, costs_of, count, missing, total_of
 from boot import is_built
-from boots import write_transfer
+from boots import image, web_transfer, write_transfer
 from measure import build_loop, count_loop, measure_all, report_instructions
 from shared.records import Received, Record
 from tests import made
@@ -158,6 +158,18 @@ class Loop(Case):
         self.put("in.rec", records)
         subprocess.run([self.loop, "in.rec", "copied"], cwd=self.folder, check=True)
         return self.get("copied")
+
+    def test_what_the_c_loop_copies_of_a_stream(self) -> None:
+        """The body at its places, also where segments are swapped, come twice, or are wrong and come again."""
+        records = list(web_transfer(30_000))
+        wrong = flipped(records[9], 100)
+        for why, given in (
+            ("in order", records),
+            ("swapped", list(web_transfer(30_000, is_swapped=True))),
+            ("twice, and backwards", [*records[:4], *reversed(records[4:]), *records[4:]]),
+            ("a wrong byte", [*records[:9], wrong, *records[9:]]),
+        ):
+            self.assertEqual(self.copied(given), image(30_000), why)
 
     def test_what_the_c_loop_copies(self) -> None:
         first, last = made.from_server(tftp_data(1, FULL)), made.from_server(tftp_data(2, ODD))

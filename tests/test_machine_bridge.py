@@ -304,7 +304,7 @@ class MachineBridge(Spaced):
         self.assertEqual(len(came), 4 + 7 + 1)
         self.assertEqual({sums_of(frame) for frame in came[4:]}, {Sums.RIGHT})
         self.assertIn("1 were joined to over 1522 bytes and left out", printed[0])
-        self.assertIn("1 frame longer than 1,522 bytes were left out", printed[1])
+        self.assertIn("1 frame longer than 1,522 bytes, and no joined segments, were left out", printed[1])
 
     def received(self, name: str) -> list[bytes]:
         with (self.folder / name).open("rb") as stream:

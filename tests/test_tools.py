@@ -63,17 +63,39 @@ class Examples(Case):
     def test_the_boots_are_made_anew(self) -> None:
         (self.folder / "inner").mkdir()
         shutil.copy(EXAMPLES / "stations.py", self.folder / "inner")
-        for name in ("fallback", "chained", "settings", "dhcp", "lookup", "name-boot"):
+        for name in ("fallback", "chained", "settings", "dhcp", "lookup", "name-boot", "http-boot"):
             shutil.copy(EXAMPLES / f"{name}.ipxe", self.folder / "inner")
-        for name in ("tftp-boot", "fallback", "chained", "settings", "dhcp", "lookup", "name-boot"):
+        for name in ("tftp-boot", "fallback", "chained", "settings", "dhcp", "lookup", "name-boot", "http-boot"):
             maker = f"make_{name.replace('-', '_')}"
             shutil.copy(EXAMPLES / f"{maker}.py", self.folder / "inner")
             with self.start(f"inner/{maker}.py") as process:
                 self.assertEqual(process.communicate()[1], "")
         made_anew = sorted((self.folder / "inner").glob("*.rec"))
-        self.assertEqual(len(made_anew), 8)
+        self.assertEqual(len(made_anew), 9)
         for path in made_anew:
             self.assertEqual(path.read_bytes(), (EXAMPLES / path.name).read_bytes(), path.name)
+
+    def test_frames_of_the_http_boot(self) -> None:
+        """Each segment's frame is written out from the RFCs; the bytes at their places are the response."""
+        with (EXAMPLES / "http-boot.rec").open("rb") as stream:
+            records = [timed.record for timed in read_input(stream)]
+        frames = [record.frame for record in records if isinstance(record, Received)][1:]
+        streams: dict[bytes, dict[int, bytes]] = {}
+        for frame in frames:
+            total = int.from_bytes(frame[16:18], "big")
+            self.assertEqual(frame[:16].hex(), "52540000000152540000000208004500")
+            self.assertEqual((frame[20:24].hex(), frame[26:36].hex()), ("40004006", "0a0000010a0000020050"))
+            self.assertEqual(word_sum(frame[14:34]), 0xFFFF)
+            pseudo = frame[26:34] + b"\0\x06" + (total - 20).to_bytes(2, "big")
+            self.assertEqual(word_sum(pseudo + frame[34 : 14 + total]), 0xFFFF)
+            number, head = int.from_bytes(frame[38:42], "big"), (frame[46] >> 4) * 4
+            streams.setdefault(frame[36:38], {})[number] = frame[34 + head : 14 + total]
+        self.assertEqual([port.hex() for port in streams], ["c000", "c001"])
+        moved, whole = (b"".join(pieces[at] for at in sorted(pieces)) for pieces in streams.values())
+        self.assertEqual(moved, b"HTTP/1.1 302 Found\r\nLocation: /v2/k\r\nContent-Length: 0\r\n\r\n")
+        head, _, kernel = whole.partition(b"\r\n\r\n")
+        self.assertEqual(head, b"HTTP/1.1 200 OK\r\nContent-Length: 4000")
+        self.assertEqual((len(kernel), kernel[:4]), (4_000, b"\x7fELF"))
 
     def test_frames_of_the_tftp_boot(self) -> None:
         """Each block's frame is written out from the RFCs, its sums added up word by word."""

@@ -123,7 +123,6 @@ def refusals() -> dict[str, Row]:
     longest = b"a/" * 512 + b"f"
     return {
         "ftp": refused(b"ftp://h/f", NO_SCHEME),
-        "http": refused(b"http://10.0.0.1/f", NO_SCHEME),
         "https": refused(b"https://10.0.0.1/f", NO_SCHEME),
         "iscsi": refused(b"iscsi:10.0.0.1::::iqn.x:t", NO_SCHEME),
         "a_base_serves_no_other_scheme": refused(b"ftp://h/f", NO_SCHEME, BASE),

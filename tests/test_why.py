@@ -197,10 +197,10 @@ class LocalCommands(unittest.TestCase):
     def test_sentences_on_commands(self) -> None:
         for words, cause, said in (
             (b"imgmem", Cause(Code.UNKNOWN), "the command `imgmem` isn't built yet"),
-            (b"imgfetch http://10.0.0.1/f", Cause(Code.NO_SCHEME),
-             "http://10.0.0.1/f isn't fetched: only `tftp://HOST/PATH` is built yet"),
+            (b"imgfetch https://10.0.0.1/f", Cause(Code.NO_SCHEME),
+             "https://10.0.0.1/f isn't fetched: only `http://HOST/PATH` and `tftp://HOST/PATH` are"),
             (b"imgexec iscsi:10.0.0.1::::iqn.x:t", Cause(Code.NO_SCHEME),
-             "iscsi:10.0.0.1::::iqn.x:t isn't fetched: only `tftp://HOST/PATH` is built yet"),
+             "iscsi:10.0.0.1::::iqn.x:t isn't fetched: only `http://HOST/PATH` and `tftp://HOST/PATH` are"),
             (b"imgfetch tftp://a..b:70/f", Cause(Code.BAD_NAME),
              "a..b is no name of a host: a part between its dots is empty"),
             (b"imgexec tftp://u@srv/f", Cause(Code.BAD_NAME), "srv is no name of a host with `domain` after it"),
@@ -215,7 +215,7 @@ class LocalCommands(unittest.TestCase):
             (b"imgexec tftp://a|b:69/f:70", Cause(Code.BAD_URI),
              "tftp://a|b:69/f:70 is no URI that names a server, as `tftp://HOST/PATH` does"),
             (b"imgexec x/f", Cause(Code.BAD_URI),
-             "x/f is only the end of a URI, and it doesn't go with `next-server`; `tftp://HOST/PATH` is a whole "
+             "x/f is only the end of a URI, and it doesn't go with `next-server`; `http://HOST/PATH` is a whole "
              "one"),
             (b"imgfetch tftp://10.0.0.1/" + b"a" * 256, Cause(Code.TOO_LONG, 7), "the path of tftp://10.0.0.1/"
              + "a" * 256 + " has more than 1024 bytes, or its image's name more than 255"),
@@ -275,7 +275,7 @@ class LocalCommands(unittest.TestCase):
             (b"imgargs k a", Cause(Code.NO_IMAGE), "there is no image k"),
             (b"imgfree k i", Cause(Code.NO_IMAGE), "one of k, i is no image, and none is freed"),
             (b"initrd --name i i.img a", Cause(Code.BAD_URI), "i.img is only the end of a URI, and it doesn't go with "
-             "`next-server`; `tftp://HOST/PATH` is a whole one"),
+             "`next-server`; `http://HOST/PATH` is a whole one"),
             (b"imgfetch i", Cause(Code.TOO_MANY, 3), "there are 32 images, the most, and this is another"),
             (b"chain a", Cause(Code.TOO_MANY, 4), "eight scripts are within one another, the most, and this would be "
              "another"),

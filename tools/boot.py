@@ -26,7 +26,7 @@ from shared.replay_plan import Plan, Wishes, plan_of
 
 __all__ = ["BUILT", "CRATE", "is_built"]
 
-NO_REQUEST = "it has no TFTP request, so --script must say what to run"
+NO_REQUEST = "it has no request by TFTP or HTTP, so --script must say what to run"
 ENDED_WELL = (0, 3)
 STATUSES = {
     0: "an image was handed off",
@@ -50,7 +50,7 @@ the toolchain's `rt try` compiles them once, unproved; what it makes is kept in 
 XDG_CACHE_HOME/netboot or ~/.cache/netboot, until a source changes."""
 
 EPILOG = """\
-Of a capture the first file is fetched that a client asked for by TFTP, and the lease taken that it
+Of a capture the first file is fetched that a client asked for (by TFTP or HTTP), and the lease taken that it
 took before: what came before and between is left out, and the answers get the numbers, ports and
 checksums that this run needs, each of which is said. --static gives the client the lease's address
 without a lease, --script runs another script, and --from, --trim, --w or --port choose by hand.

@@ -4,6 +4,7 @@
 from __future__ import annotations
 
 import argparse
+import random
 import secrets
 import sys
 import tempfile
@@ -78,10 +79,20 @@ def parse(words: list[str]) -> argparse.Namespace:
     parser.add_argument("--output", type=Path, metavar="FILE", help="keep the output recording")
     parser.add_argument("--pcap", type=Path, metavar="FILE", help="keep the frames of the wire")
     parser.add_argument("--quiet", action="store_true", help="no line for each command and fetch")
+    parser.add_argument(
+        "--lose", type=percent, default=0.0, metavar="PERCENT", help="lose so many frames by chance, each way"
+    )
     record.add_addresses(parser)
     record.add_machine(parser)
     parser.set_defaults(key=None, uuid=None)
     return parser.parse_args(words)
+
+
+def percent(text: str) -> float:
+    value = float(text)
+    if not 0 <= value <= 100:
+        raise argparse.ArgumentTypeError(f"{text} is not 0 to 100")
+    return value
 
 
 def draw(arguments: argparse.Namespace) -> None:
@@ -148,9 +159,13 @@ def close(file: NamedFile, wanted: Path | None) -> None:
 
 
 def lost(counts: Counts) -> Iterator[str]:
+    if counts.joined:
+        yield (f"{count(counts.joined, 'frame')} that the card or the other end had joined "
+               f"{'was' if counts.joined == 1 else 'were'} cut into {counts.cut_into}")
     if counts.too_long:
-        yield (f"{count(counts.too_long, 'frame')} longer than 1,522 bytes were left out: "
-               "`ethtool -K NAME gro off` keeps an interface from joining frames")
+        yield f"{count(counts.too_long, 'frame')} longer than 1,522 bytes, and no joined segments, were left out"
+    if counts.lost:
+        yield f"{count(counts.lost, 'frame')} {'was' if counts.lost == 1 else 'were'} lost by chance, as --lose asks"
     if counts.not_taken:
         yield f"{count(counts.not_taken, 'frame')} came faster than the client took them, and were lost"
     if counts.not_sent:
@@ -220,7 +235,9 @@ def bridge(words: list[str]) -> int:
         kept, input_path, output_path = kept_in(stack, arguments, spare)
         connection, own = stack.enter_context(client_of(listener, found, say))
         progress = Progress(is_quiet=arguments.quiet)
-        session = Session(connection, device, client.mac, kept, progress.take, progress.note)
+        share, chance = arguments.lose / 100, random.Random()
+        loses = (lambda: chance.random() < share) if share else (lambda: False)
+        session = Session(connection, device, client.mac, kept, progress.take, progress.note, loses)
         play(session, start, arguments.script, own)
         progress.end()
         kept.input.flush()

@@ -9,7 +9,7 @@ import signal
 import subprocess
 import sys
 import tempfile
-from contextlib import contextmanager
+from contextlib import contextmanager, nullcontext
 from dataclasses import dataclass
 from ipaddress import IPv4Address, IPv4Network
 from pathlib import Path
@@ -26,6 +26,7 @@ from shared.parts import write_parts
 from shared.program import not_runnable, program
 from shared.recordings import output_of
 from shared.servers import Leases, Names, Service, Tftp, dnsmasq
+from shared.web_server import usual, web_server
 
 SKIPPED = 77
 MOST_SECONDS = 600
@@ -40,9 +41,10 @@ DESCRIPTION = """\
 Makes two network namespaces with a wire between them, starts dnsmasq as a server in one, and boots
 over the wire from the other, in several ways: from an address that is given; by a lease, which says
 what to boot from where; from a server whose name is looked up; and by a script that is fetched and
-boots a kernel with an initrd. bridge.py leads the built program there, which runs a script for
-each. What it hands off is compared with what was served, and the run that was recorded is replayed
-and compared byte for byte. Then all of it is taken away.
+boots a kernel with an initrd, by TFTP and by HTTP (from nginx, where it is there, or from Python's
+server). bridge.py leads the built program there, which runs a script for each. What it hands off is
+compared with what was served, and the run that was recorded is replayed and compared byte for byte.
+Then all of it is taken away.
 
 It needs root, iproute2, dnsmasq, and the built program or the toolchain's `rt`. Where one isn't
 there it says so and ends with 77. It ends with 0 where all that passed, with 1 where something
@@ -150,13 +152,14 @@ def compare_replay(booted: Boot) -> None:
 
 @dataclass(frozen=True, slots=True)
 class Way:
-    """A way to boot: the script's commands, the client's address by START, the services beside TFTP, and the script
-    that is chained, which has an initrd beside it."""
+    """A way to boot: the script's commands, the client's address by START, the services beside TFTP, the script
+    that is chained, which has an initrd beside it, and whether a web server serves the files too."""
 
     commands: tuple[str, ...]
     ip: str | None = None
     services: tuple[Service, ...] = ()
     chained: bytes | None = None
+    is_web: bool = False
 
 
 NET = IPv4Network(f"{SERVER_ADDRESS}/{PREFIX}", strict=False)
@@ -166,7 +169,7 @@ NAMES = Names("boot.test", SERVER)
 
 CHAINED = f"#!ipxe\nkernel {FILE} console=ttyS0\ninitrd {INITRD}\nboot\n".encode()
 
-# What is booted over; HTTP joins here.
+# What is booted over.
 WAYS = {
     "TFTP": Way((f"imgexec tftp://{SERVER_ADDRESS}/{FILE}",), f"{CLIENT_ADDRESS}/{PREFIX}"),
     "DHCP": Way(("dhcp", "imgexec tftp://${next-server}/${filename}"), None, (LEASES,)),
@@ -182,6 +185,9 @@ WAYS = {
         (LEASES, NAMES),
     ),
     "script": Way((f"chain tftp://{SERVER_ADDRESS}/{SCRIPT}",), f"{CLIENT_ADDRESS}/{PREFIX}", chained=CHAINED),
+    "HTTP": Way(
+        (f"chain http://{SERVER_ADDRESS}/{SCRIPT}",), f"{CLIENT_ADDRESS}/{PREFIX}", chained=CHAINED, is_web=True
+    ),
 }
 
 
@@ -195,7 +201,8 @@ def boot_by(name: str, joined: Network, folder: Path, kernel: bytes, numbers: li
         with naming(root / file):
             (root / file).write_bytes(content)
     booted = Boot(joined, folder, numbers)
-    with dnsmasq(joined, Tftp(root), *way.services):
+    web = web_server(joined, root, usual()) if way.is_web else nullcontext()
+    with dnsmasq(joined, Tftp(root), *way.services), web:
         status = booted.run("\n".join(("#!ipxe", *way.commands, "")), way.ip)
     if status == Status.UNFINISHED:
         raise SwitchedOff

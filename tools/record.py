@@ -29,6 +29,7 @@ from shared.boot_capture import (
 from shared.capture import NANOSECONDS
 from shared.command_line import STANDARD, Refused, opened, run
 from shared.output import report, writing
+from shared.random_words import words_of
 from shared.replay_plan import Addresses, Plan
 from shared.records import MAX_TICK, Start, Tick, spell
 from shared.texts import count, mac
@@ -54,7 +55,8 @@ counted in whole milliseconds from the capture's first packet to its last, or as
 and --until say; a frame stamped earlier than one before it comes right after that one. A pause
 longer than --tick becomes several TICKs, because a timer fires once in a TICK.
 
---mac, --ip and --w that are not given are taken from the capture's first TFTP request, and said.
+--mac, --ip and --w that are not given are taken from the capture's first request by TFTP or HTTP,
+and said. Frames that a card has joined are cut into segments.
 
 examples:
   tools/record.py examples/hello.ipxe hello.rec
@@ -137,7 +139,7 @@ def found(arguments: argparse.Namespace, request: Request, client: Client) -> st
         parts.append(f"--ip {client.ip}")
     if arguments.w is None and arguments.port is None and client.w:
         parts.append(f"--w {client.w} (port {request.port})")
-    return f"taken from the capture's first TFTP request: {', '.join(parts)}" if parts else ""
+    return f"taken from the capture's first {request.protocol} request: {', '.join(parts)}" if parts else ""
 
 
 def given_addresses(arguments: argparse.Namespace) -> Addresses | None:
@@ -244,7 +246,7 @@ def add_capture(parser: argparse.ArgumentParser) -> None:
     parser.add_argument(
         "--map-ports",
         action="store_true",
-        help="lead answers to the capture's n-th TFTP request to the own port of open n",
+        help="lead answers to the capture's n-th request, by TFTP or HTTP, to open n",
     )
 
 
@@ -288,11 +290,14 @@ def parse(words: list[str]) -> argparse.Namespace:
     return parser.parse_args(words)
 
 
-def taken_of(arguments: argparse.Namespace, client: Client, plan: Plan | None) -> Taken:
+def taken_of(arguments: argparse.Namespace, client: Client, plan: Plan | None, script: bytes) -> Taken:
     before = plan.opens_before() if plan else 0
 
     def own_port(number: int) -> int:
         return FIRST_OWN_PORT + (client.w + before + number) % OWN_PORTS
+
+    def own_number(number: int) -> int:
+        return words_of(arguments.key, before + number)[0]
 
     return Taken(
         device=client.mac,
@@ -303,6 +308,8 @@ def taken_of(arguments: argparse.Namespace, client: Client, plan: Plan | None) -
         skips=arguments.skip,
         fills=arguments.fix_checksums,
         own_port=own_port if arguments.map_ports else None,
+        own_number=own_number,
+        script=script,
         spans=plan.spans() if plan else (),
         first=plan.answer() if plan else None,
         lease=plan.replayed(arguments.key) if plan else None,
@@ -344,7 +351,7 @@ def write_with(
     if client.ip != addresses.UNSET or request:
         reader.known[request.ip if plan and request else client.ip.packed] = client.mac
     start = start_of(arguments, client, script)
-    conversion = Conversion(reader, taken_of(arguments, client, plan))
+    conversion = Conversion(reader, taken_of(arguments, client, plan, script))
     with writing(arguments.recording) as stream:
         write_records(start, conversion, stream)
     for line in warnings(conversion, client.w):
@@ -374,6 +381,10 @@ def summary(conversion: Conversion) -> str:
         parts.append(f"checksums of {count(met.unfilled, 'frame')} filled in")
     if conversion.taken.own_port and met.readdressed:
         parts.append(f"ports of {count(met.readdressed, 'frame')} changed")
+    if conversion.taken.own_port and met.acknowledged:
+        parts.append(f"ports and numbers of {count(met.acknowledged, 'segment')} changed")
+    if met.joined:
+        parts.append(f"{count(met.joined, 'joined frame')} cut into {met.cut_into}")
     return ", ".join(parts)
 
 

@@ -14,8 +14,8 @@ COMMANDS = 'docs/SCRIPTS.md, "Commands"'
 FILES = 'docs/SCRIPTS.md, "Files"'
 SETTINGS = 'docs/SCRIPTS.md, "Settings"'
 OF_TEXT = {
-    Code.BAD_URI: f"write it as `tftp://HOST/PATH` ({FILES})",
-    Code.NO_SCHEME: f"serve the file by TFTP, and write it as `tftp://HOST/PATH` ({FILES})",
+    Code.BAD_URI: f"write it as `http://HOST/PATH` or `tftp://HOST/PATH` ({FILES})",
+    Code.NO_SCHEME: f"serve the file by HTTP or TFTP, and write it as `http://HOST/PATH` or `tftp://HOST/PATH` ({FILES})",
     Code.BAD_VALUE: f"mend the value ({SETTINGS})",
     Code.NO_LABEL: "add that line, or mend the name",
     Code.NOT_BOOTABLE: "name a script or a kernel there",

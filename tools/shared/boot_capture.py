@@ -15,12 +15,14 @@ from pathlib import Path
 from typing import BinaryIO, Callable, Iterator, NamedTuple
 
 from shared.capture import NANOSECONDS, Packet, read_capture
-from shared.checksums import Sums, filled, readdressed, renumbered, sums_of
+from shared.captured_web import ACK, Connections, Segment, host_of, length_asked, segment_of
+from shared.checksums import Sums, filled, led_to, readdressed, renumbered, sums_of
 from shared.command_line import STANDARD, Refused, opened, read_stream
-from shared.conversations import Request, request_of
+from shared.conversations import Request, Requests, request_of
 from shared.cooked import Receivers
 from shared.fields import CutOff
 from shared.frames import ends_of, packet_of
+from shared.joined import cut
 from shared.records import MAX_FRAME, MIN_FRAME, Received, Record, Tick
 from shared.texts import count, mac
 from shared.leases import lease_message_in
@@ -77,9 +79,10 @@ class Reader:
 
 
 def first_request(reader: Reader, device: bytes | None) -> Request | None:
-    """The first read request in a capture, of this device where one is given."""
+    """The first request in a capture, of this device where one is given."""
+    requests = Requests()
     for packet in reader.packets():
-        request = request_of(packet)
+        request = requests.of(packet)
         if request and device in (None, request.mac):
             return request
     return None
@@ -104,7 +107,8 @@ class LeaseReplayed:
 class Taken:
     """Which part of a capture is taken, for which device, and how.
 
-    Where there are spans, time goes on from the end of one at the beginning of the next, where `first` is received.
+    Where there are spans, time goes on from the end of one at the beginning of the next, where `first` is received. Where
+    answers are led to the run's opens, these have ports, first numbers by TCP, and the hosts that the script names.
     """
 
     device: bytes
@@ -115,6 +119,8 @@ class Taken:
     skips: bool = False
     fills: bool = False
     own_port: Callable[[int], int] | None = None
+    own_number: Callable[[int], int] = lambda _: 0
+    script: bytes = b""
     spans: tuple[Span, ...] = ()
     first: bytes | None = None
     lease: LeaseReplayed | None = None
@@ -131,6 +137,11 @@ class Met:
     unfilled: int = 0
     wrong: int = 0
     readdressed: int = 0
+    acknowledged: int = 0
+    connections: int = 0
+    asked_again: int = 0
+    joined: int = 0
+    cut_into: int = 0
     renumbered: int = 0
     outside: int = 0
     offers_left_out: int = 0
@@ -146,6 +157,7 @@ class Conversion:
         self.reader = reader
         self.taken = taken
         self.met = Met()
+        self.connections = Connections()
         self.zero: int | None = None
         self.now = 0
 
@@ -162,8 +174,7 @@ class Conversion:
                 break
             self._check_time(packet, time)
             last = max(last, time)
-            frame = self._received(packet)
-            if frame is not None:
+            for frame in self._received(packet):
                 self.met.taken += 1
                 yield from self.ticks(time)
                 yield Received(frame)
@@ -214,22 +225,31 @@ class Conversion:
     def _is_of_device(self, frame: bytes) -> bool:
         return self.taken.device in (frame[:6], frame[6:12])
 
-    def _received(self, packet: Packet) -> bytes | None:
-        """The frame, where the device receives it and a FRAME record holds it."""
+    def _received(self, packet: Packet) -> list[bytes]:
+        """The frame, where the device receives it and a FRAME record holds it; of a joined one the segments."""
         frame = packet.frame
         if len(frame) < MIN_FRAME:
             return self._skipped(packet)
         if frame[6:12] == self.taken.device:
             self._note_sent(packet)
-            return None
+            return []
         if frame[:6] != self.taken.device and not frame[0] & GROUP_BIT:
             if len(self.met.others) < MOST_COUNTED or frame[:6] in self.met.others:
                 self.met.others[frame[:6]] += 1
-            return None
-        if packet.length != len(frame) or len(frame) > MAX_FRAME:
+            return []
+        if packet.length != len(frame):
             return self._skipped(packet)
-        leased = self._of_lease(self._checked(frame))
-        return self._readdressed(leased) if leased else None
+        pieces = [frame] if len(frame) <= MAX_FRAME else self._cut(frame)
+        if not pieces:
+            return self._skipped(packet)
+        found = (self._of_lease(self._checked(piece)) for piece in pieces)
+        return [self._led(one) for one in found if one]
+
+    def _cut(self, frame: bytes) -> list[bytes]:
+        pieces = cut(frame)
+        self.met.joined += bool(pieces)
+        self.met.cut_into += len(pieces)
+        return pieces
 
     def _of_lease(self, frame: bytes) -> bytes | None:
         """The frame, with the run's number where it answers for the lease; None where another server's does."""
@@ -245,16 +265,32 @@ class Conversion:
         return renumbered(frame, self.taken.lease.number)
 
     def _note_sent(self, packet: Packet) -> None:
-        request = request_of(packet)
-        if request and request.port not in self.met.ports:
-            self.met.ports[request.port] = len(self.met.ports)
+        segment = segment_of(packet.frame)
+        if segment is None:
+            request = request_of(packet)
+            self._note_asked(packet, request.port if request else None)
+            return
+        self.connections.sends(segment, packet.time)
+        self.met.asked_again += segment.body.startswith(b"GET ") and self._requests_on(segment) > 1
+        if segment.begins and not segment.flags & ACK:
+            self.met.connections += segment.ends.source_port not in self.met.ports
+            self._note_asked(packet, segment.ends.source_port)
+
+    def _requests_on(self, segment: Segment) -> int:
+        connection = self.connections.known.get(segment.ends)
+        return connection.requests if connection else 0
+
+    def _note_asked(self, packet: Packet, port: int | None) -> None:
+        """From this port the device asks, for the first time or again."""
+        if port is not None and port not in self.met.ports:
+            self.met.ports[port] = len(self.met.ports)
             if len(self.met.ports) == 1 and not self.taken.spans:
                 self.met.began_late = (packet.time - (self.zero or 0)) // MILLISECOND
 
-    def _skipped(self, packet: Packet) -> None:
+    def _skipped(self, packet: Packet) -> list[bytes]:
         if self.taken.skips:
             self.met.skipped += 1
-            return
+            return []
         kept = len(packet.frame)
         what = f"has {kept} bytes, not {MIN_FRAME} to {MAX_FRAME}"
         if packet.length != kept:
@@ -271,17 +307,36 @@ class Conversion:
         self.met.unfilled += 1
         return filled(frame) if self.taken.fills else frame
 
-    def _readdressed(self, frame: bytes) -> bytes:
+    def _led(self, frame: bytes) -> bytes:
+        """The frame, led to the run's open where it answers one of the capture's."""
         if self.taken.own_port is None:
             return frame
         packet = packet_of(frame)
-        if packet is None or packet.protocol != PROTOCOL_UDP or packet.is_fragment:
+        number = self.met.ports.get(ends_of(packet).target_port) if packet and not packet.is_fragment else None
+        if packet is None or number is None:
             return frame
-        number = self.met.ports.get(ends_of(packet).target_port)
-        if number is None:
+        segment = segment_of(frame)
+        if segment is not None:
+            return self._acknowledging(frame, segment, number)
+        if packet.protocol != PROTOCOL_UDP:
             return frame
         self.met.readdressed += 1
         return readdressed(frame, self.taken.own_port(number))
+
+    def _acknowledging(self, frame: bytes, segment: Segment, number: int) -> bytes:
+        """A segment, led to the run's connection: it acknowledges what that one sends."""
+        connection = self.connections.answered(segment)
+        if connection is None or self.taken.own_port is None:
+            return frame
+        length = 0
+        if connection.asked:
+            host = connection.asked.host
+            is_named = host != b"" and b"//" + host in self.taken.script
+            by_address = host_of(segment.ends.source, segment.ends.source_port)
+            length = length_asked(connection.asked, host if is_named else by_address)
+        self.met.acknowledged += 1
+        acknowledged = connection.acknowledged(segment.acknowledged, self.taken.own_number(number), length)
+        return led_to(frame, self.taken.own_port(number), acknowledged)
 
 
 def warnings(conversion: Conversion, w: int) -> Iterator[str]:
@@ -301,6 +356,11 @@ def warnings(conversion: Conversion, w: int) -> Iterator[str]:
     if met.wrong:
         of_all = f"{met.wrong} of {count(met.taken, 'frame')}"
         yield f"{of_all} have wrong checksums, and the client drops them"
+    if met.asked_again:
+        yield (
+            f"the capture's client asked {count(met.asked_again, 'time')} more on a connection that it had, and the run "
+            "begins one for each file: what answers those isn't taken for it"
+        )
     if taken.own_port is None:
         yield from _ports(met, w)
     if met.began_late >= 1_000 and not taken.is_trimmed and taken.begin is None:
@@ -317,6 +377,12 @@ def _nothing(met: Met, device: bytes) -> str:
 
 
 def _ports(met: Met, w: int) -> Iterator[str]:
+    if met.connections:
+        yield (
+            "the run's connections have other first numbers than the capture's, so what comes on those isn't taken: "
+            "--map-ports leads it to them"
+        )
+        return
     wanted = [FIRST_OWN_PORT + (w + number) % OWN_PORTS for number in range(len(met.ports))]
     if list(met.ports) != wanted:
         asked = ", ".join(map(str, list(met.ports)[:4])) + (", .." if len(met.ports) > 4 else "")

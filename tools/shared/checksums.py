@@ -18,6 +18,8 @@ HEADER_SUM = 10
 UDP_HEADER = 8
 # where a DHCP message has its transaction number (RFC 2131, section 2)
 NUMBER_PLACE = 4
+# where a segment has what it acknowledges (RFC 9293, section 3.1)
+ACKNOWLEDGED_PLACE = 8
 SUM_PLACES = {PROTOCOL_UDP: 6, PROTOCOL_TCP: 16}
 MORE_FRAGMENTS_AND_OFFSET = 0x3FFF
 
@@ -119,13 +121,17 @@ def renumbered(frame: bytes, number: int) -> bytes:
     return _changed(frame, UDP_HEADER + NUMBER_PLACE, number.to_bytes(4, "big"))
 
 
+def led_to(frame: bytes, port: int, acknowledged: int) -> bytes:
+    """The segment's frame with another receiving port and acknowledgement; a wrong checksum stays wrong."""
+    return _changed(_changed(frame, 2, port.to_bytes(2, "big")), ACKNOWLEDGED_PLACE, acknowledged.to_bytes(4, "big"))
+
+
 def _changed(frame: bytes, place: int, value: bytes) -> bytes:
-    """The datagram's frame with another value at a place of the datagram."""
+    """The frame with another value at a place of its datagram or segment."""
     places = _places(frame)
     if places is None or places.sum_place is None:
         return frame
     sums, at = _body_sums(frame, places), places.body.start + place
     changed = frame[:at] + value + frame[at + len(value) :]
-    if sums is not Sums.RIGHT or _number(frame, places.sum_place) == 0:
-        return changed
-    return filled(changed)
+    has_none = frame[ETHERNET + 9] == PROTOCOL_UDP and _number(frame, places.sum_place) == 0
+    return changed if sums is not Sums.RIGHT or has_none else filled(changed)

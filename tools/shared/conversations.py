@@ -1,4 +1,4 @@
-"""What a capture shows of clients that boot: the leases that each took, and the files that each asked for by TFTP."""
+"""What a capture shows of clients that boot: the leases that each took, and the files that each asked for, by TFTP or HTTP."""
 
 from __future__ import annotations
 
@@ -7,10 +7,11 @@ from ipaddress import IPv4Address
 from typing import Iterable
 
 from shared.capture import Packet
+from shared.captured_web import Connections, segment_of
 from shared.frames import ends_of, packet_of
 from shared.leases import UNSET
 from shared.messages import LeaseMessage, lease_message
-from shared.wire import ARP, PROTOCOL_UDP, Opcode
+from shared.wire import ARP, PROTOCOL_TCP, PROTOCOL_UDP, Opcode
 from shared.wire_dhcp import CLIENT_PORT, SERVER_PORT, Kind, Operation, Tag
 
 TFTP_PORT = 69
@@ -22,9 +23,9 @@ MOST_CLIENTS, MOST_KEPT = 256, 64
 
 @dataclass(frozen=True, slots=True)
 class Request:
-    """A read request by TFTP in a capture: its time, its client, its server and its path.
+    """A request in a capture, by TFTP or HTTP: its time, its client, its server and its path.
 
-    `to` is the hardware address that it goes to, the server's or a gateway's.
+    `to` is the hardware address that it goes to, the server's or a gateway's. One by HTTP begins with its connection.
     """
 
     time: int
@@ -34,6 +35,13 @@ class Request:
     port: int
     server: bytes
     path: bytes
+    # the server's port by HTTP, and the host as the request names it
+    web_port: int | None = None
+    host: bytes = b""
+
+    @property
+    def protocol(self) -> str:
+        return "TFTP" if self.web_port is None else "HTTP"
 
 
 @dataclass(slots=True)
@@ -105,11 +113,31 @@ def _is_offer_of(one: Sighting, ack: Sighting) -> bool:
     return is_before and one.server == ack.server and given == ack.message.given and given != UNSET
 
 
+class Requests:
+    """Finds the requests among packets, in their order."""
+
+    def __init__(self) -> None:
+        self.connections = Connections()
+
+    def of(self, packet: Packet) -> Request | None:
+        """The request that a packet carries, or by which one is whole."""
+        segment = segment_of(packet.frame)
+        if segment is None:
+            return request_of(packet)
+        connection = self.connections.sends(segment, packet.time)
+        if connection is None or connection.asked is None:
+            return None
+        ends, asked = segment.ends, connection.asked
+        between = (packet.frame[6:12], packet.frame[:6], ends.source.packed, ends.source_port, ends.target.packed)
+        return Request(connection.time, *between, asked.path, ends.target_port, asked.host)
+
+
 class Conversations:
     """The clients of a capture, by their hardware addresses, in the order in which they were seen."""
 
     def __init__(self, packets: Iterable[Packet]) -> None:
         self.clients: dict[bytes, Client] = {}
+        self._requests = Requests()
         self._ports: dict[tuple[bytes, int], Transfer] = {}
         for packet in packets:
             self._take(packet)
@@ -132,15 +160,21 @@ class Conversations:
             if len(hosts) < MOST_KEPT:
                 hosts[frame[28:32]] = frame
             return
-        found = packet_of(frame)
-        if found is None or found.protocol != PROTOCOL_UDP or found.is_fragment:
-            return
-        ends, body = ends_of(found), found.body[UDP_HEADER:]
-        if {ends.source_port, ends.target_port} == {SERVER_PORT, CLIENT_PORT}:
-            self._take_of_lease(packet, body)
-        request = request_of(packet)
+        request = self._requests.of(packet)
         if request:
             self._ask(request)
+            return
+        found = packet_of(frame)
+        if found is None or found.is_fragment or found.protocol not in (PROTOCOL_UDP, PROTOCOL_TCP):
+            return
+        ends = ends_of(found)
+        if found.protocol == PROTOCOL_TCP:
+            if b"HTTP/1." in found.body[20:100]:
+                self._count(found.target.packed, ends.target_port, frame)
+            return
+        body = found.body[UDP_HEADER:]
+        if {ends.source_port, ends.target_port} == {SERVER_PORT, CLIENT_PORT}:
+            self._take_of_lease(packet, body)
         elif body[:2] == Opcode.DATA.to_bytes(2, "big"):
             self._count(found.target.packed, ends.target_port, frame)
 
@@ -167,7 +201,7 @@ class Conversations:
 
 
 def request_of(packet: Packet) -> Request | None:
-    """The read request that a packet carries, if it carries one."""
+    """The read request by TFTP that a packet carries, if it carries one."""
     found = packet_of(packet.frame)
     if found is None or found.protocol != PROTOCOL_UDP or found.is_fragment:
         return None

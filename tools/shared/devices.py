@@ -20,8 +20,8 @@ from shared import checksums
 from shared.command_line import Refused
 
 ALL_PROTOCOLS = 3
-# more than a frame can have, so that one that is too long is seen to be
-MOST_BYTES = 2048
+# an IPv4 packet with its Ethernet header: frames that were joined may have so many
+MOST_BYTES = 14 + 65_535
 NAME_BYTES = 15
 # linux/if_packet.h
 OUTGOING = 4

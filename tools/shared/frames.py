@@ -204,6 +204,20 @@ def datagram_in(frame: bytes) -> bytes | None:
     return datagram_of(packet) if packet and is_udp else None
 
 
+def is_syn(packet: Packet) -> bool:
+    """Whether it is a TCP segment that asks for a connection (RFC 9293)."""
+    return _has_flag(packet, 0x02)
+
+
+def is_fin(packet: Packet) -> bool:
+    """Whether it is one with which its sender's stream ends."""
+    return _has_flag(packet, 0x01)
+
+
+def _has_flag(packet: Packet, flag: int) -> bool:
+    return packet.protocol == PROTOCOL_TCP and len(packet.body) >= 20 and bool(packet.body[13] & flag)
+
+
 def asked_address(frame: bytes) -> IPv4Address | None:
     """The address whose hardware address an ARP request asks for."""
     is_arp = int.from_bytes(frame[12:14], "big") == ARP and len(frame) >= 42

@@ -7,15 +7,17 @@ from abc import ABC, abstractmethod
 from ipaddress import IPv4Address
 
 from shared.frames import ECHO_REPLY, ECHO_REQUEST, Ends, Packet
-from shared.frames import datagram_of, ends_of, icmp_name, is_message_sound, packet_of
+from shared.frames import datagram_of, ends_of, icmp_name, is_message_sound, is_syn, packet_of
 from shared.kinds import OpenKind
 from shared.messages import LeaseMessage, lease_message, name_message
 from shared.records import Open
 from shared.texts import mac, word
-from shared.wire import PROTOCOL_ICMP, PROTOCOL_UDP, Opcode
+from shared.wire import PROTOCOL_ICMP, PROTOCOL_TCP, PROTOCOL_UDP, Opcode, pseudo_header, sum16
 from shared.wire_dhcp import SERVER_PORT, Kind, Operation, Tag
 
 ALL_HOSTS = IPv4Address("255.255.255.255")
+# of a segment's flags the one with which it acknowledges
+ACK = 0x10
 # what stands in a reason where the like came before, and counted
 AGAIN, ALREADY = " again", " already"
 ECHO_ANSWERED = "an echo request, which was answered"
@@ -190,6 +192,48 @@ class OfLookUp(OfDatagrams):
         return "a DNS answer that isn't well-formed: its records, or a name in them"
 
 
+class OfConnection(Judge):
+    """Of a connection by TCP: a segment that counts is one of the server's port that was asked (RFC 9293)."""
+
+    def reason(self, packet: Packet) -> str | None:
+        if packet.target != self.client:
+            return f"to the address {packet.target}, which isn't the client's, {self.client}"
+        if packet.is_fragment:
+            return "a fragment of an IPv4 packet"
+        if packet.protocol == PROTOCOL_ICMP and len(packet.body) >= 8:
+            return f"ICMP from {packet.source}, {icmp_name(packet.body)}, which is no answer"
+        if packet.protocol != PROTOCOL_TCP:
+            return f"IPv4 protocol {packet.protocol}, which isn't TCP"
+        if not is_segment_sound(packet):
+            return f"TCP from {packet.source} with a wrong checksum or length"
+        ends = ends_of(packet)
+        if ends.target_port != self.opened.own:
+            return f"to port {ends.target_port}, and the connection's port is {self.opened.own}"
+        if packet.source != self.opened.server:
+            return f"from {packet.source}, and the connection is with {self.opened.server}"
+        if ends.source_port != self.opened.port:
+            return f"from port {ends.source_port}, and the connection is with port {self.opened.port}"
+        return self._of_syn(packet)
+
+    def _of_syn(self, packet: Packet) -> str | None:
+        """Why a segment isn't the answer to our SYN, where that was sent last."""
+        asked = packet_of(self.asked[-1]) if self.asked else None
+        if asked is None or not is_syn(asked):
+            return None
+        ours, flags = int.from_bytes(asked.body[4:8], "big"), packet.body[13]
+        if not flags & ACK or int.from_bytes(packet.body[8:12], "big") != (ours + 1) & 0xFFFF_FFFF:
+            return "a segment that doesn't acknowledge the client's SYN"
+        return None if is_syn(packet) else "a segment without SYN, and the server's SYN was waited for"
+
+
+def is_segment_sound(packet: Packet) -> bool:
+    """Whether a TCP segment's checksum and header length are right."""
+    body = packet.body
+    head = (body[12] >> 4) * 4 if len(body) >= 20 else 0
+    pseudo = pseudo_header(packet.source, packet.target, PROTOCOL_TCP, len(body))
+    return 20 <= head <= len(body) and sum16(pseudo + body) == 0xFFFF
+
+
 class OfPing(Judge):
     """Of a ping: a reply that counts ends it, and so doesn't come here."""
 
@@ -218,10 +262,11 @@ JUDGES: dict[OpenKind, type[Judge]] = {
     OpenKind.DHCP: OfLease,
     OpenKind.DNS: OfLookUp,
     OpenKind.PING: OfPing,
+    OpenKind.HTTP: OfConnection,
 }
 
 
 def judge_of(client: IPv4Address, opened: Open, asked: list[bytes]) -> Judge | None:
-    """Of an open whose answers are judged here; those of a stream aren't yet."""
+    """Of an open whose answers are judged here; those of a drive aren't yet."""
     kind = JUDGES.get(opened.kind)
     return kind(client, opened, asked) if kind else None

@@ -17,6 +17,7 @@ from shared.capture import PcapWriter
 from shared.command_line import Refused
 from shared.devices import Device, silence
 from shared.fields import Damaged
+from shared.joined import cut
 from shared.kinds import Status
 from shared.records import (
     KINDS,
@@ -81,9 +82,12 @@ class Counts:
 
     received: int = 0
     sent: int = 0
+    joined: int = 0
+    cut_into: int = 0
     too_long: int = 0
     not_taken: int = 0
     not_sent: int = 0
+    lost: int = 0
 
 
 class Written(Protocol):
@@ -146,7 +150,8 @@ def quick(client: socket.socket) -> None:
 class Session:
     """A client that is connected, and the device that it is led to.
 
-    What comes is passed on first, and written down and shown afterwards, while the other side works.
+    What comes is passed on first, and written down and shown afterwards, while the other side works. Where `loses` says so
+    a frame is lost, either way, as on a bad network.
     """
 
     client: socket.socket
@@ -155,6 +160,7 @@ class Session:
     kept: Kept
     take: Callable[[int, Record], None]
     say: Callable[[str], None]
+    loses: Callable[[], bool] = lambda: False
     counts: Counts = field(default_factory=Counts)
     status: Status | None = None
     is_off: bool = False
@@ -251,12 +257,25 @@ class Session:
             return
         if frame[12:14] in SPOKEN:
             self.silent_from = self.now
-        if not MIN_FRAME <= len(frame) <= MAX_FRAME:
+        for piece in self._pieces(frame):
+            if self.loses():
+                self.counts.lost += 1
+            elif len(self.waiting) > MOST_WAITING:
+                self.counts.not_taken += 1
+            elif self.status is None and not self.is_off:
+                self._put_frame(piece)
+
+    def _pieces(self, frame: bytes) -> list[bytes]:
+        """The frame, or the segments of one that was joined; none where no record holds it."""
+        if MIN_FRAME <= len(frame) <= MAX_FRAME:
+            return [frame]
+        pieces = cut(frame)
+        if not pieces:
             self.counts.too_long += 1
-        elif len(self.waiting) > MOST_WAITING:
-            self.counts.not_taken += 1
-        elif self.status is None and not self.is_off:
-            self._put_frame(frame)
+            return []
+        self.counts.joined += 1
+        self.counts.cut_into += len(pieces)
+        return pieces
 
     def _is_for_client(self, frame: bytes) -> bool:
         is_to = frame[:6] == self.mac or (len(frame) > 0 and frame[0] & GROUP_BIT)
@@ -303,6 +322,9 @@ class Session:
 
     def _send_frame(self, frame: bytes) -> None:
         self.counts.sent += 1
+        if self.loses():
+            self.counts.lost += 1
+            return
         try:
             self.device.send(frame)
         except OSError:

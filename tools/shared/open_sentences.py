@@ -3,12 +3,13 @@
 from __future__ import annotations
 
 import re
+from http import HTTPStatus
 from ipaddress import IPv4Address
 from typing import NamedTuple
 
 from shared.answers import TFTP_ERRORS
-from shared.causes import MEANING, Cause, Code
-from shared.frames import asked_address, datagram_in
+from shared.causes import MEANING, OK, Cause, Code
+from shared.frames import asked_address, datagram_in, is_fin, is_syn, packet_of
 from shared.kinds import OpenKind
 from shared.leases import Offer, offer_taken, refusal_text
 from shared.messages import RCODES, tftp_error_text
@@ -21,6 +22,10 @@ from shared.wire import Opcode
 # the blocks that are asked for (RFC 2348)
 MOST_BLOCK = 1_432
 ANSWERED_NEVER = "never answered"
+# the code of a refusal that is a reset of the connection, and no status
+RESET = 65_535
+# the statuses that move a file to another place (RFC 9110, section 15.4)
+MOVES = (301, 302, 303, 307, 308)
 # what a server's response code says (RFC 1035, section 4.1.1)
 DNS_REFUSALS = {
     1: "the query is malformed",
@@ -40,6 +45,8 @@ def meaning(opened: Open, cause: Cause) -> str:
             return "the server refused the lease (NAK)"
         case Code.REFUSED, OpenKind.TFTP:
             return f"the server answered: {TFTP_ERRORS.get(cause.b, f'error {cause.b}')}"
+        case Code.REFUSED, OpenKind.HTTP:
+            return "the server reset the connection" if cause.b == RESET else f"the server answered: {status_text(cause.b)}"
     return MEANING[cause.code]
 
 
@@ -58,6 +65,8 @@ def of_refusal(cause: Cause, story: OpenStory, frame: bytes | None) -> str:
             return _of_nak(offer_taken(story.asked()), frame)
         case OpenKind.DNS:
             return _of_rcode(cause.b, opened)
+        case OpenKind.HTTP:
+            return _of_status(cause.b, story)
     named = TFTP_ERRORS.get(cause.b)
     if named is None:
         text = error_text(frame) if frame else None
@@ -68,6 +77,8 @@ def of_refusal(cause: Cause, story: OpenStory, frame: bytes | None) -> str:
 
 def of_break(story: OpenStory, frame: bytes | None, shown: str) -> str:
     """On an open whose server sent what isn't allowed in its place, by a frame where it is known."""
+    if story.open.kind is OpenKind.HTTP:
+        return _of_broken_response(story, frame, shown)
     body = _of_tftp(frame, Opcode.OACK) if frame else None
     texts = (body or b"")[2:].lower().split(b"\0")
     granted = next((value for name, value in zip(texts[::2], texts[1::2]) if name == b"blksize"), b"")
@@ -75,6 +86,52 @@ def of_break(story: OpenStory, frame: bytes | None, shown: str) -> str:
         return (f"{named_server(story)} grants blocks of {int(granted)} bytes of {word(story.open.target)}, and at most "
                 f"{MOST_BLOCK} are asked for, as where a capture's client asked for more")
     return f"{named_server(story)} sent what isn't allowed in its place: {shown}"
+
+
+def status_text(code: int) -> str:
+    """A status of HTTP, with its phrase where it has one (RFC 9110, section 15)."""
+    phrase = {status.value: status.phrase for status in HTTPStatus}.get(code)
+    return f"{code} {phrase}" if phrase else f"status {code}"
+
+
+def _of_status(code: int, story: OpenStory) -> str:
+    """On a response that refuses, or a connection that was reset before it was whole."""
+    server, url = named_server(story), word(story.open.target)
+    if code == RESET and story.block:
+        return f"{server} reset the connection after {story.block} bytes of its response for {url}"
+    if code == RESET:
+        return f"{server} reset the connection to its port {story.open.port}, as where nobody listens there: {url}"
+    hint = "; it names no place to which it has moved" if code in MOVES else ""
+    return f"{server} answered: {status_text(code)} ({url}){hint}"
+
+
+def of_response(cause: Cause, stories: list[OpenStory]) -> str:
+    """On a response that passes a limit, or that has moved the file to what isn't fetched; empty if it doesn't."""
+    last = stories[-1]
+    if last.open.kind is not OpenKind.HTTP:
+        return ""
+    server, url = named_server(last), word(last.open.target)
+    match cause.code, cause.a:
+        case Code.TOO_MANY, 2:
+            return f"{word(stories[0].open.target)} was moved more than five times, the last time by {server} from {url}"
+        case Code.TOO_MANY, 7:
+            return f"the head of the response of {server} for {url} has more than 64 fields"
+        case Code.TOO_LARGE, 1:
+            return f"{url} has more than 268435456 bytes, the most of an image, as {server} sends it"
+        case Code.TOO_LONG, 6:
+            return f"the head, a size line or a trailer of the response of {server} for {url} has more than 16384 bytes"
+        case Code.NO_SCHEME | Code.BAD_URI | Code.BAD_NAME | Code.NO_SERVER, _ if last.ended and last.ended.record.cause == OK:
+            return f"{server} has moved {url} to a place that can't be asked for: {MEANING[cause.code]}"
+    return ""
+
+
+def _of_broken_response(story: OpenStory, frame: bytes | None, shown: str) -> str:
+    """On a response that isn't one, or that was cut off: the server's end came before that of its body."""
+    server, url = named_server(story), word(story.open.target)
+    packet = packet_of(frame) if frame else None
+    if packet and is_fin(packet):
+        return f"{server} closed the connection after {story.block} bytes, before its response for {url} was whole"
+    return f"{server} sent no response of HTTP for {url}, or a body that isn't framed as its head says: {shown}"
 
 
 def _of_nak(offer: Offer | None, frame: bytes | None) -> str:
@@ -140,11 +197,24 @@ def _silent(story: OpenStory, asked: list[bytes], how: str) -> Silent:
             return Silent(f"{server} {how}: it was asked for {path}", f"it was asked for {path}")
         case OpenKind.PING:
             return Silent(f"{server} {how}: it was pinged", f"{server} was pinged")
+        case OpenKind.HTTP:
+            return _silent_connection(story, asked, how)
     if story.block or is_acknowledgement(asked):
         last = f"block {story.block} of {path}" if story.block else f"its OACK for {path}"
         sentence = f"{server} stopped answering after {last}, which was acknowledged"
         return Silent(sentence, f"{last} was acknowledged")
     return Silent(f"{server} {how}: {path} was asked for", f"{path} was asked for")
+
+
+def _silent_connection(story: OpenStory, asked: list[bytes], how: str) -> Silent:
+    """On a connection: its SYN, its request, or nothing that waits to be acknowledged, and then probes."""
+    server, url = named_server(story), word(story.open.target)
+    packet = packet_of(asked[-1]) if asked else None
+    if packet and is_syn(packet):
+        port = f"a connection to its port {story.open.port} was asked for"
+        return Silent(f"{server} {how}: {port}", port)
+    after = f"after {story.block} bytes of its response for {url}" if story.block else f"when asked for {url}"
+    return Silent(f"{server} stopped answering {after}", f"it was asked on {url}")
 
 
 def _hop(story: OpenStory, hop: IPv4Address) -> str:
@@ -181,10 +251,22 @@ def of_wait(story: OpenStory, known: set[IPv4Address] | None) -> str:
             return f"the answer of {server} on {word(opened.target)}"
         case OpenKind.PING:
             return f"the echo reply of {server}"
+        case OpenKind.HTTP:
+            return _of_awaited_response(story, asked)
     path = word(opened.target)
     if story.block or is_acknowledgement(asked):
         return f"block {story.block + 1} of {path} from {server}"
     return f"the first answer of {server} to the request for {path}"
+
+
+def _of_awaited_response(story: OpenStory, asked: list[bytes]) -> str:
+    server, url = named_server(story), word(story.open.target)
+    packet = packet_of(asked[-1]) if asked else None
+    if packet and is_syn(packet):
+        return f"the connection to port {story.open.port} of {server}"
+    if story.block:
+        return f"more of the response of {server} for {url}, of which {story.block} bytes have come"
+    return f"the first bytes of the response of {server} for {url}"
 
 
 def _of_awaited_lease(offer: Offer | None) -> str:

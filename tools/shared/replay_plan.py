@@ -14,6 +14,7 @@ from urllib.parse import quote
 
 from shared.addresses import UNSET
 from shared.boot_capture import LeaseReplayed, Met, Reader, Span
+from shared.captured_web import host_of
 from shared.command_line import Refused
 from shared.conversations import Client, Conversations, LeaseTaken, Request, Transfer
 from shared.cooked import UNKNOWN
@@ -108,6 +109,9 @@ class Plan:
         return b"#!ipxe\n" + lease + f"imgexec {self.uri()}\n".encode()
 
     def uri(self) -> str:
+        if self.request.web_port is not None:
+            host = host_of(IPv4Address(self.request.server), self.request.web_port).decode()
+            return f"http://{host}{self.request.path.decode('ascii', 'replace')}"
         path = quote(self.request.path.removeprefix(b"/"), safe="/!&'()*+,;:@")
         return f"tftp://{IPv4Address(self.request.server)}/{path}"
 
@@ -166,8 +170,8 @@ class Plan:
 
     def _begin(self) -> str:
         if len(self.spans()) > 1:
-            return "its lease, and goes on at its first request by TFTP"
-        return "its lease" if self.is_leased else "its first request by TFTP"
+            return f"its lease, and goes on at its first request by {self.request.protocol}"
+        return "its lease" if self.is_leased else f"its first request by {self.request.protocol}"
 
     def _said_addresses(self) -> str:
         found = self.addresses()
@@ -189,6 +193,11 @@ class Plan:
                    f"by which this client asks, in place of 0x{old:08x}")
         if met.readdressed:
             yield f"{count(met.readdressed, 'frame')} got the port by which this client asks, in place of the capture's"
+        if met.acknowledged:
+            yield (f"{count(met.acknowledged, 'segment')} got the port and the numbers of this client's connections, "
+                   "in place of the capture's")
+        if met.joined:
+            yield f"{count(met.joined, 'frame')} that a card had joined {_were(met.joined)} cut into {met.cut_into}"
         if met.unfilled:
             yield f"{count(met.unfilled, 'frame')} got the checksum that was left to a network card"
 
@@ -197,8 +206,12 @@ def _are(number: int) -> str:
     return "is" if number == 1 else "are"
 
 
+def _were(number: int) -> str:
+    return "was" if number == 1 else "were"
+
+
 def plan_of(reader: Reader, wishes: Wishes) -> Plan | None:
-    """How a capture is replayed; None where nobody asks for a file by TFTP in it."""
+    """How a capture is replayed; None where nobody asks for a file in it."""
     found = Conversations(reader.packets()).asking(wishes.device)
     transfer = found[1].first_fetch() if found else None
     if found is None or transfer is None:

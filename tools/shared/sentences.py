@@ -30,7 +30,7 @@ OF_SETTINGS = (b"set", b"clear", b"show", b"inc")
 OF_DEVICES = (b"ifopen", b"ifclose", b"dhcp")
 OF_FILES = (*FETCHES, *EXECUTES)
 # the URIs that are fetched
-BUILT_URI = "`tftp://HOST/PATH`"
+BUILT_URI = "`http://HOST/PATH`"
 # the host of a URI, after a user's name if there is one
 HOST_OF = re.compile(rb"//(?:[^/?#@]*@)?([^/:?#]*)")
 # the port of a URI, as it is written
@@ -112,7 +112,7 @@ def _of_file(cause: Cause, command: Command) -> str:
         case Code.BAD_URI:
             return _bad_uri(uri)
         case Code.NO_SCHEME:
-            return f"{word(uri)} isn't fetched: only {BUILT_URI} is built yet"
+            return f"{word(uri)} isn't fetched: only {BUILT_URI} and `tftp://HOST/PATH` are"
         case Code.BAD_NAME if name in OF_FILES:
             return _bad_name_of(_host_in(command))
         case Code.TOO_LONG if name in OF_FILES and cause.a == LONG_URI:
@@ -325,5 +325,6 @@ def _bad_uri(uri: bytes) -> str:
     if port and port[1] and not (re.fullmatch(rb"[0-9]+", port[1]) and int(port[1]) <= MOST_PORT):
         return f"the port in {word(uri)} is no number from 0 to {MOST_PORT}"
     if re.match(rb"[A-Za-z][A-Za-z0-9+.-]*:", uri):
-        return f"{word(uri)} is no URI that names a server, as {BUILT_URI} does"
+        whole = "`tftp://HOST/PATH`" if uri[:5].lower() == b"tftp:" else BUILT_URI
+        return f"{word(uri)} is no URI that names a server, as {whole} does"
     return f"{word(uri)} is only the end of a URI, and it doesn't go with `next-server`; {BUILT_URI} is a whole one"

@@ -15,7 +15,7 @@ from shared.full_steps import MOST_COMMANDS
 from shared.kinds import OpenKind, Status
 from shared.leases import Lease, lease_given, names_file, of_unnamed
 from shared.objects import ending
-from shared.open_sentences import Came, named_server, of_break, of_refusal, of_silence, of_wait
+from shared.open_sentences import Came, named_server, of_break, of_refusal, of_response, of_silence, of_wait
 from shared.places import command_at, line_of, place_of, words_in
 from shared.recordings import read_output
 from shared.records import (
@@ -203,6 +203,9 @@ class Account:
         if opens and failure.cause.code is Code.BROKEN:
             shown = self.inputs.lines.get(failure.cause.a, f"record {failure.cause.a}")
             return of_break(opens[-1], frame, shown)
+        said = of_response(failure.cause, opens) if opens else ""
+        if said:
+            return said
         fault = self.inputs.fault(failure)
         if fault:
             return fault.why

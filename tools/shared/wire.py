@@ -122,17 +122,24 @@ def segment(
     flags: int,
     window: int = 0,
     body: bytes = b"",
+    options: bytes = b"",
 ) -> bytes:
-    """A TCP segment without options; `numbers` are its sequence number and what it acknowledges."""
-    places = b"".join(number.to_bytes(4, "big") for number in numbers)
-    head = _numbers(*ports) + places + bytes([0x50, flags]) + _numbers(window)
-    rest = b"\0\0" + body
+    """A TCP segment; `numbers` are its sequence number and what it acknowledges, and its options fill words of 4 bytes."""
+    places = b"".join((number & 0xFFFF_FFFF).to_bytes(4, "big") for number in numbers)
+    head = _numbers(*ports) + places + bytes([0x50 + 0x10 * (len(options) // 4), flags]) + _numbers(window)
+    rest = b"\0\0" + options + body
     pseudo = pseudo_header(source, target, PROTOCOL_TCP, len(head) + 2 + len(rest))
     return head + checksum(pseudo + head + b"\0\0" + rest).to_bytes(2, "big") + rest
 
 
 def packet_frame(sender: Station, to: Station, protocol: int, body: bytes) -> bytes:
     return ethernet(to.mac, sender.mac, IPV4, ipv4(sender.ip, to.ip, protocol, body))
+
+
+def web_request(path: bytes, host: bytes) -> bytes:
+    """The client's request by HTTP (RFC 9112); a host has its port, where that isn't 80."""
+    lines = (b"GET " + path + b" HTTP/1.1", b"Host: " + host, b"User-Agent: netboot", b"Connection: close", b"", b"")
+    return b"\r\n".join(lines)
 
 
 def tftp_request(path: bytes) -> bytes:

@@ -10,7 +10,7 @@ use Rattle.nb_machine.specs.Running.{Running, anew, entered, script_within, scri
 use Rattle.nb_machine.specs.States.{State, with_images}
 use Rattle.nb_machine.specs.Scripts.{Upshot, concludes, settles, goes_onward, concluded_by}
 use Rattle.nb_machine.specs.Takings.{Over}
-use Rattle.nb_machine.specs.Network.{on_net0, Network, passes_by, brings, brings_reply, passes_time}
+use Rattle.nb_machine.specs.Network.{on_net0, Network, passes_by, brings, brings_reply, brings_segment, passes_time}
 use Rattle.nb_machine.specs.Courses.{Standing, ready, running, waiting, reaching, yielded, handing, left, handed_off, stopped, Progress, text_standing, ScriptLeads, ConclusionLeads, LeadsTo, StepBegins, runs, refuses, waits_on, is_answered, switches_off, resumes, goes_off, Proceeds, passes, is_left, hands_back, yields, does, closes_device, concludes_there, leaves, jumps, finds_no_label, falls_asleep, opens_one, finds_no_route, opens_onward, finds_no_way, opens_no_more, hands, has_handed, Course, begins, uses, goes_on}
 use Rattle.nb_onecourse.proofs.Nexts.{what_next}
 use Rattle.nb_onecourse.proofs.OneNext.{still_proceeds}
@@ -155,6 +155,7 @@ acts_other : (s : State) (n : ℕ) (r : In) (put : List Out) (after : State) (ov
 acts_other s n r put after over (passes_by _ _ _ link m (on_net0 bytes) got is none) = tt
 acts_other s n r put after over (brings _ _ _ link p d before behind rest l _ _ (on_net0 bytes) got is lives takes none others all) = tt
 acts_other s n r put after over (brings_reply _ _ _ link p e before behind rest l _ _ (on_net0 bytes) got is lives takes none others all) = tt
+acts_other s n r put after over (brings_segment _ _ _ link from p g before behind rest l _ _ (on_net0 bytes) got is lives takes none others all) = tt
 acts_other s n r put after over (passes_time ms rest _ _ all) = tt
 
 -- a record other than the first comes where the next is waited for, and is no START

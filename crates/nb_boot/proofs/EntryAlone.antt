@@ -2,6 +2,7 @@
 use Rattle.std.proofs.Common.{◌≡◌, ℕ, true, false, List, [], ◌∷◌, ◌++◌, Option, Some, None, sym, ◌∙◌, ap, subst, append_assoc, append-nil}
 use Rattle.nb_terms.specs.declared.cause.Cause.{Cause}
 use Rattle.nb_defs.specs.Records.{In, Out}
+use Rattle.nb_machine.specs.Errands.{Onward}
 use Rattle.nb_machine.specs.Courses.{Standing, ready, running, waiting, reaching, yielded, handing, left, handed_off, stopped, Progress, Course}
 use Rattle.nb_laws.specs.Events.{Event, EachEvent}
 use Rattle.nb_laws.specs.Histories.{IsRead, IsHistory}
@@ -11,7 +12,7 @@ use Rattle.nb_laws.specs.Progress.{StepsSo}
 use Rattle.nb_lawful.specs.CommandOpens.{CommandOpen, command_open, over_of}
 use Rattle.nb_openlaws.specs.OpenEndings.{OpensEndSo}
 use Rattle.nb_lawful.specs.Results.{CommandsSo}
-use Rattle.nb_lawful.specs.ScriptAgreement.{ScriptsAgree}
+use Rattle.nb_lawful.specs.ScriptAgreement.{ScriptsAgree, IsToReach, reaches_host, reaches_place}
 use Rattle.nb_lawful.proofs.Awaited.{its}
 use Rattle.nb_lawful.proofs.Solitude.{IsOver, IsSettled, Solitude, none_lives}
 use Rattle.nb_lawful.proofs.Alone.{solitude_first, solitude_then}
@@ -62,12 +63,16 @@ settled_ok (Some o) e = over_ok o.over e
     over_ok None e = absurd (let no : false ≡ true = e in cc)
     over_ok (Some cause) e = tt
 
+reach_ended : (es : List Event) (next : Onward) → IsToReach es next → came_ok (over_of (command_open es)) ≡ true
+reach_ended es next (reaches_host errand name by address comes_to finds is) = finds.ended
+reach_ended es next (reaches_place moved comes_to room) = moved.ended
+
 -- where a step goes on none lives
 pub none_where_on : (es : List Event) (outs : List Out) (p : Standing) → Solitude es → ScriptsAgree es outs p → StepGoesOn p → NoneLives es
 none_where_on es outs ready a s on = absurd on
 none_where_on es outs (running x inner outer) a s on = none_lives es a (a.idle s.1.is_open)
 none_where_on es outs (waiting x w) a s on = absurd on
-none_where_on es outs (reaching x inner outer next) a s on = none_lives es a (settled_ok (command_open es) s.4.finds.ended)
+none_where_on es outs (reaching x inner outer next) a s on = none_lives es a (settled_ok (command_open es) (reach_ended es next s.4))
 none_where_on es outs (yielded x inner outer) a s on = absurd on
 none_where_on es outs (handing x rest) a s on = none_lives es a (a.idle s.1)
 none_where_on es outs (left x [] cause) a s on = absurd on

@@ -1,5 +1,5 @@
 -- What comes to the opens with an event, by the history as by the machine, and what stands first in its step.
-use Rattle.std.proofs.Common.{◌≡◌, inl, inr, ℕ, ◌+◌, ◌||◌, false, cond, List, [], ◌∷◌, ◌++◌, map, refl, sym, ◌∙◌, ap, subst, ne_eqb, eq-eqb}
+use Rattle.std.proofs.Common.{◌≡◌, inl, inr, ℕ, ◌+◌, ◌||◌, false, cond, List, [], ◌∷◌, ◌++◌, map, refl, sym, ◌∙◌, ap, subst, append-nil, ne_eqb, eq-eqb}
 use Rattle.std.specs.List.{flat_map, AllByRecursion}
 use Rattle.std.proofs.lemmas.Bool.{cases_eq}
 use Rattle.nb_defs.specs.Records.{In, Start, start, frame, tick, off, Out, step}
@@ -22,11 +22,12 @@ use Rattle.nb_lawful.proofs.Solitude.{Solitude}
 use Rattle.nb_openlaws.proofs.UsedEvents.{IsUsed, no_call}
 use Rattle.nb_traced.specs.Entries.{came_to}
 use Rattle.nb_traced.specs.Outputs.{Arrived}
-use Rattle.nb_network.specs.Takes.{ArrivesAt, at_all, at_echo, at_none, at_port, arrival, BeginsWithEntry}
+use Rattle.nb_network.specs.Takes.{ArrivesAt, at_all, at_connection, at_echo, at_none, at_port, arrival, BeginsWithEntry}
 use Rattle.nb_client.specs.Progressing.{BringsTo, ShutsStanding, StandsFirst}
-use Rattle.nb_boot.specs.Entries.{way_of, arrival_at}
+use Rattle.nb_boot.specs.Entries.{way_of, segment_arrival, arrival_at}
+use Rattle.nb_streams.specs.Talking.{by_time}
 use Rattle.nb_boot.specs.Stepped.{EntersWith, ShutsLive}
-use Rattle.nb_boot.proofs.EntryFrames.{StepComes, enters_none, frame_comes, lives_there, none_one, one_open}
+use Rattle.nb_boot.proofs.EntryFrames.{StepComes, none_arrives, enters_none, frame_comes, lives_there, none_some, one_open}
 
 -- A TIME
 
@@ -50,6 +51,15 @@ all_live : (es : List Event) (ls : List Live) → AreLive es ls → AllByRecursi
 all_live es [] h = tt
 all_live es (l ∷ ls) h = ((live_opening l, lives_there es l h.0), all_live es ls h.1)
 
+-- a time brings no segment
+no_segments : (e : Event) (t : ℕ) (os : List Opening) → flat_map (segment_arrival e) (flat_map (λ o. by_time t ∷ []) os) ≡ []
+no_segments e t [] = refl
+no_segments e t (o ∷ os) = no_segments e t os
+
+time_arrives : (k : ℕ) (es : List Event) (n ms : ℕ) → arrival_at k es (waits n ms) ≡ map (λ c. record { number = n; way = way_of c }) (call_at k es (waits n ms))
+time_arrives k es n ms =
+    ap (λ z. map (λ c. record { number = n; way = way_of c }) (call_at k es (waits n ms)) ++ z) (no_segments (waits n ms) (time es + ms) (live k es)) ∙ append-nil (map (λ c. record { number = n; way = way_of c }) (call_at k es (waits n ms)))
+
 time_counted : (es : List Event) (s : State) (n ms k : ℕ) → AgreesState es s → came_to k (map (λ l. arrival l.number way.Time n) s.live) ≡ arrival_at k es (waits n ms)
 time_counted es s n ms k a =
     times_to k n s.live a.apart
@@ -57,21 +67,24 @@ time_counted es s n ms k a =
     (λ some. let l = found (λ z. (o : Opening) × (live z es ≡ o ∷ [])) k s.live (all_live es s.live a.each) some in
     ap (λ b. cond b (record { number = n; way = 3 } ∷ []) []) some ∙ sym (ap (λ cs. map (λ c. record { number = n; way = way_of c }) cs) (time_comes_to k es n ms l.0 l.1)))
     (λ away. ap (λ b. cond b (record { number = n; way = 3 } ∷ []) []) away
-    ∙ sym (ap (λ cs. map (λ c. record { number = n; way = way_of c }) cs) (no_call k es (waits n ms) tt (a.others k away))))
+    ∙ sym (ap (λ cs. map (λ c. record { number = n; way = way_of c }) cs) (no_call k es (waits n ms) tt (a.others k away)).0))
+    ∙ sym (time_arrives k es n ms)
 
 -- where something comes, an open lives, and the step begins with its time
 time_enters : (es : List Event) (n ms : ℕ) (ls : List Live) (more : List Out) → AreLive es ls → ((k : ℕ) → lives_among k ls ≡ false → live k es ≡ []) → BeginsWithEntry (map (λ l. arrival l.number way.Time n) ls) more →
-    EntersWith way.Time (λ k. call_at k es (waits n ms)) more
-time_enters es n ms [] more h others first = enters_none way.Time (λ k. call_at k es (waits n ms)) more (λ k. no_call k es (waits n ms) tt (others k refl)) first
+    EntersWith way.Time (λ k. arrival_at k es (waits n ms)) more
+time_enters es n ms [] more h others first = enters_none way.Time (λ k. arrival_at k es (waits n ms)) more (λ k. none_arrives k es (waits n ms) (no_call k es (waits n ms) tt (others k refl))) first
 time_enters es n ms (l ∷ ls) more h others first = record {
-  enters = λ k c is. record { port = first.0; more = first.1; all = first.2 };
-  still = λ none. absurd (none_one (ticked (time es + ms)) (call_at l.number es (waits n ms)) (none l.number) (time_comes_to l.number es n ms (live_opening l) (lives_there es l h.0)));
+  enters = λ k c rest is. record { port = first.0; more = first.1; all = first.2 };
+  still = λ none. absurd (none_some (record { number = n; way = 3 }) [] (arrival_at l.number es (waits n ms)) (none l.number)
+      (time_arrives l.number es n ms ∙ ap (λ cs. map (λ c. record { number = n; way = way_of c }) cs) (time_comes_to l.number es n ms (live_opening l) (lives_there es l h.0))));
 }
 
 time_comes : (es : List Event) (s : State) (n : ℕ) (r : In) (ms : ℕ) (came : List Arrived) (more : List Out) → tick ms ≡ r → AgreesState es s → ArrivesAt s n r came → BeginsWithEntry came more → StepComes es (waits n ms) came more
 time_comes es s n r ms came more same a (at_none r0 where0 b0 link m0 (on_net0 b) got is none) first = absurd (let no : tick ms ≡ frame b = same in cc)
 time_comes es s n r ms came more same a (at_port r0 where0 b0 link p d before behind l (on_net0 b) got is lives here) first = absurd (let no : tick ms ≡ frame b = same in cc)
 time_comes es s n r ms came more same a (at_echo r0 where0 b0 link p x before behind l (on_net0 b) got is lives here) first = absurd (let no : tick ms ≡ frame b = same in cc)
+time_comes es s n r ms came more same a (at_connection r0 where0 b0 link from p g before behind l (on_net0 b) got is lives here) first = absurd (let no : tick ms ≡ frame b = same in cc)
 time_comes es s n r ms came more same a (at_all ms0) first = record {
   counted = λ k. time_counted es s n ms k a;
   starts_so = time_enters es n ms s.live more a.each a.others first;

@@ -1,6 +1,7 @@
 -- What a frame brings the opens, by the history as by the machine, and what stands first in its step.
-use Rattle.std.proofs.Common.{◌≡◌, ◌⊎◌, inl, inr, ℕ, ◌==◌, Bool, true, false, cond, List, [], ◌∷◌, ◌++◌, map, Some, refl, sym, ◌∙◌, ap, subst, ne_eqb, eq-eqb}
+use Rattle.std.proofs.Common.{◌≡◌, ◌⊎◌, inl, inr, ℕ, ◌==◌, ◌||◌, Bool, true, false, cond, List, [], ◌∷◌, ◌++◌, map, Some, refl, sym, ◌∙◌, ap, subst, ne_eqb, eq-eqb}
 use Rattle.std.specs.Prelude.{slice_get}
+use Rattle.std.specs.List.{flat_map, list_any}
 use Rattle.std.proofs.lemmas.Bool.{cases_eq}
 use Rattle.nb_defs.specs.Records.{In, frame, tick, Out}
 use Rattle.nb_ledger.specs.Flat.{way_number}
@@ -9,29 +10,35 @@ use Rattle.nb_ledger.specs.declared.event.Way.TheVariants as way
 use Rattle.nb_ipv4.specs.PacketText.{PacketParts}
 use Rattle.nb_ipv4.specs.UdpText.{UdpParts}
 use Rattle.nb_ipv4.specs.EchoText.{EchoParts}
+use Rattle.nb_tcpseg.specs.SegmentText.{SegmentParts}
+use Rattle.nb_wire.specs.declared.address.Mac.{Mac}
 use Rattle.nb_stack.specs.Client.{Client}
-use Rattle.nb_stack.specs.Brings.{Brought, Brings, datagram, echo_reply}
+use Rattle.nb_stack.specs.Brings.{Brought, datagram, echo_reply, segment, Brings}
 use Rattle.nb_stack.specs.Takes.{reply_of}
 use Rattle.nb_stack.proofs.MessageLaws.{message_one}
 use Rattle.nb_tftp.specs.History.{Call, came as came_by}
 use Rattle.nb_tftp.specs.Received.{received}
 use Rattle.nb_traced.specs.Plain.{without_graph}
 use Rattle.nb_machine.specs.Lives.{Live}
-use Rattle.nb_machine.specs.Kinds.{is_for, is_reply_for}
+use Rattle.nb_machine.specs.Kinds.{is_for, is_reply_for, has_port, is_segment_for}
+use Rattle.nb_machine.specs.Connections.{arrived_segment}
 use Rattle.nb_machine.specs.Network.{is_for_one, on_net0}
 use Rattle.nb_machine.specs.States.{State, net0}
 use Rattle.nb_laws.specs.Events.{Event, hears}
 use Rattle.nb_laws.specs.Histories.{IsRead, client}
 use Rattle.nb_laws.specs.Lists.{Opening, live, call_at, time}
 use Rattle.nb_openlaws.specs.Standings.{AgreesDevice, AgreesLive, AgreesState, AreLive, live_opening}
-use Rattle.nb_openlaws.proofs.HeardFrames.{for_as_told, heard_by, none_at, none_for, reply_as_told}
+use Rattle.nb_openlaws.proofs.HeardFrames.{both_true, for_as_told, heard_by, streamed_by, segment_as_told, port_as_told, none_at, none_for, reply_as_told}
 use Rattle.nb_openlaws.proofs.Networks.{back_of}
 use Rattle.nb_lawful.proofs.Solitude.{Solitude}
-use Rattle.nb_openlaws.proofs.UsedEvents.{IsUsed, live_one, no_call}
-use Rattle.nb_traced.specs.Entries.{came_to}
+use Rattle.nb_openlaws.proofs.UsedEvents.{IsUsed, BringsNone, live_one, no_call}
+use Rattle.nb_traced.specs.Entries.{EntryArrival, came_to}
+use Rattle.nb_streams.specs.Talking.{Came, by_segment}
+use Rattle.nb_webs.specs.Webs.{NoTask}
+use Rattle.nb_laws.specs.Webs.{came_at, comes_to_port, ComesToNone}
 use Rattle.nb_traced.specs.Outputs.{Arrived}
-use Rattle.nb_network.specs.Takes.{ArrivesAt, at_all, at_echo, at_none, at_port, arrival, BeginsWithEntry}
-use Rattle.nb_boot.specs.Entries.{way_of, event_number, arrival_at}
+use Rattle.nb_network.specs.Takes.{ArrivesAt, at_all, at_connection, at_echo, at_none, at_port, arrival, BeginsWithEntry}
+use Rattle.nb_boot.specs.Entries.{way_of, event_number, segment_arrival, arrival_at}
 use Rattle.nb_boot.specs.Stepped.{EntersWith, StartsSo}
 use Rattle.nb_boot.proofs.EntryAlone.{one_lives}
 use Rattle.nb_boot.proofs.EntryComings.{HaveNoGraph, no_graph_in}
@@ -40,21 +47,31 @@ use Rattle.nb_boot.proofs.EntryComings.{HaveNoGraph, no_graph_in}
 pub record StepComes (es : List Event) (e : Event) (came : List Arrived) (more : List Out) : Type 0 where
   pub counted : (k : ℕ) → came_to k came ≡ arrival_at k es e
   pub starts_so : StartsSo es e more
-  pub silent : (n : ℕ) (bytes : List ℕ) (m : Brought) → e ≡ hears n bytes m → (reply_of (client es) m ≡ []) ⊎ HaveNoGraph more
+  pub silent : (n : ℕ) (bytes : List ℕ) (m : Brought) → e ≡ hears n bytes m → (ComesToNone es m → reply_of (client es) m ≡ []) ⊎ HaveNoGraph more
 
-pub none_one : (call : Call) (calls : List Call) → calls ≡ [] → calls ≡ call ∷ [] → ⊥
-none_one call calls none one = let no : [] ≡ call ∷ [] = sym none ∙ one in absurd (cc)
+pub none_some : {A : Type 0} (x : A) (rest all : List A) → all ≡ [] → all ≡ x ∷ rest → ⊥
+none_some x rest all none some = let no : [] ≡ x ∷ rest = sym none ∙ some in absurd (cc)
 
 pub one_open : (o : Opening) (os : List Opening) → os ≡ [] → os ≡ o ∷ [] → ⊥
 one_open o os none one = let no : [] ≡ o ∷ [] = sym none ∙ one in absurd (cc)
 
 -- NOTHING COMES
 
-none_counted : (es : List Event) (e : Event) → ((k : ℕ) → call_at k es e ≡ []) → (k : ℕ) → [] ≡ arrival_at k es e
-none_counted es e none k = sym (ap (λ cs. map (λ c. record { number = event_number e; way = way_of c }) cs) (none k))
+-- what an event brings, by the calls and by the segments of it
+pub arrivals_are : (k : ℕ) (es : List Event) (e : Event) (calls : List Call) (segments : List (Came NoTask)) → call_at k es e ≡ calls → came_at k es e ≡ segments →
+    arrival_at k es e ≡ map (λ c. record { number = event_number e; way = way_of c }) calls ++ flat_map (segment_arrival e) segments
+arrivals_are k es e calls segments by_calls by_segments =
+    ap (λ cs. map (λ c. record { number = event_number e; way = way_of c }) cs ++ flat_map (segment_arrival e) (came_at k es e)) by_calls
+    ∙ ap (λ ss. map (λ c. record { number = event_number e; way = way_of c }) calls ++ flat_map (segment_arrival e) ss) by_segments
 
-pub enters_none : (by : Way) (comes : ℕ → List Call) (more : List Out) → ((k : ℕ) → comes k ≡ []) → without_graph more ≡ more → EntersWith by comes more
-enters_none by comes more none plainly = record { enters = λ k call is. absurd (none_one call (comes k) (none k) is); still = λ _. plainly }
+pub none_arrives : (k : ℕ) (es : List Event) (e : Event) → BringsNone k es e → arrival_at k es e ≡ []
+none_arrives k es e none = arrivals_are k es e [] [] none.0 none.1
+
+none_counted : (es : List Event) (e : Event) → ((k : ℕ) → BringsNone k es e) → (k : ℕ) → [] ≡ arrival_at k es e
+none_counted es e none k = sym (none_arrives k es e (none k))
+
+pub enters_none : (by : Way) (comes : ℕ → List EntryArrival) (more : List Out) → ((k : ℕ) → comes k ≡ []) → without_graph more ≡ more → EntersWith by comes more
+enters_none by comes more none plainly = record { enters = λ k arrives rest is. absurd (none_some arrives rest (comes k) (none k) is); still = λ _. plainly }
 
 -- ONE THING COMES TO ONE OPEN
 
@@ -62,26 +79,21 @@ one_to : (k j n : ℕ) (by : Way) (b : Bool) → (j == k) ≡ b → came_to k (a
 one_to k j n by true e = ap (λ b. cond b (record { number = n; way = way_number by } ∷ []) [] ++ []) e
 one_to k j n by false e = ap (λ b. cond b (record { number = n; way = way_number by } ∷ []) [] ++ []) e
 
-one_counted : (es : List Event) (e : Event) (j : ℕ) (by : Way) (call : Call) → call_at j es e ≡ call ∷ [] → way_of call ≡ way_number by → ((k : ℕ) → (j ≡ k → ⊥) → call_at k es e ≡ []) → (k : ℕ) →
+one_counted : (es : List Event) (e : Event) (j : ℕ) (by : Way) → arrival_at j es e ≡ record { number = event_number e; way = way_number by } ∷ [] → ((k : ℕ) → (j ≡ k → ⊥) → BringsNone k es e) → (k : ℕ) →
     came_to k (arrival j by (event_number e) ∷ []) ≡ arrival_at k es e
-one_counted es e j by call one is others k = elim (cases_eq j k) [
-  | inl same ↦
-      one_to k j (event_number e) by true (eq-eqb j k same) ∙ ap (λ w. record { number = event_number e; way = w } ∷ []) (sym is)
-      ∙ sym (ap (λ cs. map (λ c. record { number = event_number e; way = way_of c }) cs) (subst (λ z. call_at z es e ≡ call ∷ []) same one))
-  | inr other ↦ one_to k j (event_number e) by false (ne_eqb j k other) ∙ none_counted_at es e k (others k other)
+one_counted es e j by one others k = elim (cases_eq j k) [
+  | inl same ↦ one_to k j (event_number e) by true (eq-eqb j k same) ∙ sym (subst (λ z. arrival_at z es e ≡ record { number = event_number e; way = way_number by } ∷ []) same one)
+  | inr other ↦ one_to k j (event_number e) by false (ne_eqb j k other) ∙ sym (none_arrives k es e (others k other))
 ]
-  where
-    none_counted_at : (es : List Event) (e : Event) (k : ℕ) → call_at k es e ≡ [] → [] ≡ arrival_at k es e
-    none_counted_at es e k none = sym (ap (λ cs. map (λ c. record { number = event_number e; way = way_of c }) cs) none)
 
-enters_one : (j n : ℕ) (by : Way) (comes : ℕ → List Call) (call : Call) (more : List Out) → comes j ≡ call ∷ [] → BeginsWithEntry (arrival j by n ∷ []) more → EntersWith by comes more
-enters_one j n by comes call more one first = record {
-  enters = λ k c is. record { port = first.0; more = first.1; all = first.2 };
-  still = λ none. absurd (none_one call (comes j) (none j) one);
+enters_one : (j n : ℕ) (by : Way) (comes : ℕ → List EntryArrival) (arrives : EntryArrival) (more : List Out) → comes j ≡ arrives ∷ [] → BeginsWithEntry (arrival j by n ∷ []) more → EntersWith by comes more
+enters_one j n by comes arrives more one first = record {
+  enters = λ k c rest is. record { port = first.0; more = first.1; all = first.2 };
+  still = λ none. absurd (none_some arrives [] (comes j) (none j) one);
 }
 
 -- an open that lives, and the others to which nothing comes
-others_none : (es : List Event) (e : Event) (j : ℕ) (o : Opening) → Solitude es → IsUsed e → live j es ≡ o ∷ [] → (k : ℕ) → (j ≡ k → ⊥) → call_at k es e ≡ []
+others_none : (es : List Event) (e : Event) (j : ℕ) (o : Opening) → Solitude es → IsUsed e → live j es ≡ o ∷ [] → (k : ℕ) → (j ≡ k → ⊥) → BringsNone k es e
 others_none es e j o a used lives k other = elim (a.one k) [
   | inl none ↦ no_call k es e used none
   | inr one ↦ absurd (other (one_lives es j k o one.0 a lives one.1))
@@ -103,6 +115,9 @@ one_message es s link bytes m m0 device got read is =
     message_one (client es).up (client es).mac (client es).address bytes m m0 read
     (subst (λ (c : Client). Brings c.up c.mac c.address bytes m0) (sym (the_link s.devices (client es) link device got)) is)
 
+message_of : (n i : ℕ) (b bytes : List ℕ) (x y : Brought) → hears n b x ≡ hears i bytes y → x ≡ y
+message_of n i b bytes x y e = cc
+
 datagram_comes : (es : List Event) (s : State) (n : ℕ) (b : List ℕ) (p : PacketParts) (d : UdpParts) (before behind : List Live) (l : Live) (more : List Out) → Solitude es → AgreesState es s →
     s.live ≡ before ++ l ∷ behind → is_for net0 p d l ≡ true → BeginsWithEntry (arrival l.number way.Up n ∷ []) more → StepComes es (hears n b (datagram p d)) (arrival l.number way.Up n ∷ []) more
 datagram_comes es s n b p d before behind l more a agrees lives here first =
@@ -110,15 +125,13 @@ datagram_comes es s n b p d before behind l more a agrees lives here first =
     let own = back_of es before (l ∷ behind) (subst (AreLive es) lives agrees.each) in
     let call = came_by (received n d.src_port d.body) (time es) in
     let heard : call_at l.number es e ≡ call ∷ [] = heard_by es n b (datagram p d) l own.0 ∙ ap (λ z. cond z (call ∷ []) []) (for_as_told l p d own.0.on_net0 ∙ here) in
+    let one : arrival_at l.number es e ≡ record { number = n; way = 0 } ∷ [] = arrivals_are l.number es e (call ∷ []) [] heard (streamed_by es n b (datagram p d) l own.0) in
     let others = others_none es e l.number (live_opening l) a tt (lives_there es l own.0) in
     record {
-      counted = λ k. one_counted es e l.number way.Up call heard refl others k;
-      starts_so = enters_one l.number n way.Up (λ k. call_at k es e) call more heard first;
-      silent = λ i bytes m is. inl (subst (λ z. reply_of (client es) z ≡ []) (message_of n i b bytes (datagram p d) m is) refl);
+      counted = λ k. one_counted es e l.number way.Up one others k;
+      starts_so = enters_one l.number n way.Up (λ k. arrival_at k es e) (record { number = n; way = 0 }) more one first;
+      silent = λ i bytes m is. inl (λ none. subst (λ z. reply_of (client es) z ≡ []) (message_of n i b bytes (datagram p d) m is) refl);
     }
-  where
-    message_of : (n i : ℕ) (b bytes : List ℕ) (x y : Brought) → hears n b x ≡ hears i bytes y → x ≡ y
-    message_of n i b bytes x y e = cc
 
 echo_comes : (es : List Event) (s : State) (n : ℕ) (b : List ℕ) (p : PacketParts) (x : EchoParts) (before behind : List Live) (l : Live) (more : List Out) → Solitude es → AgreesState es s →
     s.live ≡ before ++ l ∷ behind → is_reply_for net0 p x l ≡ true → BeginsWithEntry (arrival l.number way.Up n ∷ []) more → StepComes es (hears n b (echo_reply p x)) (arrival l.number way.Up n ∷ []) more
@@ -127,15 +140,36 @@ echo_comes es s n b p x before behind l more a agrees lives here first =
     let own = back_of es before (l ∷ behind) (subst (AreLive es) lives agrees.each) in
     let call = came_by (received n 0 x.body) (time es) in
     let heard : call_at l.number es e ≡ call ∷ [] = heard_by es n b (echo_reply p x) l own.0 ∙ ap (λ z. cond z (call ∷ []) []) (reply_as_told l p x own.0.on_net0 ∙ here) in
+    let one : arrival_at l.number es e ≡ record { number = n; way = 0 } ∷ [] = arrivals_are l.number es e (call ∷ []) [] heard (streamed_by es n b (echo_reply p x) l own.0) in
     let others = others_none es e l.number (live_opening l) a tt (lives_there es l own.0) in
     record {
-      counted = λ k. one_counted es e l.number way.Up call heard refl others k;
-      starts_so = enters_one l.number n way.Up (λ k. call_at k es e) call more heard first;
-      silent = λ i bytes m is. inl (subst (λ z. reply_of (client es) z ≡ []) (message_of n i b bytes (echo_reply p x) m is) refl);
+      counted = λ k. one_counted es e l.number way.Up one others k;
+      starts_so = enters_one l.number n way.Up (λ k. arrival_at k es e) (record { number = n; way = 0 }) more one first;
+      silent = λ i bytes m is. inl (λ none. subst (λ z. reply_of (client es) z ≡ []) (message_of n i b bytes (echo_reply p x) m is) refl);
     }
-  where
-    message_of : (n i : ℕ) (b bytes : List ℕ) (x y : Brought) → hears n b x ≡ hears i bytes y → x ≡ y
-    message_of n i b bytes x y e = cc
+
+-- a segment to the port of a connection isn't replied to
+port_taken : (es : List Event) (from : Mac) (p : PacketParts) (g : SegmentParts) (l : Live) → AgreesLive es l → is_segment_for net0 p g l ≡ true → ComesToNone es (segment from p g) → ⊥
+port_taken es from p g l own here none =
+    let at : has_port net0 g.dst_port l ≡ true = (both_true _ _ (both_true _ _ here).0).0 in
+    let some : list_any (comes_to_port (segment from p g)) (live l.number es) ≡ true =
+    ap (list_any (comes_to_port (segment from p g))) (lives_there es l own) ∙ ap (λ b. b || false) (port_as_told l from p g own.on_net0 ∙ at) in
+    let no : true ≡ false = sym some ∙ none l.number in absurd (cc)
+
+segment_comes : (es : List Event) (s : State) (n : ℕ) (b : List ℕ) (from : Mac) (p : PacketParts) (g : SegmentParts) (before behind : List Live) (l : Live) (more : List Out) → Solitude es → AgreesState es s →
+    s.live ≡ before ++ l ∷ behind → is_segment_for net0 p g l ≡ true → BeginsWithEntry (arrival l.number way.Up n ∷ []) more → StepComes es (hears n b (segment from p g)) (arrival l.number way.Up n ∷ []) more
+segment_comes es s n b from p g before behind l more a agrees lives here first =
+    let e = hears n b (segment from p g) in
+    let own = back_of es before (l ∷ behind) (subst (AreLive es) lives agrees.each) in
+    let c : Came NoTask = by_segment (arrived_segment n g) (time es) in
+    let streamed : came_at l.number es e ≡ c ∷ [] = streamed_by es n b (segment from p g) l own.0 ∙ ap (λ z. cond z (c ∷ []) []) (segment_as_told l p g own.0.on_net0 ∙ here) in
+    let one : arrival_at l.number es e ≡ record { number = n; way = 0 } ∷ [] = arrivals_are l.number es e [] (c ∷ []) (heard_by es n b (segment from p g) l own.0) streamed in
+    let others = others_none es e l.number (live_opening l) a tt (lives_there es l own.0) in
+    record {
+      counted = λ k. one_counted es e l.number way.Up one others k;
+      starts_so = enters_one l.number n way.Up (λ k. arrival_at k es e) (record { number = n; way = 0 }) more one first;
+      silent = λ i bytes m is. inl (λ none. absurd (port_taken es from p g l own.0 here (subst (ComesToNone es) (sym (message_of n i b bytes (segment from p g) m is)) none)));
+    }
 
 frame_of : (bytes b : List ℕ) → frame bytes ≡ frame b → bytes ≡ b
 frame_of bytes b e = cc
@@ -146,10 +180,10 @@ frame_comes es s n r bytes m came more same a agrees device read (at_none r0 whe
     let eb = frame_of bytes b same in
     let em = one_message es s link b m m0 device got (subst (λ z. Brings (client es).up (client es).mac (client es).address z m) eb read) is in
     let e = hears n bytes m in
-    let nothing_comes : (k : ℕ) → call_at k es e ≡ [] = none_at es e s tt agrees (none_for es n bytes m s.live agrees.each (subst (λ z. is_for_one net0 z s.live ≡ false) (sym em) none)) in
+    let nothing_comes : (k : ℕ) → BringsNone k es e = none_at es e s tt agrees (none_for es n bytes m s.live agrees.each (subst (λ z. is_for_one net0 z s.live ≡ false) (sym em) none)) in
     record {
       counted = none_counted es e nothing_comes;
-      starts_so = enters_none way.Up (λ k. call_at k es e) more nothing_comes first;
+      starts_so = enters_none way.Up (λ k. arrival_at k es e) more (λ k. none_arrives k es e (nothing_comes k)) first;
       silent = λ i taken x at. inr (no_graph_in more first);
     }
 frame_comes es s n r bytes m came more same a agrees device read (at_port r0 where0 b0 link p d before behind l (on_net0 b) got is lives here) first =
@@ -160,4 +194,8 @@ frame_comes es s n r bytes m came more same a agrees device read (at_echo r0 whe
     let eb = frame_of bytes b same in
     let em = one_message es s link b m (echo_reply p x) device got (subst (λ z. Brings (client es).up (client es).mac (client es).address z m) eb read) is in
     subst (λ z. StepComes es (hears n bytes z) (arrival l.number way.Up n ∷ []) more) (sym em) (echo_comes es s n bytes p x before behind l more a agrees lives here first)
+frame_comes es s n r bytes m came more same a agrees device read (at_connection r0 where0 b0 link from p g before behind l (on_net0 b) got is lives here) first =
+    let eb = frame_of bytes b same in
+    let em = one_message es s link b m (segment from p g) device got (subst (λ z. Brings (client es).up (client es).mac (client es).address z m) eb read) is in
+    subst (λ z. StepComes es (hears n bytes z) (arrival l.number way.Up n ∷ []) more) (sym em) (segment_comes es s n bytes from p g before behind l more a agrees lives here first)
 frame_comes es s n r bytes m came more same a agrees device read (at_all ms) first = absurd (let no : frame bytes ≡ tick ms = same in cc)

@@ -1,24 +1,31 @@
 -- Each frame and each try that is written stands where the graph says: within an entry of its open's lowest object, or as a reply.
-use Rattle.std.proofs.Common.{◌≡◌, ◌⊎◌, inl, inr, ℕ, ◌<◌, false, not, cond, List, [], ◌∷◌, ◌++◌, length, refl, sym, ◌∙◌, ap, subst, append_assoc, append-nil, arith}
+use Rattle.std.proofs.Common.{◌≡◌, ◌⊎◌, inl, inr, ℕ, ◌+◌, ◌<◌, Bool, true, false, not, cond, map, List, [], ◌∷◌, ◌++◌, length, refl, sym, ◌∙◌, ap, subst, append_assoc, append-nil, arith}
+use Rattle.std.specs.List.{flat_map}
 use Rattle.std.proofs.lemmas.Bool.{true≢false}
 use Rattle.nb_terms.specs.declared.event.Event.{Event as GraphRecord}
 use Rattle.nb_defs.specs.Records.{Out, step, sent, text, command, result, script, opened, tried, advanced, ended, graph, part, done}
-use Rattle.nb_stack.specs.Brings.{Brought}
+use Rattle.nb_stack.specs.Brings.{Brought, nothing as nothing_brought, arp_message, datagram, echo_request, echo_reply, segment}
 use Rattle.nb_stack.specs.Takes.{reply_of}
-use Rattle.nb_tftp.specs.History.{Call}
+use Rattle.nb_tftp.specs.History.{Call, ticked}
 use Rattle.nb_traced.specs.Plain.{is_graph, without_graph}
-use Rattle.nb_laws.specs.Events.{Event, hears, puts, outputs, EachEvent}
+use Rattle.nb_laws.specs.Events.{Event, starts, hears, waits, stops, puts, outputs, EachEvent}
 use Rattle.nb_laws.specs.Histories.{client}
-use Rattle.nb_laws.specs.Lists.{Opening, live, call_at}
-use Rattle.nb_laws.specs.Frames.{IsPut, IsDue, by_call, by_opening, stays_due}
+use Rattle.nb_laws.specs.Lists.{Opening, live, call_at, time}
+use Rattle.nb_laws.specs.Frames.{IsPut, IsDue, by_call, by_stream, by_opening, stays_due}
+use Rattle.nb_laws.specs.Webs.{takes_segment, segment_in, came_at, ComesToNone}
+use Rattle.nb_machine.specs.Connections.{arrived_segment}
+use Rattle.nb_streams.specs.Segments.{Arrival}
+use Rattle.nb_streams.specs.Talking.{Came, by_segment, by_time, by_task}
+use Rattle.nb_webs.specs.Webs.{NoTask}
+use Rattle.nb_laws.specs.Endings.{is_off}
 use Rattle.nb_laws.specs.Frames as frames
 use Rattle.nb_laws.proofs.Tellings.{told}
 use Rattle.nb_lawful.proofs.Solitude.{Solitude}
 use Rattle.nb_openlaws.proofs.UsedEvents.{IsUsed}
-use Rattle.nb_traced.specs.Entries.{RunsInEntry, IsOutside}
+use Rattle.nb_traced.specs.Entries.{EntryArrival, RunsInEntry, IsOutside}
 use Rattle.nb_traced.specs.Places.{FrameStands, FramesStand, TriesStand, by_open, by_step}
 use Rattle.nb_boot.specs.Stepped.{NoneLives}
-use Rattle.nb_boot.specs.Entries.{FrameLeaves, by_entry, by_reply, plain, LeavesSo}
+use Rattle.nb_boot.specs.Entries.{way_of, event_number, segment_arrival, arrival_at, FrameLeaves, by_entry, by_reply, plain, LeavesSo}
 use Rattle.nb_boot.proofs.EntryAlone.{Known, alone_then, one_lives}
 use Rattle.nb_boot.proofs.EntryComings.{HaveNoGraph}
 use Rattle.nb_boot.proofs.EntryHistories.{outputs_append, plain_events_append}
@@ -60,25 +67,90 @@ last_out [] (z ∷ b) x y e = absurd (no_out b y (out_tails x z [] (b ++ y ∷ [
 last_out (z ∷ a) [] x y e = absurd (no_out a x (sym (out_tails z y (a ++ x ∷ []) [] e)))
 last_out (z ∷ a) (w ∷ b) x y e = last_out a b x y (out_tails z w (a ++ x ∷ []) (b ++ y ∷ []) e)
 
+-- something arrives at open k with this event
+pub record ArrivesSome (k : ℕ) (es : List Event) (e : Event) : Type 0 where
+  pub arrives : EntryArrival
+  pub rest : List EntryArrival
+  pub at : arrival_at k es e ≡ arrives ∷ rest
+
+by_a_call : (k : ℕ) (es : List Event) (e : Event) (call : Call) → call_at k es e ≡ call ∷ [] → ArrivesSome k es e
+by_a_call k es e call is = record {
+  arrives = record { number = event_number e; way = way_of call };
+  rest = flat_map (segment_arrival e) (came_at k es e);
+  at = ap (λ cs. map (λ c. record { number = event_number e; way = way_of c }) cs ++ flat_map (segment_arrival e) (came_at k es e)) is;
+}
+
+starts_otherwise : (b : Bool) (m : Arrival) (t : ℕ) (others : List (Came NoTask)) (now : ℕ) (rest : List (Came NoTask)) → cond b (by_segment m t ∷ []) [] ++ others ≡ by_time now ∷ rest →
+    (others ≡ by_time now ∷ rest → ⊥) → ⊥
+starts_otherwise true m t others now rest is none = absurd (let no : by_segment m t ∷ others ≡ by_time now ∷ rest = is in cc)
+starts_otherwise false m t others now rest is none = none is
+
+-- a segment comes with a frame, and where a time comes to a connection, it is a call too
+segment_alone : (n t : ℕ) (m : Brought) (os : List Opening) (now : ℕ) (rest : List (Came NoTask)) → flat_map (segment_in n t m) os ≡ by_time now ∷ rest → ⊥
+segment_alone n t m [] now rest is = absurd (cc)
+segment_alone n t (segment from p g) (o ∷ os) now rest is =
+    starts_otherwise (takes_segment o p.src.0 g.src_port g.dst_port) (arrived_segment n g) t (flat_map (segment_in n t (segment from p g)) os) now rest is (segment_alone n t (segment from p g) os now rest)
+segment_alone n t nothing_brought (o ∷ os) now rest is = segment_alone n t nothing_brought os now rest is
+segment_alone n t (arp_message from arp) (o ∷ os) now rest is = segment_alone n t (arp_message from arp) os now rest is
+segment_alone n t (datagram p d) (o ∷ os) now rest is = segment_alone n t (datagram p d) os now rest is
+segment_alone n t (echo_request from p x) (o ∷ os) now rest is = segment_alone n t (echo_request from p x) os now rest is
+segment_alone n t (echo_reply p x) (o ∷ os) now rest is = segment_alone n t (echo_reply p x) os now rest is
+
+after_calls : (f : Call → EntryArrival) (calls : List Call) (x : EntryArrival) (rest : List EntryArrival) → (a : EntryArrival) × (more : List EntryArrival) × (map f calls ++ x ∷ rest ≡ a ∷ more)
+after_calls f [] x rest = (x, rest, refl)
+after_calls f (c ∷ cs) x rest = (f c, map f cs ++ x ∷ rest, refl)
+
+abbrev times_of : ℕ → List Opening → List (Came NoTask)
+times_of now os = flat_map (λ o. by_time now ∷ []) os
+
+abbrev ticks_of : ℕ → List Opening → List Call
+ticks_of now os = flat_map (λ o. ticked now ∷ []) os
+
+by_some_time : (k n ms : ℕ) (es : List Event) (os : List Opening) (c : Came NoTask) → live k es ≡ os → came_at k es (waits n ms) ≡ c ∷ [] → ArrivesSome k es (waits n ms)
+by_some_time k n ms es [] c lives one = absurd (let no : [] ≡ c ∷ [] = sym (ap (λ (z : List Opening). times_of (time es + ms) z) lives) ∙ one in cc)
+by_some_time k n ms es (o ∷ os) c lives one = record {
+  arrives = record { number = n; way = 3 };
+  rest = map (λ x. record { number = n; way = way_of x }) (ticks_of (time es + ms) os) ++ flat_map (segment_arrival (waits n ms)) (came_at k es (waits n ms));
+  at = ap (λ (z : List Opening). map (λ x. record { number = n; way = way_of x }) (ticks_of (time es + ms) z) ++ flat_map (segment_arrival (waits n ms)) (came_at k es (waits n ms))) lives;
+}
+
+by_some_stream : (k : ℕ) (es : List Event) (e : Event) (c : Came NoTask) → came_at k es e ≡ c ∷ [] → ArrivesSome k es e
+by_some_stream k es e (by_task task now) is = absurd task
+by_some_stream k es e (by_segment m now) is =
+    let x = after_calls (λ c. record { number = event_number e; way = way_of c }) (call_at k es e) (record { number = event_number e; way = 0 }) [] in
+    record {
+      arrives = x.0;
+      rest = x.1;
+      at = ap (λ ss. map (λ c. record { number = event_number e; way = way_of c }) (call_at k es e) ++ flat_map (segment_arrival e) ss) is ∙ x.2;
+    }
+by_some_stream k es (starts n s) (by_time now) is = absurd (cc)
+by_some_stream k es (stops n) (by_time now) is = absurd (cc)
+by_some_stream k es (puts o) (by_time now) is = absurd (cc)
+by_some_stream k es (hears n bytes m) (by_time now) is = absurd (segment_alone n (time es) m (live k es) now [] is)
+by_some_stream k es (waits n ms) (by_time now) is = by_some_time k n ms es (live k es) (by_time now) refl is
+
 -- what is due in the step of a record has come with it
-pub due_at : (k : ℕ) (es before : List Event) (e : Event) → IsUsed e → IsDue k es → es ≡ before ++ e ∷ [] → (call : Call) × (call_at k before e ≡ call ∷ [])
+pub due_at : (k : ℕ) (es before : List Event) (e : Event) → IsUsed e → IsDue k es → es ≡ before ++ e ∷ [] → ArrivesSome k before e
 due_at k es before e used (by_call b x call is) at =
-    let l = same_last b before x e at in (call, subst (λ z. call_at k z e ≡ call ∷ []) l.front (subst (λ z. call_at k b z ≡ call ∷ []) l.last is))
+    let l = same_last b before x e at in by_a_call k before e call (subst (λ z. call_at k z e ≡ call ∷ []) l.front (subst (λ z. call_at k b z ≡ call ∷ []) l.last is))
+due_at k es before e used (by_stream b x c is) at =
+    let l = same_last b before x e at in by_some_stream k before e c (subst (λ z. came_at k z e ≡ c ∷ []) l.front (subst (λ z. came_at k b z ≡ c ∷ []) l.last is))
 due_at k es before e used (by_opening b kind server port own target) at =
     let l = same_last b before (puts (opened k kind server port own target)) e at in absurd (subst IsUsed (sym l.last) used)
 due_at k es before e used (stays_due b o due) at = let l = same_last b before (puts o) e at in absurd (subst IsUsed (sym l.last) used)
 
 -- WHERE A RECORD STANDS
 
--- a reply to this frame has no bytes, or no open lives
+-- a reply to this frame, where it comes to no connection, has no bytes, or no open lives
 abbrev pub RepliesNothing : List Event → Type 0
-RepliesNothing es = (b : List Event) (n : ℕ) (taken : List ℕ) (m : Brought) → es ≡ b ++ hears n taken m ∷ [] → (reply_of (client b) m ≡ []) ⊎ NoneLives es
+RepliesNothing es = (b : List Event) (n : ℕ) (taken : List ℕ) (m : Brought) → es ≡ b ++ hears n taken m ∷ [] → ComesToNone b m → (reply_of (client b) m ≡ []) ⊎ NoneLives es
 
--- One open lives at most. Where a FRAME stands directly after a STEP, nothing is due of an open that lives; and what stands here is no reply, unless
--- none of the graph's records follows.
+-- One open lives at most. Where a FRAME stands directly after a STEP, nothing is due of an open that lives, and none lives in that of OFF; and what
+-- stands here is no reply, unless none of the graph's records follows.
 pub record Context (w : List Event) (more : List Out) : Type 0 where
   pub alone : Solitude (plain w)
   pub due : (bytes : List ℕ) (rest : List Out) → more ≡ sent bytes ∷ rest → (earlier : List Out) (n : ℕ) → outputs w ≡ earlier ++ step n ∷ [] → (k : ℕ) → IsDue k (plain w) → live k (plain w) ≡ []
+  pub shut : (bytes : List ℕ) (rest : List Out) → more ≡ sent bytes ∷ rest → (earlier : List Out) (n : ℕ) → outputs w ≡ earlier ++ step n ∷ [] → is_off (plain w) ≡ true → (k : ℕ) → live k (plain w) ≡ []
   pub silent : RepliesNothing (plain w) ⊎ (HaveNoGraph more × IsOutside (outputs w))
 
 one_open : (o : Opening) (os : List Opening) → os ≡ [] → os ≡ o ∷ [] → ⊥
@@ -91,13 +163,17 @@ not_outside : (k : ℕ) (outs : List Out) → RunsInEntry k outs → IsOutside o
 not_outside k outs within none = let no : [] ≡ within.object ∷ within.outer = sym none ∙ within.runs in absurd (cc)
 
 frame_leaves : (w : List Event) (bytes : List ℕ) (more : List Out) → Context w (sent bytes ∷ more) → FrameStands (outputs w) → IsPut (plain w) bytes → FrameLeaves (outputs w) (plain w) bytes
-frame_leaves w bytes more c (by_step earlier n at outside) (frames.by_reply b i taken m last is some) = by_reply outside (record { before = b; number = i; taken = taken; message = m; last = last; reply = is })
+frame_leaves w bytes more c (by_step earlier n at outside) (frames.by_reply b i taken m last alone is some) = by_reply outside (record { before = b; number = i; taken = taken; message = m; last = last; alone = alone; reply = is })
 frame_leaves w bytes more c (by_step earlier n at outside) (frames.by_open k leaving due) = absurd (one_open leaving.opening (live k (plain w)) (c.due bytes more refl earlier n at k due) leaving.lives)
+frame_leaves w bytes more c (by_step earlier n at outside) (frames.by_closing k leaving kind closes off) = absurd (one_open leaving.opening (live k (plain w)) (c.shut bytes more refl earlier n at off k) leaving.lives)
+frame_leaves w bytes more c (by_open j within) (frames.by_closing k leaving kind closes off) =
+    let l = lives_within j w c.alone within in
+    by_entry k (subst (λ z. RunsInEntry z (outputs w)) (one_lives (plain w) j k l.0 leaving.opening c.alone l.1 leaving.lives) within.within) leaving
 frame_leaves w bytes more c (by_open j within) (frames.by_open k leaving due) =
     let l = lives_within j w c.alone within in
     by_entry k (subst (λ z. RunsInEntry z (outputs w)) (one_lives (plain w) j k l.0 leaving.opening c.alone l.1 leaving.lives) within.within) leaving
-frame_leaves w bytes more c (by_open j within) (frames.by_reply b i taken m last is some) = elim c.silent [
-  | inl quiet ↦ elim (quiet b i taken m last) [
+frame_leaves w bytes more c (by_open j within) (frames.by_reply b i taken m last alone is some) = elim c.silent [
+  | inl quiet ↦ elim (quiet b i taken m last alone) [
     | inl none ↦ absurd (some_bytes bytes some (is ∙ none))
     | inr nobody ↦ let l = lives_within j w c.alone within in absurd (one_open l.0 (live j (plain w)) (nobody j) l.1)
   ]
@@ -140,7 +216,8 @@ put_context : (w : List Event) (o : Out) (more : List Out) → is_graph o ≡ fa
 put_context w o more plainly other known c = record {
   alone = subst Solitude (sym (plain_put w o plainly)) (alone_then (plain w) (puts o) known c.alone);
   due = λ bytes rest is earlier n at k due. absurd (other n (last_out (outputs w) earlier o (step n) (sym (outputs_append w (puts o ∷ [])) ∙ at)));
-  silent = inl (λ b n taken m e.
+  shut = λ bytes rest is earlier n at off k. absurd (other n (last_out (outputs w) earlier o (step n) (sym (outputs_append w (puts o ∷ [])) ∙ at)));
+  silent = inl (λ b n taken m e alone.
       let l = same_last (plain w) b (puts o) (hears n taken m) (sym (plain_put w o plainly) ∙ e) in
       let no : puts o ≡ hears n taken m = l.last in absurd (cc));
 }
@@ -149,6 +226,8 @@ graph_context : (w : List Event) (h : GraphRecord) (more : List Out) → Context
 graph_context w h more c = record {
   alone = subst Solitude (sym (plain_graph w h)) c.alone;
   due = λ bytes rest is earlier n at k due.
+      let no : graph h ≡ step n = last_out (outputs w) earlier (graph h) (step n) (sym (outputs_append w (puts (graph h) ∷ [])) ∙ at) in absurd (cc);
+  shut = λ bytes rest is earlier n at off k.
       let no : graph h ≡ step n = last_out (outputs w) earlier (graph h) (step n) (sym (outputs_append w (puts (graph h) ∷ [])) ∙ at) in absurd (cc);
   silent = quiet_next c.silent;
 }

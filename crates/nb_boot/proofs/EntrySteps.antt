@@ -1,22 +1,24 @@
 -- What a run used and wrote agrees with its history: how each step begins, what entered the opens, and where what they sent stands.
-use Rattle.std.proofs.Common.{◌≡◌, ◌⊎◌, inl, inr, ℕ, ◌+◌, ◌==◌, cond, List, [], ◌∷◌, ◌++◌, refl, sym, ◌∙◌, ap, subst, append_assoc, append-nil}
+use Rattle.std.proofs.Common.{◌≡◌, ◌⊎◌, inl, inr, ℕ, ◌+◌, ◌==◌, true, false, cond, List, [], ◌∷◌, ◌++◌, refl, sym, ◌∙◌, ap, subst, append_assoc, append-nil}
 use Rattle.nb_defs.specs.Records.{In, Out, step, sent, graph}
 use Rattle.nb_ledger.specs.Flat.{way_number}
 use Rattle.nb_stack.specs.Brings.{Brought}
 use Rattle.nb_stack.specs.Takes.{reply_of}
-use Rattle.nb_tftp.specs.History.{Call}
 use Rattle.nb_traced.specs.Plain.{without_graph}
 use Rattle.nb_machine.specs.Courses.{Progress, Course}
 use Rattle.nb_laws.specs.Events.{Event, starts, hears, waits, stops, puts, outputs, EachEvent}
 use Rattle.nb_laws.specs.Histories.{IsHistory, client}
-use Rattle.nb_laws.specs.Lists.{gathered, call_at}
+use Rattle.nb_laws.specs.Lists.{gathered, live}
+use Rattle.nb_laws.specs.Endings.{off_by, is_off}
+use Rattle.nb_laws.specs.Webs.{ComesToNone}
 use Rattle.nb_laws.proofs.Histories.{each_append, one_history}
-use Rattle.nb_laws.proofs.Tellings.{told}
+use Rattle.nb_laws.proofs.Tellings.{told, live_same}
+use Rattle.std.proofs.lemmas.List.Sums.{fold-append}
 use Rattle.nb_lawful.proofs.CourseLaws.{has_one}
 use Rattle.nb_lawful.proofs.Runs.{Story, course_story}
 use Rattle.nb_lawful.proofs.Solitude.{Solitude}
 use Rattle.nb_lawful.proofs.StepOpens.{opens_give}
-use Rattle.nb_openlaws.proofs.UsedEvents.{IsUsed}
+use Rattle.nb_openlaws.proofs.UsedEvents.{IsUsed, used_same}
 use Rattle.nb_traced.specs.Entries.{EntryArrival, came_to, IsOutside}
 use Rattle.nb_traced.specs.Holdings.{Holdings}
 use Rattle.nb_traced.specs.LowestObjects.{GraphSoFar}
@@ -35,7 +37,7 @@ use Rattle.nb_boot.proofs.EntryArrivals.{step_comes}
 use Rattle.nb_boot.proofs.EntryFrames.{StepComes}
 use Rattle.nb_boot.proofs.EntryComings.{HaveNoGraph, arrivals_more, arrivals_told}
 use Rattle.nb_boot.proofs.EntryHistories.{FirstUsed, all_told, each_first, each_last, outputs_append, plain_events_append, plain_told, plain_used, told_outputs, used_history, written_history}
-use Rattle.nb_boot.proofs.EntryPlaces.{Context, RepliesNothing, all_told_so, due_at, same_last}
+use Rattle.nb_boot.proofs.EntryPlaces.{Context, RepliesNothing, ArrivesSome, all_told_so, due_at, same_last}
 use Rattle.nb_boot.proofs.Following.{follows_course}
 
 came_append : (k : ℕ) (xs ys : List Arrived) → came_to k (xs ++ ys) ≡ came_to k xs ++ came_to k ys
@@ -70,21 +72,39 @@ leaves_used w (waits n ms) used = tt
 leaves_used w (stops n) used = tt
 
 -- where something comes to an open, no FRAME stands directly after the STEP
-not_due : (es : List Event) (e : Event) (more : List Out) (bytes : List ℕ) (rest : List Out) (k : ℕ) (call : Call) → IsUsed e → StartsSo es e more → more ≡ sent bytes ∷ rest → call_at k es e ≡ call ∷ [] → ⊥
-not_due es (puts o) more bytes rest k call used so is comes = used
-not_due es (starts n s) more bytes rest k call used so is comes = let no : [] ≡ call ∷ [] = comes in cc
-not_due es (hears n b m) more bytes rest k call used so is comes = let f = so.enters k call comes in let no : sent bytes ∷ rest ≡ graph _ ∷ f.more = sym is ∙ f.all in cc
-not_due es (waits n ms) more bytes rest k call used so is comes = let f = so.enters k call comes in let no : sent bytes ∷ rest ≡ graph _ ∷ f.more = sym is ∙ f.all in cc
-not_due es (stops n) more bytes rest k call used so is comes = let no : [] ≡ call ∷ [] = comes in cc
+not_due : (es : List Event) (e : Event) (more : List Out) (bytes : List ℕ) (rest : List Out) (k : ℕ) → IsUsed e → StartsSo es e more → more ≡ sent bytes ∷ rest → ArrivesSome k es e → ⊥
+not_due es (puts o) more bytes rest k used so is comes = used
+not_due es (starts n s) more bytes rest k used so is comes = let no : [] ≡ comes.arrives ∷ comes.rest = comes.at in cc
+not_due es (hears n b m) more bytes rest k used so is comes = let f = so.enters k comes.arrives comes.rest comes.at in let no : sent bytes ∷ rest ≡ graph _ ∷ f.more = sym is ∙ f.all in cc
+not_due es (waits n ms) more bytes rest k used so is comes = let f = so.enters k comes.arrives comes.rest comes.at in let no : sent bytes ∷ rest ≡ graph _ ∷ f.more = sym is ∙ f.all in cc
+not_due es (stops n) more bytes rest k used so is comes = let no : [] ≡ comes.arrives ∷ comes.rest = comes.at in cc
+
+-- nor does it in the step of OFF, where an open lives
+off_last : (es : List Event) (e : Event) → is_off (es ++ e ∷ []) ≡ off_by (is_off es) e
+unfolding is_off
+off_last es e = fold-append off_by false es (e ∷ [])
+
+none_shut : (es : List Event) (e : Event) (more : List Out) (bytes : List ℕ) (rest : List Out) (k : ℕ) → Solitude es → IsUsed e → StartsSo es e more → more ≡ sent bytes ∷ rest → is_off (es ++ e ∷ []) ≡ true → live k (es ++ e ∷ []) ≡ []
+none_shut es (puts o) more bytes rest k a used so is off = absurd used
+none_shut es (starts n s) more bytes rest k a used so is off = let no : false ≡ true = sym (off_last es (starts n s)) ∙ off in absurd (cc)
+none_shut es (hears n b m) more bytes rest k a used so is off = let no : false ≡ true = sym (off_last es (hears n b m)) ∙ off in absurd (cc)
+none_shut es (waits n ms) more bytes rest k a used so is off = let no : false ≡ true = sym (off_last es (waits n ms)) ∙ off in absurd (cc)
+none_shut es (stops n) more bytes rest k a used so is off =
+    let same = used_same k es (stops n) tt (refl, refl) in
+    live_same k (es ++ stops n ∷ []) es same.openings_are same.over_are ∙ elim (a.one k) [
+      | inl none ↦ none
+      | inr one ↦ let f = so k one.0 one.1 in let no : sent bytes ∷ rest ≡ graph _ ∷ f.1 = sym is ∙ f.2 in absurd (cc)
+    ]
 
 -- what stands after the STEP of this event is no reply, unless nothing of the graph's follows
 quiet_other : (es : List Event) (e : Event) → ((n : ℕ) (bytes : List ℕ) (m : Brought) → e ≡ hears n bytes m → ⊥) → RepliesNothing (es ++ e ∷ [])
-quiet_other es e other = λ b n taken m at. absurd (other n taken m (same_last es b e (hears n taken m) at).last)
+quiet_other es e other = λ b n taken m at alone. absurd (other n taken m (same_last es b e (hears n taken m) at).last)
 
-quiet_frame : (es : List Event) (n : ℕ) (bytes : List ℕ) (m : Brought) → reply_of (client es) m ≡ [] → RepliesNothing (es ++ hears n bytes m ∷ [])
-quiet_frame es n bytes m none = λ b i taken x at.
+quiet_frame : (es : List Event) (n : ℕ) (bytes : List ℕ) (m : Brought) → (ComesToNone es m → reply_of (client es) m ≡ []) → RepliesNothing (es ++ hears n bytes m ∷ [])
+quiet_frame es n bytes m none = λ b i taken x at alone.
     let l = same_last es b (hears n bytes m) (hears i taken x) at in
-    inl (subst (λ z. reply_of (client b) z ≡ []) (message_of n i bytes taken m x l.last) (subst (λ z. reply_of (client z) m ≡ []) l.front none))
+    let same : m ≡ x = message_of n i bytes taken m x l.last in
+    inl (subst (λ z. reply_of (client b) z ≡ []) same (subst (λ z. reply_of (client z) m ≡ []) l.front (none (subst (λ z. ComesToNone z m) (sym l.front) (subst (ComesToNone b) (sym same) alone)))))
   where
     message_of : (n i : ℕ) (b c : List ℕ) (x y : Brought) → hears n b x ≡ hears i c y → x ≡ y
     message_of n i b c x y e = cc
@@ -121,7 +141,9 @@ module _ (all : List Out) (framed : FramesStand all) (tried_so : TriesStand all)
       let context : Context w more = record {
         alone = subst Solitude (sym plain_w) (alone_then before e known_here (course_alone ins (without_graph outs) p before c h));
         due = λ bytes rest is earlier n there k due.
-            let d = due_at k (plain w) before e u.used due plain_w in absurd (not_due before e more bytes rest k d.0 u.used comes.starts_so is d.1);
+            let d = due_at k (plain w) before e u.used due plain_w in absurd (not_due before e more bytes rest k u.used comes.starts_so is d);
+        shut = λ bytes rest is earlier n there off k.
+            subst (λ z. live k z ≡ []) (sym plain_w) (none_shut before e more bytes rest k (course_alone ins (without_graph outs) p before c h) u.used comes.starts_so is (subst (λ z. is_off z ≡ true) plain_w off));
         silent = subst (λ z. RepliesNothing z ⊎ (HaveNoGraph more × IsOutside (outputs w))) (sym plain_w) (silent_after before e came more (outputs w) u.used outside_w comes);
       } in
       let at_w : all ≡ outputs w ++ (more ++ later) =
@@ -149,7 +171,8 @@ module _ (all : List Out) (framed : FramesStand all) (tried_so : TriesStand all)
       let context : Context w added = record {
         alone = subst Solitude (sym i.without) alone;
         due = λ bytes rest is earlier n there k due. nobody_w k;
-        silent = inl (λ b n taken m is. inr nobody_w);
+        shut = λ bytes rest is earlier n there off k. nobody_w k;
+        silent = inl (λ b n taken m is alone. inr nobody_w);
       } in
       let at_w : all ≡ outputs w ++ (added ++ later) = at ∙ append_assoc outs added later ∙ ap (λ z. z ++ (added ++ later)) (sym i.written) in
       let put_there = all_told_so all framed tried_so w added later at_w (subst (λ z. EachEvent Known z (told (without_graph added))) (sym i.without) known_after) context in

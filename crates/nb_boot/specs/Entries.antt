@@ -1,13 +1,17 @@
 -- What the records of the object graph say of the contents of entries, for objects of any kind and chains of any length: what enters the
 -- lowest object of an open is what the open received, and what goes down out of it is what was put.
 use Rattle.std.specs.Prelude.{◌≡◌, ℕ, Bool, false, not, List, [], ◌∷◌, ◌++◌, map, filter, Some}
+use Rattle.std.specs.List.{flat_map}
 use Rattle.nb_defs.specs.Records.{Out, step, sent, tried}
 use Rattle.nb_stack.specs.Brings.{Brought}
 use Rattle.nb_stack.specs.Takes.{reply_of}
 use Rattle.nb_tftp.specs.History.{Call, came, ticked}
+use Rattle.nb_streams.specs.Talking.{Came, by_segment, by_time, by_task}
+use Rattle.nb_webs.specs.Webs.{NoTask}
 use Rattle.nb_laws.specs.Events.{Event, starts, hears, waits, stops, puts, outputs, EachEvent}
 use Rattle.nb_laws.specs.Histories.{client}
 use Rattle.nb_laws.specs.Lists.{gathered, call_at}
+use Rattle.nb_laws.specs.Webs.{came_at, ComesToNone}
 use Rattle.nb_laws.specs.Frames.{IsSent}
 use Rattle.nb_traced.specs.Plain.{is_graph}
 use Rattle.nb_traced.specs.LowestObjects.{graph_so_far}
@@ -26,22 +30,30 @@ event_number (waits n ms) = n
 event_number (stops n) = n
 event_number (puts o) = 0
 
-abbrev pub arrival_at : ℕ → List Event → Event → List EntryArrival
-arrival_at k before e = map (λ c. record { number = event_number e; way = way_of c }) (call_at k before e)
+-- a segment; a time comes to every open, and stands among its calls
+abbrev pub segment_arrival : Event → Came NoTask → List EntryArrival
+segment_arrival e (by_segment m now) = record { number = event_number e; way = 0 } ∷ []
+segment_arrival e (by_time now) = []
+segment_arrival e (by_task task now) = []
 
--- the datagrams, echo replies and times that came to open k while it lived, each in its step
+abbrev pub arrival_at : ℕ → List Event → Event → List EntryArrival
+arrival_at k before e = map (λ c. record { number = event_number e; way = way_of c }) (call_at k before e) ++ flat_map (segment_arrival e) (came_at k before e)
+
+-- the datagrams, echo replies, segments and times that came to open k while it lived, each in its step
 unfoldable pub arrivals : ℕ → List Event → List EntryArrival
 arrivals k es = gathered (arrival_at k) [] es
 
 -- WHAT GOES DOWN OUT OF IT
 
--- the record used last is a frame, nothing else stands since its STEP, and it is replied to with this
+-- the record used last is a frame, which comes to the port of no connection that lives, nothing else stands since its STEP, and it is replied
+-- to with this
 pub record IsReplied (es : List Event) (bytes : List ℕ) : Type 0 where
   pub before : List Event
   pub number : ℕ
   pub taken : List ℕ
   pub message : Brought
   pub last : es ≡ before ++ hears number taken message ∷ []
+  pub alone : ComesToNone before message
   pub reply : bytes ≡ reply_of (client before) message
 
 -- Why a FRAME stands after these records, which without those of the graph are this history: an open may send it, and the entry that runs is
@@ -74,9 +86,9 @@ pub record EntriesAgree (outs closing : List Out) (history : List Event) : Type 
   pub whole : List Event
   pub written : outputs whole ≡ outs
   pub without : plain whole ≡ history
-  -- the lowest object of each open is entered from outside once for each datagram, echo reply and time that comes to the open, in that step
+  -- the lowest object of each open is entered from outside once for each datagram, echo reply, segment and time that comes to the open, in that step
   pub entered : (k : ℕ) → entries k outs ≡ arrivals k history
-  -- what it sends stands within those entries, or that of its beginning, and nothing that an open sends stands elsewhere
+  -- what it sends stands within those entries, or those of its beginning and its close, and nothing that an open sends stands elsewhere
   pub leaves : EachEvent LeavesSo [] whole
   -- no two opens have the same lowest object
   pub own : (j k x : ℕ) → (graph_so_far (outs ++ closing)).lowest j ≡ Some x → (graph_so_far (outs ++ closing)).lowest k ≡ Some x → j ≡ k

@@ -1,7 +1,7 @@
 pub mod Words
 pub mod InTurn
-pub mod Stepped
 pub mod Entries
+pub mod Stepped
 pub mod Shown
 pub mod Following
 pub mod Run

@@ -7,12 +7,13 @@ use Rattle.nb_ledger.specs.declared.event.Way.{Way}
 use Rattle.nb_ledger.specs.declared.event.Way.TheVariants as way
 use Rattle.nb_ledger.specs.declared.event.GraphEvent.TheVariants.{Entered}
 use Rattle.nb_traced.specs.Plain.{without_graph}
-use Rattle.nb_tftp.specs.History.{Call}
+use Rattle.nb_traced.specs.Entries.{EntryArrival}
+use Rattle.nb_boot.specs.Entries.{arrival_at}
 use Rattle.nb_machine.specs.CommandRecords.{stopped_cause}
 use Rattle.nb_network.specs.Takes.{ClosesFirst}
 use Rattle.nb_laws.specs.Events.{Event, starts, hears, waits, stops, puts, used_by, written_by}
 use Rattle.nb_laws.specs.Histories.{IsHistory, IsRead}
-use Rattle.nb_laws.specs.Lists.{Opening, live, call_at}
+use Rattle.nb_laws.specs.Lists.{Opening, live}
 
 -- the first of these records says that an object is entered so
 pub record EntersFirst (by : Way) (outs : List Out) : Type 0 where
@@ -22,8 +23,8 @@ pub record EntersFirst (by : Way) (outs : List Out) : Type 0 where
 
 -- Where this comes to an open, the records of a step begin with an entry by this way, whatever comes of it; and where nothing
 -- comes to any, none of them is the graph's.
-pub record EntersWith (by : Way) (comes : ℕ → List Call) (more : List Out) : Type 0 where
-  pub enters : (k : ℕ) (call : Call) → comes k ≡ call ∷ [] → EntersFirst by more
+pub record EntersWith (by : Way) (comes : ℕ → List EntryArrival) (more : List Out) : Type 0 where
+  pub enters : (k : ℕ) (arrival : EntryArrival) (rest : List EntryArrival) → comes k ≡ arrival ∷ rest → EntersFirst by more
   pub still : ((k : ℕ) → comes k ≡ []) → without_graph more ≡ more
 
 -- no open lives
@@ -34,12 +35,12 @@ NoneLives es = (k : ℕ) → live k es ≡ []
 abbrev pub ShutsLive : List Event → List Out → Type 0
 ShutsLive es outs = (k : ℕ) (o : Opening) → live k es ≡ o ∷ [] → ClosesFirst stopped_cause outs
 
--- What stands after a STEP, by the events before it: nothing of the graph's in that of START; a datagram or an echo reply that an open receives enters from below, a
--- time that passes while an open lives enters as a time, and OFF shuts the graph.
+-- What stands after a STEP, by the events before it: nothing of the graph's in that of START; a datagram, an echo reply or a segment
+-- that an open receives enters from below, a time that passes while an open lives enters as a time, and OFF shuts the graph.
 abbrev pub StartsSo : List Event → Event → List Out → Type 0
 StartsSo before (starts n s) more = without_graph more ≡ more
-StartsSo before (hears n bytes m) more = EntersWith way.Up (λ k. call_at k before (hears n bytes m)) more
-StartsSo before (waits n ms) more = EntersWith way.Time (λ k. call_at k before (waits n ms)) more
+StartsSo before (hears n bytes m) more = EntersWith way.Up (λ k. arrival_at k before (hears n bytes m)) more
+StartsSo before (waits n ms) more = EntersWith way.Time (λ k. arrival_at k before (waits n ms)) more
 StartsSo before (stops n) more = ShutsLive before more
 StartsSo before (puts o) more = ⊥
 

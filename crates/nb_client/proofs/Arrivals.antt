@@ -3,16 +3,16 @@ use Rattle.std.proofs.Common.{◌≡◌, ℕ, ◌+◌, Bool, true, false, ◌||�
 use Rattle.std.specs.Prelude.{map, slice_get}
 use Rattle.std.specs.List.{list_any}
 use Rattle.nb_defs.specs.Records.{In, frame, tick, Out}
-use Rattle.nb_stack.specs.Brings.{Brings, Brought, datagram, echo_reply}
+use Rattle.nb_stack.specs.Brings.{Brings, Brought, datagram, echo_reply, segment}
 use Rattle.nb_stack.specs.Client.{Client}
 use Rattle.nb_stack.proofs.MessageLaws.{message_one}
-use Rattle.nb_machine.specs.Kinds.{is_for, is_reply_for}
+use Rattle.nb_machine.specs.Kinds.{is_for, is_reply_for, is_segment_for}
 use Rattle.nb_machine.specs.Lives.{Live, OpenInput, time}
-use Rattle.nb_machine.specs.Network.{Network, brings, brings_reply, is_for_one, on_net0, passes_by, passes_time}
+use Rattle.nb_machine.specs.Network.{Network, brings, brings_reply, brings_segment, is_for_one, on_net0, passes_by, passes_time}
 use Rattle.nb_machine.specs.States.{State}
 use Rattle.nb_machine.specs.Takings.{AllTake, Over, all_have}
 use Rattle.nb_traced.specs.Outputs.{Arrived}
-use Rattle.nb_network.specs.Takes.{ArrivesAt, at_all, at_echo, at_none, at_port}
+use Rattle.nb_network.specs.Takes.{ArrivesAt, at_all, at_connection, at_echo, at_none, at_port}
 
 any_at : (f : Live → Bool) (xs ys : List Live) (x : Live) → f x ≡ true → list_any f (xs ++ x ∷ ys) ≡ true
 any_at f [] ys x is = ap (λ b. b || list_any f ys) is
@@ -47,15 +47,19 @@ by_frame s n bytes link m put s' overs get b none (brings _ _ _ link' p d before
     absurd (not_for s 0 link link' bytes m (datagram p d) get get' b b' none (subst (λ ls. list_any (is_for 0 p d) ls ≡ true) (sym live) (any_at (is_for 0 p d) before behind l is)))
 by_frame s n bytes link m put s' overs get b none (brings_reply _ _ _ link' p e before behind after l _ _ (on_net0 _) get' b' live is x y take) =
     absurd (not_for s 0 link link' bytes m (echo_reply p e) get get' b b' none (subst (λ ls. list_any (is_reply_for 0 p e) ls ≡ true) (sym live) (any_at (is_reply_for 0 p e) before behind l is)))
+by_frame s n bytes link m put s' overs get b none (brings_segment _ _ _ link' from p g before behind after l _ _ (on_net0 _) get' b' live is x y take) =
+    absurd (not_for s 0 link link' bytes m (segment from p g) get get' b b' none (subst (λ ls. list_any (is_segment_for 0 p g) ls ≡ true) (sym live) (any_at (is_segment_for 0 p g) before behind l is)))
 
 by_tick : (s : State) (n ms : ℕ) (put : List Out) (s' : State) (overs : List Over) → s.live ≡ [] → Network s n (tick ms) put s' overs → overs ≡ []
 by_tick s n ms put s' overs none (passes_time _ after _ _ take) = none_take (subst (λ ls. AllTake s.devices (time (s.now + ms)) ls put after overs) none take)
 by_tick s n ms put s' overs none (passes_by _ device _ link m on get b free) = refl
 by_tick s n ms put s' overs none (brings _ device _ link p d before behind after l _ _ on get b live is x y take) = elim on [ ]
 by_tick s n ms put s' overs none (brings_reply _ device _ link p e before behind after l _ _ on get b live is x y take) = elim on [ ]
+by_tick s n ms put s' overs none (brings_segment _ device _ link from p g before behind after l _ _ on get b live is x y take) = elim on [ ]
 
 pub none_ends : (s : State) (n : ℕ) (r : In) (put : List Out) (s' : State) (overs : List Over) (came : List Arrived) → ArrivesAt s n r came → came ≡ [] → Network s n r put s' overs → overs ≡ []
 none_ends s n r put s' overs came (at_none _ _ bytes link m (on_net0 _) get b free) none net = by_frame s n bytes link m put s' overs get b free net
 none_ends s n r put s' overs came (at_port _ device bytes link p d before behind l on get b live is) none net = absurd (cc)
 none_ends s n r put s' overs came (at_echo _ device bytes link p e before behind l on get b live is) none net = absurd (cc)
+none_ends s n r put s' overs came (at_connection _ device bytes link from p g before behind l on get b live is) none net = absurd (cc)
 none_ends s n r put s' overs came (at_all ms) none net = by_tick s n ms put s' overs (no_live _ s.live none) net

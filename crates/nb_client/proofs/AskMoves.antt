@@ -11,7 +11,8 @@ use Rattle.nb_machine.specs.States.{with_one_made, with_opened}
 use Rattle.nb_network.specs.Many.{FitsHoldings}
 use Rattle.nb_traced.specs.Plain.{without_graph}
 use Rattle.nb_record.specs.Logged.{Logged}
-use Rattle.nb_runner.proofs.CommandLaws.{keeps_table_in, keeps_up_in, world_stays}
+use Rattle.nb_machine.proofs.Words.{keeps_table_in, keeps_up_in}
+use Rattle.nb_runner.proofs.CommandLaws.{world_stays}
 use Rattle.nb_runner.proofs.Measures.{further_nearer}
 use Rattle.nb_runner.specs.CommandWords.{wanted_of}
 use Rattle.nb_runner.specs.Steps.{moves_in, moves_outside}

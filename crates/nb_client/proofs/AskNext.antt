@@ -1,12 +1,16 @@
 -- The open that is next makes a move, or no more may be made.
-use Rattle.std.proofs.Common.{◌≡◌, ℕ, ◌+◌, ◌*◌, ◌<◌, ◌≤◌, List, [], ◌∷◌, ◌++◌, refl, sym, ◌∙◌, ap, subst, append-nil, append_assoc, arith, sum_by}
+use Rattle.std.proofs.Common.{◌≡◌, ℕ, ◌+◌, ◌*◌, ◌<◌, ◌≤◌, List, [], ◌∷◌, ◌++◌, refl, sym, ◌∙◌, ap, subst, append-nil, append_assoc, arith}
+use Rattle.std.specs.List.{AllByRecursion}
 use Rattle.nb_terms.specs.declared.cause.Cause.{Cause}
 use Rattle.nb_defs.specs.Records.{Out, result}
 use Rattle.nb_machine.specs.Courses.{opens_onward, finds_no_way, opens_no_more, reaching, running, stands, waiting}
 use Rattle.nb_machine.specs.Effects.{full_opens}
+use Rattle.nb_machine.specs.Errands.{Onward as Next-onward}
 use Rattle.nb_machine.specs.Lives.{Live}
+use Rattle.nb_machine.specs.Scripts.{job_onward, live_onward}
+use Rattle.nb_machine.specs.States.{State}
 use Rattle.nb_machine.specs.Running.{Running, with_result}
-use Rattle.nb_network.specs.Many.{lease_count}
+use Rattle.nb_network.specs.Many.{IsUntied}
 use Rattle.nb_traced.specs.Plain.{without_graph}
 use Rattle.nb_traced.proofs.Plain.{plain_behind}
 use Rattle.nb_record.specs.Logged.{Logged}
@@ -17,8 +21,8 @@ use Rattle.nb_runner.specs.declared.errand.Onward.TheVariants as onward
 use Rattle.nb_runner.specs.declared.world.World.{World}
 use Rattle.nb_traced.specs.Outputs.{Traced, apart}
 use Rattle.nb_traced.specs.Pieces.{event_records}
-use Rattle.nb_client.specs.Asked.{job_asked, live_asked}
-use Rattle.nb_client.specs.Openings.{IsOpenedIn, OpensNext, asked_onward, opens_it, opens_none, sets_out, turns_back}
+use Rattle.nb_client.specs.Asked.{asked_onward, job_asked, live_asked}
+use Rattle.nb_client.specs.Openings.{IsOpenedIn, OpensNext, opens_it, opens_none, sets_out, turns_back}
 use Rattle.nb_client.specs.Progressing.{LeadsToSnapshot, TracesTo, most_moves}
 use Rattle.nb_client.specs.Snapshots.{Snapshot, at_running, snapshot, state_of_world}
 use Rattle.nb_client.specs.Soundness.{IsSound}
@@ -29,29 +33,38 @@ use Rattle.nb_client.specs.declared.stage.Stage.TheVariants as stage
 use Rattle.nb_client.proofs.Moves.{one_move}
 use Rattle.nb_client.proofs.Standing.{stands_at}
 
+-- what is opened next is the machine's, and so is what is done with what comes of it
+live_same : (t : State) (x : Onward) → live_asked t (asked_onward x) ≡ live_onward t (onward_of x)
+live_same t (onward.File wanted) = refl
+live_same t (onward.Echo server) = refl
+live_same t (onward.Name errand name by) = refl
+
+job_same : (x : Onward) → job_asked (asked_onward x) ≡ job_onward (onward_of x)
+job_same (onward.File wanted) = refl
+job_same (onward.Echo server) = refl
+job_same (onward.Name errand name by) = refl
+
+leads_opened : (n : ℕ) (w : World) (live : List Live) (s : Running) (next : Next-onward) (put : List Out) (after : Snapshot) → w.opens < 16384 →
+    IsOpenedIn (state_of_world w live) (live_onward (state_of_world w live) next) (job_onward next) s w.outer n put after →
+    LeadsToSnapshot [] (stands n (reaching (state_of_world w live) s w.outer next)) put after
+leads_opened n w live s next put after few (sets_out link more to dev first stood) = record {
+  progress = stands n (waiting _ _);
+  steps = one_move _ _ _ (opens_onward n (state_of_world w live) s w.outer next link more few dev first);
+  stands = stood;
+}
+leads_opened n w live s next put after few (turns_back link to dev first stood) = record {
+  progress = stands n (running _ _ w.outer);
+  steps = one_move _ _ _ (finds_no_way n (state_of_world w live) s w.outer next link few dev first);
+  stands = stood;
+}
+
 leads_next : (n : ℕ) (w : World) (live : List Live) (s : Running) (x : Onward) (put : List Out) (after : Snapshot) → w.opens < 16384 →
     IsOpenedIn (state_of_world w live) (live_asked (state_of_world w live) (asked_onward x)) (job_asked (asked_onward x)) s w.outer n put after →
     LeadsToSnapshot [] (stands n (reaching (state_of_world w live) s w.outer (onward_of x))) put after
-leads_next n w live s (onward.File wanted) put after few (sets_out link more to dev first stood) = record {
-  progress = stands n (waiting _ _);
-  steps = one_move _ _ _ (opens_onward n (state_of_world w live) s w.outer (onward_of (onward.File wanted)) link more few dev first);
-  stands = stood;
-}
-leads_next n w live s (onward.File wanted) put after few (turns_back link to dev first stood) = record {
-  progress = stands n (running _ _ w.outer);
-  steps = one_move _ _ _ (finds_no_way n (state_of_world w live) s w.outer (onward_of (onward.File wanted)) link few dev first);
-  stands = stood;
-}
-leads_next n w live s (onward.Echo server) put after few (sets_out link more to dev first stood) = record {
-  progress = stands n (waiting _ _);
-  steps = one_move _ _ _ (opens_onward n (state_of_world w live) s w.outer (onward_of (onward.Echo server)) link more few dev first);
-  stands = stood;
-}
-leads_next n w live s (onward.Echo server) put after few (turns_back link to dev first stood) = record {
-  progress = stands n (running _ _ w.outer);
-  steps = one_move _ _ _ (finds_no_way n (state_of_world w live) s w.outer (onward_of (onward.Echo server)) link few dev first);
-  stands = stood;
-}
+leads_next n w live s x put after few o =
+    let t = state_of_world w live in
+    leads_opened n w live s (onward_of x) put after few
+    (subst (λ l. IsOpenedIn t l (job_onward (onward_of x)) s w.outer n put after) (live_same t x) (subst (λ j. IsOpenedIn t (live_asked t (asked_onward x)) j s w.outer n put after) (job_same x) o))
 
 with_result_near : (s : Running) (cause : Cause) → moves_in (with_result s cause) < moves_in s + 1
 with_result_near s cause = omega arith
@@ -115,8 +128,8 @@ next_goes {old} {new} s k before after sound (opens_none now full used world is 
         sound = record {
           time = sound.time;
           opens = lets.sound;
-          serials = subst (λ x. x ≤ 3 * w.opens) (sym lets.serials) sound.serials;
-          leases = subst (λ xs. sum_by (λ x. lease_count x.kind) xs ≡ 0) (sym lets.same_list) sound.leases;
+          serials = subst (λ x. x ≤ 4 * w.opens) (sym lets.serials) sound.serials;
+          tied = subst (AllByRecursion IsUntied) (sym lets.same_list) sound.tied;
           well = tt;
           short = sound.short;
           named = sound.named;

@@ -105,7 +105,7 @@ down_goes {before} {after} {l0} {l1} {old} {new} n w s ws sound early d k puts =
               traces = λ outs h so_far tr fits. trace_down s next ws n k outs h so_far tr
                   (record { state = fits.state; living = fits.living; waiting = fits.waiting; numbered = subst (λ x. h.begun ≤ x) (sym same) fits.numbered });
             };
-        sound = record { time = c.time; opens = c.opens; serials = c.serials; leases = c.leases; well = tt; short = c.short; named = c.named; linked = c.linked };
+        sound = record { time = c.time; opens = c.opens; serials = c.serials; tied = c.tied; well = tt; short = c.short; named = c.named; linked = c.linked };
         under_way = tt;
       };
       nearer = λ _.

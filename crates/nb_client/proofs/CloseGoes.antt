@@ -30,7 +30,7 @@ closed_sound {cause} {first} {front} {before} {after} {old} {new} {used} n at so
   time = let same : after.world.time ≡ before.world.time = ap (λ (w : World). w.time) k.world in omega (arith, same, sound.time, more);
   opens = rw (ap (λ (w : World). w.w) k.world, ap (λ (w : World). w.opens) k.world) k.sound;
   serials = let same : after.world.opens ≡ before.world.opens = ap (λ (w : World). w.opens) k.world in omega (arith, same, sound.serials, k.serials);
-  leases = rw k.none refl;
+  tied = rw k.none tt;
   well = k.none;
   short = rw k.world sound.short;
   named = rw k.world sound.named;

@@ -23,7 +23,8 @@ use Rattle.nb_runner.specs.NextCommand.{HasCommand, HasRefused}
 use Rattle.nb_client.specs.Turning.{ComesToEnd, IsCarriedOutBy, found_by_script, left_by}
 use Rattle.nb_client.specs.Leading.{ConcludesNow}
 use Rattle.nb_client.specs.Openings.{Intends}
-use Rattle.nb_runner.proofs.CommandLaws.{effect_in_of, effect_in_of_plan, effect_of_words, table_of_words, up_of_words, shown_of_words, effect_of_refused, table_of_refused, up_of_refused, shown_of_refused, effect_of_plan, table_of_plan, up_of_plan, world_stays}
+use Rattle.nb_machine.proofs.Words.{effect_in_of, effect_in_of_plan, effect_of_words, table_of_words, up_of_words, shown_of_words, effect_of_refused, table_of_refused, up_of_refused, shown_of_refused, effect_of_plan, table_of_plan, up_of_plan}
+use Rattle.nb_runner.proofs.CommandLaws.{world_stays}
 
 -- a command whose words are expanded ends at once, and leaves the world as it was
 pub ends_expanded : (s : Running) (w : World) (ws : List (List ℕ)) (o : CommandOutcome) → IsLinkOfState w → HasCommand s w.state.table ws →

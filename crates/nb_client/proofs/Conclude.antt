@@ -1,55 +1,37 @@
 -- What comes of a file whose open has ended.
-use Rattle.std.proofs.Common.{◌≡◌, ℕ, ◌+◌, ◌<◌, ◌≤◌, Bool, true, false, cond, List, [], ◌∷◌, ◌++◌, length, Option, Some, None, refl, sym, ◌∙◌, ap, subst, arith, append-nil, append_assoc}
+use Rattle.std.proofs.Common.{◌≡◌, ℕ, ◌<◌, ◌≤◌, Bool, true, false, List, [], ◌∷◌, ◌++◌, length, None, refl, sym, ◌∙◌, ap, subst, arith, append-nil, append_assoc}
 use Rattle.std.specs.Prelude.{unwrap_or, Result, Ok, Err, IfOk, OnOk}
 use Rattle.nb_terms.specs.declared.cause.Cause.{Cause}
 use Rattle.nb_defs.specs.Causes.{is_ok_cause, ok}
-use Rattle.nb_defs.specs.Records.{Out, out_texts, result}
-use Rattle.nb_record.specs.Logged.{Logged, Puts}
+use Rattle.nb_defs.specs.Records.{Out, result}
+use Rattle.nb_record.specs.Logged.{Logged}
 use Rattle.nb_traced.specs.Plain.{without_graph}
-use Rattle.nb_image.specs.declared.error.ImageError.{ImageError}
-use Rattle.nb_image.specs.declared.image.Image.{Image}
-use Rattle.nb_image.specs.declared.kind.ImageKind.{ImageKind}
-use Rattle.nb_image.specs.declared.kind.ImageKind.TheVariants.{Script, BzImage, Elf, Efi, Other}
-use Rattle.nb_image.specs.Images.{ImageList, refusal}
-use Rattle.nb_image.specs.Kinds.{kind_of}
-use Rattle.nb_imagecmd.specs.declared.arriving.Arrival.{Arrival}
-use Rattle.nb_imagecmd.specs.declared.asking.After.{After}
-use Rattle.nb_imagecmd.specs.declared.asking.After.TheVariants as after
+use Rattle.nb_image.specs.Images.{ImageList}
 use Rattle.nb_imagecmd.specs.declared.asking.Asking.{Asking}
-use Rattle.nb_imagecmd.specs.declared.error.ImageFailure.{ImageFailure}
-use Rattle.nb_imagecmd.specs.declared.error.ImageFailure.TheVariants.{ManyScripts}
-use Rattle.nb_imagecmd.specs.Arriving.{ArrivalAnswer, arrived, arrived_image, arrives_as, listed_place, runs_kind, script_gone, selected_listed, taken_unless}
-use Rattle.nb_imagecmd.specs.Executing.{is_too_deep, script_of}
-use Rattle.nb_imagecmd.specs.declared.arriving.Arrival.TheVariants as arrival
-use Rattle.nb_machine.specs.Conclusions.{conclusion, conclusion_records, file_conclusion, handoff_records}
+use Rattle.nb_machine.specs.Conclusions.{conclusion, handoff_records}
 use Rattle.nb_machine.specs.Courses.{ConclusionLeads, LeadsTo, Standing, handing}
 use Rattle.nb_machine.specs.Kinds.{fetched}
 use Rattle.nb_machine.specs.Lives.{Live}
 use Rattle.nb_machine.specs.Running.{Running}
-use Rattle.nb_machine.specs.Scripts.{Upshot, by_end, concluded_by, concludes, upshot_records}
+use Rattle.nb_machine.specs.Scripts.{Upshot, by_end, concluded_by, concludes, place_moved_to, upshot_fetched, upshot_records}
 use Rattle.nb_machine.specs.States.{State, with_images, with_live}
 use Rattle.nb_machine.specs.Takings.{Over}
-use Rattle.nb_runner.specs.CommandWords.{FitsFile}
-use Rattle.nb_runner.specs.Handings.{IsShortImage, AreShortImages, records_left}
+use Rattle.nb_runner.specs.CommandWords.{wanted_of}
 use Rattle.nb_runner.specs.ImageDeeds.{IsConcludedWell, conclusion_of}
-use Rattle.nb_runner.specs.Steps.{moves_between, moves_in, moves_outside}
 use Rattle.nb_runner.specs.World.{world_with_images}
-use Rattle.nb_client.specs.Asked.{job_asked, pieces_beside}
-use Rattle.nb_client.specs.declared.pending.Expected.TheVariants.{Open}
+use Rattle.nb_client.specs.Asked.{job_asked}
 use Rattle.nb_runner.specs.declared.errand.Wanted.{Wanted}
 use Rattle.nb_runner.specs.declared.images.Conclusion.{Conclusion}
 use Rattle.nb_runner.specs.declared.images.Conclusion.TheVariants as concluded
 use Rattle.nb_runner.specs.declared.world.World.{World}
-use Rattle.nb_traced.specs.Holdings.{Holdings}
 use Rattle.nb_traced.specs.Outputs.{Traced, apart}
-use Rattle.nb_network.specs.Many.{AreSound, FitsHoldings}
+use Rattle.nb_network.specs.Many.{AreSound}
 use Rattle.nb_network.specs.Takes.{IsEndOf}
 use Rattle.nb_network.specs.declared.over.HasEnded.{HasEnded}
-use Rattle.nb_client.specs.Concluding.{ArrivesWell, handing_of}
+use Rattle.nb_client.specs.Concluding.{handing_of, moved_place}
 use Rattle.nb_client.specs.Closings.{ShutsAll}
 use Rattle.nb_client.specs.Leading.{LeadsOnBy}
-use Rattle.nb_runner.proofs.HandingLemmas.{all_remove, begins_at, handoff_few, with_short}
-use Rattle.nb_runner.proofs.ImageLaws.{deep_enough}
+use Rattle.nb_runner.proofs.HandingLemmas.{begins_at, handoff_few}
 use Rattle.nb_client.proofs.Served.{state_is}
 use Rattle.nb_client.specs.Serving.{Concludes}
 use Rattle.nb_client.specs.Snapshots.{Snapshot, at_handing, state_of_world}
@@ -64,42 +46,6 @@ pub if_all : {A E : Type 0} {P S : A → Type 0} {Q R : Type 0} (r : Result A E)
 if_all (Ok x) f p q r = f x p q r
 if_all (Err e) f p q r = tt
 
--- WHAT A FILE LEAVES
-
-abbrev LeavesShort : ℕ → ArrivalAnswer → Type 0
-LeavesShort depth answer = IfOk answer (λ x. ArrivesWell depth x.0 x.1)
-
-listed_short : (image : Image) (list : ImageList) → IsShortImage image → AreShortImages list.images → AreShortImages (selected_listed image list).images
-listed_short image list one all = with_short image list.images one all
-
-script_short : (image : Image) (replace : Bool) (depth : ℕ) (list : ImageList) → IsShortImage image → AreShortImages list.images → (b : Bool) → is_too_deep replace depth ≡ b →
-    LeavesShort depth (cond b (Err ManyScripts) (Ok (arrival.Run (script_of image) replace, script_gone image list)))
-script_short image replace depth list one all true e = tt
-script_short image replace depth list one all false e = (all_remove IsShortImage (selected_listed image list).images (listed_place image list) (listed_short image list one all), deep_enough replace depth e)
-
-kind_short : (kind : ImageKind) (image : Image) (replace : Bool) (depth : ℕ) (list : ImageList) → IsShortImage image → AreShortImages list.images → LeavesShort depth (runs_kind kind image replace depth list)
-kind_short Script image replace depth list one all = script_short image replace depth list one all (is_too_deep replace depth) refl
-kind_short BzImage image replace depth list one all = (listed_short image list one all, listed_place image list, refl)
-kind_short Elf image replace depth list one all = (listed_short image list one all, listed_place image list, refl)
-kind_short Efi image replace depth list one all = (listed_short image list one all, listed_place image list, refl)
-kind_short Other image replace depth list one all = tt
-
-after_short : (a : After) (image : Image) (depth : ℕ) (list : ImageList) → IsShortImage image → AreShortImages list.images → LeavesShort depth (arrives_as a image depth list)
-after_short after.Keep image depth list one all = listed_short image list one all
-after_short after.Select image depth list one all = listed_short image list one all
-after_short (after.Run replace) image depth list one all = kind_short (kind_of image.body) image replace depth list one all
-
-unless_short : (why : Option ImageError) (a : After) (image : Image) (depth : ℕ) (list : ImageList) → IsShortImage image → AreShortImages list.images → LeavesShort depth (taken_unless why a image depth list)
-unless_short (Some why) a image depth list one all = tt
-unless_short None a image depth list one all = after_short a image depth list one all
-
-pub arrives_well : (asking : Asking) (body uri : List ℕ) (depth : ℕ) (list left : ImageList) (a : Arrival) → FitsFile asking → length body ≤ 268435456 → AreShortImages list.images → arrived asking body uri depth list ≡ Ok (a, left) → ArrivesWell depth a left
-unfolding arrived
-arrives_well asking body uri depth list left a fits few all is =
-    let image = arrived_image asking body uri in
-    let one : IsShortImage image = record { name = omega (arith, fits.name); body = few; args = omega (arith, fits.args) } in
-    subst (λ (r : ArrivalAnswer). LeavesShort depth r) is (unless_short (refusal image list.images) asking.after image depth list one all)
-
 -- WHAT THE MACHINE CONCLUDES
 
 -- a failure doesn't depend on the file
@@ -110,11 +56,19 @@ conclusion_same cause asking x y depth list same = by (is_ok_cause cause) refl
     by true e = ap (λ b. conclusion cause asking b depth list) (same e)
     by false e = rw e refl
 
--- what the machine concludes of the open is what was concluded of what it handed out
-concluded_same : (asking : Asking) (e : HasEnded) (o : Over) (depth : ℕ) (list : ImageList) → IsEndOf e o →
+-- the place to which the file was moved is the one that was handed out
+pub place_same : (e : HasEnded) (o : Over) → IsEndOf e o → place_moved_to o ≡ moved_place e
+place_same e o is = by (is_ok_cause e.cause) refl
+  where
+    by : (t : Bool) → is_ok_cause e.cause ≡ t → place_moved_to o ≡ moved_place e
+    by true fine = rw (is.cause, fine, is.moved fine) refl
+    by false bad = rw (is.cause, bad) refl
+
+-- what the machine concludes of the open is what was concluded of what it handed out, where it wasn't moved
+concluded_same : (asking : Asking) (e : HasEnded) (o : Over) (depth : ℕ) (list : ImageList) → moved_place e ≡ None → IsEndOf e o →
     conclusion o.cause asking (fetched o.live) depth list ≡ conclusion e.cause asking (unwrap_or e.body []) depth list
-concluded_same asking e o depth list is =
-    ap (λ c. conclusion c asking (fetched o.live) depth list) is.cause ∙ conclusion_same e.cause asking _ _ depth list (λ fine. is.body fine)
+concluded_same asking e o depth list stays is =
+    ap (λ c. conclusion c asking (fetched o.live) depth list) is.cause ∙ conclusion_same e.cause asking _ _ depth list (λ fine. is.body fine (rw fine at stays))
 
 -- where it leads doesn't depend on the images before
 pub leads_before : (t : State) (list : ImageList) (depth : ℕ) (s : Running) (outer : List Running) (c : Conclusion) (more : List Out) (to : Standing) → IsConcludedWell c depth t.images list →
@@ -133,16 +87,17 @@ module _ (before : Site) (s : Running) (wanted : Wanted) (p : Pending) (e : HasE
   abbrev mid : Site
   mid = record before { world = world_with_images w images }
 
-  -- a file was concluded, and that was carried on
-  pub file_concludes : (c : Conclusion) (after : Snapshot) (old new : Logged) → conclusion e.cause wanted.asking (unwrap_or e.body []) s.depth w.state.images ≡ conclusion_of c images → IsConcludedWell c s.depth w.state.images images →
-      LeadsOnBy s c mid after old new → Concludes p e s before after old new
-  file_concludes c after old new same well l = record {
+  -- what the machine concludes is what was concluded, and that was carried on
+  pub led_concludes : (c : Conclusion) (after : Snapshot) (old new : Logged) →
+      ((live : List Live) (o : Over) → IsEndOf e o → concluded_by (state_of_world w live) s.depth (job_asked p.asked) (by_end o) ≡ concludes (conclusion_of c images)) →
+      IsConcludedWell c s.depth w.state.images images → LeadsOnBy s c mid after old new → Concludes p e s before after old new
+  led_concludes c after old new same well l = record {
     rest = l.rest;
     puts = l.puts;
     comes = λ live are o is.
         let t = state_of_world w live in
         let there = l.comes live are in
-        let upshot : concluded_by t s.depth (job_asked p.asked) (by_end o) ≡ concludes (conclusion_of c images) = rw asks (ap concludes (concluded_same wanted.asking e o s.depth w.state.images is ∙ same)) in
+        let upshot = same live o is in
         record {
           more = there.more;
           to = there.to;
@@ -154,6 +109,13 @@ module _ (before : Site) (s : Running) (wanted : Wanted) (p : Pending) (e : HasE
     sound = l.sound;
     under_way = l.under_way;
   }
+
+  -- a file was concluded
+  pub file_concludes : (c : Conclusion) (after : Snapshot) (old new : Logged) → moved_place e ≡ None → conclusion e.cause wanted.asking (unwrap_or e.body []) s.depth w.state.images ≡ conclusion_of c images →
+      IsConcludedWell c s.depth w.state.images images → LeadsOnBy s c mid after old new → Concludes p e s before after old new
+  file_concludes c after old new stays same = led_concludes c after old new (λ live o is.
+      let t = state_of_world w live in
+      rw asks (ap (upshot_fetched t s.depth (wanted_of wanted) o) (place_same e o is ∙ stays) ∙ ap concludes (concluded_same wanted.asking e o s.depth w.state.images stays is ∙ same)))
 
 -- AN IMAGE IS HANDED OFF
 
@@ -188,7 +150,7 @@ boots_leads {old} {new} before after s kernel sound within few same shut =
         time = rw (shut.world, same) sound.time;
         opens = subst (λ z. AreSound z.w z.opens after.world.net after.opens) (sym shut.world) shut.sound;
         serials = rw (shut.serials, shut.world) sound.serials;
-        leases = rw shut.none refl;
+        tied = rw shut.none tt;
         well = (rw shut.world (begins_at images kernel within sound.short), shut.none);
         short = rw shut.world sound.short;
         named = rw shut.world sound.named;

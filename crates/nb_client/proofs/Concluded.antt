@@ -1,6 +1,6 @@
 -- A command on images that waits for nothing makes a move.
 use Rattle.std.proofs.Common.{◌≡◌, ℕ, ◌+◌, ◌-◌, ◌*◌, ◌<◌, ◌≤◌, true, List, [], ◌∷◌, ◌++◌, refl, sym, ◌∙◌, ap, subst, arith, append-nil, append_assoc, length-drop}
-use Rattle.nb_defs.specs.Records.{Out, out_texts}
+use Rattle.nb_defs.specs.Records.{out_texts}
 use Rattle.nb_record.specs.Logged.{Logged, Puts}
 use Rattle.nb_traced.specs.Plain.{without_graph}
 use Rattle.nb_image.specs.Images.{ImageList}
@@ -8,7 +8,6 @@ use Rattle.nb_machine.specs.CommandRecords.{command_record}
 use Rattle.nb_machine.specs.Conclusions.{conclusion_records}
 use Rattle.nb_machine.specs.Courses.{ConclusionLeads, Proceeds, concludes_there, running, stands}
 use Rattle.nb_machine.specs.Effects.{concludes_at_once, shown_as}
-use Rattle.nb_machine.specs.Lives.{Live}
 use Rattle.nb_machine.specs.Running.{Running, entered}
 use Rattle.nb_network.specs.Many.{FitsHoldings, Many}
 use Rattle.nb_runner.specs.ImageDeeds.{IsConcludedWell, IsDeedWell, MayFollow, conclusion_of}
@@ -23,7 +22,7 @@ use Rattle.nb_runner.specs.declared.images.Conclusion.TheVariants as concluded
 use Rattle.nb_runner.specs.declared.world.World.{World}
 use Rattle.nb_traced.specs.Outputs.{Traced, commands}
 use Rattle.nb_client.specs.Leading.{ConcludesNow, LeadsOnBy}
-use Rattle.nb_client.specs.Progressing.{LeadsToSnapshot, ProceedsTo, TracesTo}
+use Rattle.nb_client.specs.Progressing.{ProceedsTo, TracesTo}
 use Rattle.nb_client.specs.Snapshots.{Snapshot, snapshot, state_of_world}
 use Rattle.nb_client.specs.Soundness.{IsSound}
 use Rattle.nb_client.specs.Turning.{MovesOn}
@@ -44,7 +43,7 @@ follows (concluded.Runs script replace) depth before after may well = well.0
 -- the client stays sound with other images
 pub images_sound : (n : ℕ) (w : World) (m : Many) (s : Running) (images : ImageList) → MayFollow images → IsSound n w m (stage.Running s) → IsSound n (world_with_images w images) m (stage.Running s)
 images_sound n w m s images may x =
-    record { time = x.time; opens = x.opens; serials = x.serials; leases = x.leases; well = tt; short = may.short; named = may.named; linked = record { address = x.linked.address; up = x.linked.up } }
+    record { time = x.time; opens = x.opens; serials = x.serials; tied = x.tied; well = tt; short = may.short; named = may.named; linked = record { address = x.linked.address; up = x.linked.up } }
 
 -- a command that has begun leaves so many moves fewer
 entered_near : (s : Running) → s.begun < 4096 → moves_in (entered s) + moves_between ≤ moves_in s

@@ -73,7 +73,7 @@ piece_goes {old} {new} n w m h h' sound does =
                 fits = record { state = fits.state; living = fits.living; waiting = fits.waiting; numbered = fits.numbered };
               };
             };
-        sound = record { time = sound.time; opens = sound.opens; serials = sound.serials; leases = sound.leases; well = (does.0, sound.well.1); short = sound.short; named = sound.named; linked = sound.linked };
+        sound = record { time = sound.time; opens = sound.opens; serials = sound.serials; tied = sound.tied; well = (does.0, sound.well.1); short = sound.short; named = sound.named; linked = sound.linked };
         under_way = tt;
       };
       nearer = λ _. let fewer : length (records_left images h) ≡ length (k.next ∷ records_left images h') = ap length k.left in omega (arith, fewer);
@@ -105,7 +105,7 @@ handed_goes {old} {new} n w m h h' sound does =
                 fits = record { state = fits.state; living = fits.living; waiting = fits.waiting; numbered = fits.numbered };
               };
             };
-        sound = record { time = sound.time; opens = sound.opens; serials = sound.serials; leases = sound.leases; well = sound.well.1; short = sound.short; named = sound.named; linked = sound.linked };
+        sound = record { time = sound.time; opens = sound.opens; serials = sound.serials; tied = sound.tied; well = sound.well.1; short = sound.short; named = sound.named; linked = sound.linked };
         under_way = tt;
       };
       nearer = λ x. absurd x;

@@ -7,10 +7,13 @@ pub mod Served
 pub mod Waits
 pub mod Results
 pub mod Starts
+pub mod ImagesLeft
 pub mod Conclude
+pub mod Moved
 pub mod Settle
 pub mod Settles
 pub mod OpenRecords
+pub mod WebAsks
 pub mod OpenStates
 pub mod OpenSites
 pub mod Nested

@@ -1,5 +1,5 @@
 -- What a script's next line does where no open is concerned.
-use Rattle.std.proofs.Common.{◌≡◌, ℕ, ◌+◌, ◌*◌, ◌<◌, ◌≤◌, true, false, List, [], ◌∷◌, ◌++◌, length, Option, Some, None, refl, sym, ◌∙◌, ap, subst, arith, append-nil}
+use Rattle.std.proofs.Common.{◌≡◌, ℕ, ◌+◌, ◌*◌, ◌<◌, ◌≤◌, Bool, true, false, List, [], ◌∷◌, ◌++◌, length, Option, Some, None, refl, sym, ◌∙◌, ap, subst, arith, append-nil}
 use Rattle.std.proofs.lemmas.List.Sums.{sum_by-cons}
 use Rattle.std.specs.List.{AllByRecursion}
 use Rattle.nb_terms.specs.declared.cause.Cause.{Cause}
@@ -12,7 +12,7 @@ use Rattle.nb_traced.specs.Plain.{without_graph}
 use Rattle.nb_runner.specs.declared.world.World.{World}
 use Rattle.nb_runner.specs.NextCommand.{IsStepFull, IsScriptLeft, HasPassed}
 use Rattle.nb_runner.specs.Steps.{Does, GoesToLabel, moves_in, moves_left, moves_outside}
-use Rattle.nb_runner.specs.World.{world_within}
+use Rattle.nb_runner.specs.World.{world_with, world_within}
 use Rattle.nb_runner.proofs.Measures.{further_nearer, jump_nearer}
 use Rattle.nb_runner.proofs.Puts.{Puts-nothing}
 use Rattle.nb_machine.specs.CommandRecords.{command_record, command_records, prints}
@@ -25,6 +25,8 @@ use Rattle.nb_traced.specs.Holdings.{Holdings}
 use Rattle.nb_traced.specs.Outputs.{Arrived, Traced}
 use Rattle.nb_traced.specs.Pieces.{IsApart}
 use Rattle.nb_network.specs.Many.{AreOpensOf, Many}
+use Rattle.nb_network.proofs.Sound.{sound_untied}
+use Rattle.nb_settings.specs.Tables.{TableLists}
 use Rattle.nb_client.specs.Progressing.{IsAtWork, ProceedsTo, most_moves, no_further, one_further}
 use Rattle.nb_client.specs.Snapshots.{StandsForProgress, at_running, at_waiting, at_yielded, at_left, at_returning, pieces_waiting, snapshot, state_of_world, waiting_for}
 use Rattle.nb_client.specs.Soundness.{IsSound, WasStarted, snapshot_at}
@@ -78,11 +80,11 @@ quiet_under_way stage.Stopped q = absurd q
 
 -- the client is as sound as it was where a script ran
 pub quiet_sound : {n : ℕ} {w : World} {m : Many} {s : Running} (st : Stage) → IsQuiet st → IsSound n w m (stage.Running s) → IsSound n w m st
-quiet_sound (stage.Running s) q x = record { time = x.time; opens = x.opens; serials = x.serials; leases = x.leases; well = tt; short = x.short; named = x.named; linked = x.linked }
-quiet_sound (stage.Yielded s) q x = record { time = x.time; opens = x.opens; serials = x.serials; leases = x.leases; well = tt; short = x.short; named = x.named; linked = x.linked }
-quiet_sound (stage.Returning s cause) q x = record { time = x.time; opens = x.opens; serials = x.serials; leases = x.leases; well = tt; short = x.short; named = x.named; linked = x.linked }
-quiet_sound (stage.Left cause) q x = record { time = x.time; opens = x.opens; serials = x.serials; leases = x.leases; well = tt; short = x.short; named = x.named; linked = x.linked }
-quiet_sound (stage.Waiting s (Moment time)) q x = record { time = x.time; opens = x.opens; serials = x.serials; leases = x.leases; well = tt; short = x.short; named = x.named; linked = x.linked }
+quiet_sound (stage.Running s) q x = record { time = x.time; opens = x.opens; serials = x.serials; tied = x.tied; well = tt; short = x.short; named = x.named; linked = x.linked }
+quiet_sound (stage.Yielded s) q x = record { time = x.time; opens = x.opens; serials = x.serials; tied = x.tied; well = tt; short = x.short; named = x.named; linked = x.linked }
+quiet_sound (stage.Returning s cause) q x = record { time = x.time; opens = x.opens; serials = x.serials; tied = x.tied; well = tt; short = x.short; named = x.named; linked = x.linked }
+quiet_sound (stage.Left cause) q x = record { time = x.time; opens = x.opens; serials = x.serials; tied = x.tied; well = tt; short = x.short; named = x.named; linked = x.linked }
+quiet_sound (stage.Waiting s (Moment time)) q x = record { time = x.time; opens = x.opens; serials = x.serials; tied = x.tied; well = tt; short = x.short; named = x.named; linked = x.linked }
 quiet_sound (stage.Waiting s (Open p)) q x = absurd q
 quiet_sound stage.Ready q x = absurd q
 quiet_sound (stage.Reaching s k) q x = absurd q
@@ -155,7 +157,11 @@ pass_goes n w m s t sound passed = record {
 
 -- the scripts outside are others
 pub within_sound : {n : ℕ} {w : World} {m : Many} {s : Running} (outer : List Running) → IsSound n w m (stage.Running s) → IsSound n (world_within w outer) m (stage.Running s)
-within_sound outer x = record { time = x.time; opens = x.opens; serials = x.serials; leases = x.leases; well = tt; short = x.short; named = x.named; linked = record { address = x.linked.address; up = x.linked.up } }
+within_sound outer x = record { time = x.time; opens = x.opens; serials = x.serials; tied = x.tied; well = tt; short = x.short; named = x.named; linked = record { address = x.linked.address; up = x.linked.up } }
+
+-- the settings are others, and the device follows them: no open is tied to the address that it had
+pub settings_sound : {n : ℕ} {w : World} {m : Many} {s : Running} (table : TableLists) (up : Bool) → IsSound n w m (stage.Running s) → IsSound n (world_with w table up) m (stage.Running s)
+settings_sound table up x = record { time = x.time; opens = sound_untied _ _ _ _ _ refl x.tied x.opens; serials = x.serials; tied = x.tied; well = tt; short = x.short; named = x.named; linked = record { address = refl; up = refl } }
 
 pub left_stands : (n : ℕ) (w : World) (now : List Running) (m : Many) (gone : Running) (cause : Cause) (st : Stage) (live : List Live) (outer : List Running) → AreOpensOf m.graph m.list live → LeftTo gone.begun cause outer st now →
     StandsForProgress (snapshot n (world_within w now) m st) (stands n (left (state_of_world w live) (counting_on gone outer) cause))
@@ -219,7 +225,7 @@ back_goes {old} {new} n w m s cause sound puts = record {
             fits = record { state = fits.state; living = fits.living; waiting = fits.waiting; numbered = fits.numbered };
           };
         };
-    sound = record { time = sound.time; opens = sound.opens; serials = sound.serials; leases = sound.leases; well = tt; short = sound.short; named = sound.named; linked = sound.linked };
+    sound = record { time = sound.time; opens = sound.opens; serials = sound.serials; tied = sound.tied; well = tt; short = sound.short; named = sound.named; linked = sound.linked };
     under_way = tt;
   };
   nearer = λ _. omega arith;

@@ -1,12 +1,13 @@
 -- An open for what a command asks, once it was begun: its command waits, or it has ended at once.
-use Rattle.std.proofs.Common.{◌≡◌, ℕ, ◌+◌, ◌*◌, ◌≤◌, List, [], ◌∷◌, ◌++◌, Option, Some, None, refl, sym, ◌∙◌, ap, subst, append-nil, append_assoc, arith, sum_by}
+use Rattle.std.proofs.Common.{◌≡◌, ℕ, ◌+◌, ◌*◌, ◌≤◌, List, [], ◌∷◌, ◌++◌, Option, Some, None, refl, sym, ◌∙◌, ap, subst, append-nil, append_assoc, arith}
+use Rattle.std.specs.List.{AllByRecursion}
 use Rattle.nb_chains.specs.declared.chain.Chain.{Chain}
 use Rattle.nb_terms.specs.declared.cause.Cause.{Cause}
 use Rattle.nb_defs.specs.Records.{Out, out_texts, result}
 use Rattle.nb_ledger.specs.declared.event.GraphEvent.{GraphEvent}
 use Rattle.nb_machine.specs.Lives.{Live, end_record, open_record}
 use Rattle.nb_machine.specs.Running.{Running, with_result}
-use Rattle.nb_network.specs.Many.{AreSound, FitsHoldings, Many, lease_count}
+use Rattle.nb_network.specs.Many.{AreSound, FitsHoldings, Many, IsUntied}
 use Rattle.nb_network.specs.Openings.{OpensOne, begun_records, number_by}
 use Rattle.nb_open.specs.declared.opening.Opening.{Opening}
 use Rattle.nb_open.specs.Begins.{waiting_pieces}
@@ -40,7 +41,7 @@ use Rattle.nb_client.proofs.OpenStates.{goes_back, lives_on, state_is, world_beg
 pub record HasBegun (a : Asked) (o : Opening) (waits left : Option Chain) (before : Site) (net : Client) (m : Many) (ended : Option Cause) (made_text told_text : List ℕ) : Type 0 where
   pub opens : OpensOne before.opens before.world.net before.world.time before.world.opens o (waiting_pieces (chain_kind o) waits) (waiting_pieces (beside_kind a) left) m net ended made_text told_text
   pub sound : AreSound before.world.w (before.world.opens + 1) net m
-  pub serials : m.graph.book.made ≤ 3 * before.world.opens + 3
+  pub serials : m.graph.book.made ≤ 4 * before.world.opens + 4
   pub linked : IsLinkOfState (world_at before.world net before.world.time)
   pub waiting : HasWaiting (beside_kind a) left (number_by ended before.world.opens) m
 
@@ -95,7 +96,7 @@ opened_waits {old} {new} a o waits left shown script before net m sound fits is 
         time = sound.time;
         opens = h.sound;
         serials = omega (arith, h.serials);
-        leases = h.opens.leases sound.leases;
+        tied = h.opens.tied sound.tied;
         well = record { fits = fits; backed = backed; waiting = h.waiting };
         short = sound.short;
         named = sound.named;
@@ -149,7 +150,7 @@ opened_back {old} {mid} {new} a o waits left shown script before begun now cause
         time = sound.time;
         opens = subst (λ (v : World). AreSound v.w (w.opens + 1) begun.world.net now.opens) world lets.sound;
         serials = omega (arith, h.serials, lets.serials);
-        leases = subst (λ xs. sum_by (λ x. lease_count x.kind) xs ≡ 0) (sym lets.same_list) (h.opens.leases sound.leases);
+        tied = subst (AllByRecursion IsUntied) (sym lets.same_list) (h.opens.tied sound.tied);
         well = tt;
         short = sound.short;
         named = sound.named;

@@ -1,10 +1,7 @@
 -- A record comes to the opens that live, in a step of the machine.
 use Rattle.std.proofs.Common.{◌≡◌, ℕ, ◌+◌, List, [], ◌∷◌, ◌++◌, Option, refl, sym, ◌∙◌, ap, subst, append_assoc, arith}
-use Rattle.std.specs.List.{AllByRecursion}
 use Rattle.nb_defs.specs.Records.{In, start, frame, tick, off, Out, out_texts, step}
 use Rattle.nb_record.specs.Logged.{Logged, Puts}
-use Rattle.nb_graph.specs.Whole.{Objects}
-use Rattle.nb_nodes.specs.declared.obj.Obj.{Obj}
 use Rattle.nb_traced.specs.Plain.{without_graph}
 use Rattle.nb_traced.proofs.Plain.{plain_append}
 use Rattle.nb_stack.specs.Client.{Client}
@@ -13,18 +10,17 @@ use Rattle.nb_imagecmd.specs.Promises.{HasShortNames}
 use Rattle.nb_runner.specs.Handings.{AreShortImages}
 use Rattle.nb_machine.specs.Courses.{Progress, Standing, stands, waiting, yielded, StepBegins}
 use Rattle.nb_machine.specs.Lives.{Live}
-use Rattle.nb_machine.specs.Network.{Network, passes_by, brings, brings_reply, passes_time}
+use Rattle.nb_machine.specs.Network.{Network, passes_by, brings, brings_reply, brings_segment, passes_time}
 use Rattle.nb_machine.specs.Running.{Running}
 use Rattle.nb_machine.specs.Scripts.{Waiting}
 use Rattle.nb_machine.specs.States.{State, bare}
 use Rattle.nb_machine.specs.Takings.{Over}
 use Rattle.nb_traced.specs.Holdings.{Holdings}
 use Rattle.nb_traced.specs.Outputs.{Arrived, Traced}
-use Rattle.nb_open.specs.declared.open.Open.{Open}
-use Rattle.nb_open.specs.Open.{LivesSome}
-use Rattle.nb_network.specs.Many.{AreOpensOf, AreSound, FitsHoldings, HasLeaseOnlyOf, IsStateOf, Many}
+use Rattle.nb_network.specs.Many.{AreOpensOf, AreSound, FitsHoldings, HasTiedOnlyOf, IsStateOf, Many}
 use Rattle.nb_network.specs.Takes.{AnswersBy, ArrivesAt, BeginsWithEntry, TakesRecord, Traces, awaited_over}
 use Rattle.nb_network.specs.declared.over.HasEnded.{HasEnded}
+use Rattle.nb_network.proofs.Sound.{some_live}
 use Rattle.nb_client.specs.Progressing.{AdvancesFrom, BringsTo, StandsFirst, TracesTo}
 use Rattle.nb_client.specs.Serving.{Serves, world_at}
 use Rattle.nb_client.specs.Snapshots.{Snapshot, StandsForProgress, pieces_waiting, state_of_world}
@@ -32,11 +28,6 @@ use Rattle.nb_client.specs.Soundness.{IsSound, WasStarted, StandsWell, awaited_a
 use Rattle.nb_client.specs.Turning.{GoesOnBy, IsServed}
 use Rattle.nb_client.specs.declared.site.Site.{Site}
 use Rattle.nb_client.specs.declared.stage.Stage.{Stage}
-
--- the opens that live are some of the machine's
-pub some_live : (g : Objects Obj) (os : List Open) → AllByRecursion (LivesSome g) os → (ls : List Live) × AreOpensOf g os ls
-some_live g [] a = ([], tt)
-some_live g (o ∷ os) a = let rest = some_live g os a.1 in (a.0.0 ∷ rest.0, (a.0.1, rest.1))
 
 -- the state that they are
 pub state_is : (w : World) (m : Many) (live : List Live) → AreOpensOf m.graph m.list live → IsStateOf m w.net w.time (state_of_world w live)
@@ -47,6 +38,7 @@ network_keeps : (s : State) (n : ℕ) (r : In) (put : List Out) (s' : State) (ov
 network_keeps s n r put s' over (passes_by _ device bytes link m on get brought none) = refl
 network_keeps s n r put s' over (brings _ device bytes link p d before behind after l _ _ on get brought live is no_before no_behind take) = refl
 network_keeps s n r put s' over (brings_reply _ device bytes link p e before behind after l _ _ on get brought live is no_before no_behind take) = refl
+network_keeps s n r put s' over (brings_segment _ device bytes link from p g before behind after l _ _ on get brought live is no_before no_behind take) = refl
 network_keeps s n r put s' over (passes_time ms after _ _ take) = refl
 
 after_state : (w : World) (live : List Live) (net : Client) (now : ℕ) (s : State) → s ≡ record (state_of_world w live) { now = s.now; devices = s.devices; live = s.live } →
@@ -105,7 +97,7 @@ takes_some {r} {awaited} {answer} {before} {mid} sound v =
 
 -- the client is sound after it
 pub served_sound : {r : In} {awaited : Option ℕ} {answer : Option HasEnded} {before mid : Site} {old new : Logged} (at st : Stage) → IsSound before.used before.world before.opens at →
-    Serves r awaited answer before mid old new → HasLeaseOnlyOf (awaited_at st) mid.opens → StandsWell st mid.world mid.opens → IsSound mid.used mid.world mid.opens st
+    Serves r awaited answer before mid old new → HasTiedOnlyOf (awaited_at st) mid.opens → StandsWell st mid.world mid.opens → IsSound mid.used mid.world mid.opens st
 served_sound {r} {awaited} {answer} {before} {mid} at st sound v leases well =
     let t = takes_some sound.opens v in
     let same : mid.world.opens ≡ before.world.opens = ap (λ (w : World). w.opens) v.world in
@@ -113,7 +105,7 @@ served_sound {r} {awaited} {answer} {before} {mid} at st sound v leases well =
       time = v.time;
       opens = v.opens;
       serials = omega (arith, t.takes.same_made, same, sound.serials);
-      leases = leases;
+      tied = leases;
       well = well;
       short = subst (λ (w : World). AreShortImages w.state.images.images) (sym v.world) sound.short;
       named = subst (λ (w : World). HasShortNames w.state.images) (sym v.world) sound.named;

@@ -22,7 +22,6 @@ use Rattle.nb_runner.proofs.Puts.{Puts-nothing}
 use Rattle.nb_traced.specs.Outputs.{Traced, apart}
 use Rattle.nb_traced.specs.Pieces.{event_records}
 use Rattle.nb_open.specs.Begins.{waiting_pieces}
-use Rattle.nb_open.specs.Open.{pieces_of}
 use Rattle.nb_network.specs.Many.{IsStateOf}
 use Rattle.nb_runner.specs.World.{world_with}
 use Rattle.nb_network.specs.declared.over.HasEnded.{HasEnded}
@@ -38,7 +37,7 @@ use Rattle.nb_client.specs.declared.site.Site.{Site}
 use Rattle.nb_client.specs.declared.stage.Stage.{Stage}
 use Rattle.nb_client.specs.declared.stage.Stage.TheVariants as stage
 use Rattle.nb_client.proofs.Served.{state_is}
-use Rattle.nb_client.proofs.Settle.{kinds_agree, next_same, settles_so}
+use Rattle.nb_client.proofs.Settle.{kinds_agree, next_lone, next_same, settles_so}
 
 -- records of the graph alone, and others after them
 pub only_graph : (es : List GraphEvent) (outs : List Out) → without_graph (event_records es ++ outs) ≡ without_graph outs
@@ -79,14 +78,14 @@ module _ (before : Site) (s : Running) (e : HasEnded) (p : Pending) (waits : Opt
             numbered = fits.numbered;
           };
         };
-        sound = record { time = sound.time; opens = sound.opens; serials = sound.serials; leases = sound.leases; well = (reaches.fits, rw (kind_is, reaches.waits) (record { beside = λ d i. waiting.beside d (some ∙ i); newest = λ d i. waiting.newest d (some ∙ i) })); short = sound.short; named = sound.named; linked = sound.linked };
+        sound = record { time = sound.time; opens = sound.opens; serials = sound.serials; tied = sound.tied; well = (reaches.fits, record { waiting = subst (λ k. HasWaiting k next.waits None before.opens) (sym kind_is) (subst (λ x. HasWaiting (errand_kind errand) x None before.opens) (some ∙ sym reaches.waits) waiting); lone = next_lone errand next.onward next.waits server.0 next_is }); short = sound.short; named = sound.named; linked = sound.linked };
         under_way = tt;
       })
     where
       host_found : (errand : Named) (name : Text) (by server : Ip4) → FindsServer (Some server) e (query_of (asked.Host errand name by)) → next_found (errand_of errand) e ≡ Some (onward (errand_of errand) server.0)
       host_found errand name by server finds = subst (λ z. next_found (errand_of errand) e ≡ Some (onward z server.0)) (sym finds.1) finds.2
 
-      waiting_is : (d : Chain) → d ≡ c → onward_kind reaches.next.onward ≡ errand_kind errand → pieces_beside (Open p) ≡ pieces_of (onward_kind reaches.next.onward) d
+      waiting_is : (d : Option Chain) → d ≡ Some c → onward_kind reaches.next.onward ≡ errand_kind errand → pieces_beside (Open p) ≡ waiting_pieces (onward_kind reaches.next.onward) d
       waiting_is d i k = rw (asks, same, some, k, i) refl
 
   -- the command was settled
@@ -123,7 +122,7 @@ module _ (before : Site) (s : Running) (e : HasEnded) (p : Pending) (waits : Opt
           time = sound.time;
           opens = rw l.world at lets.sound;
           serials = rw (lets.serials, l.same_opens) sound.serials;
-          leases = rw (lets.same_list, l.same_opens) sound.leases;
+          tied = rw (lets.same_list, l.same_opens) sound.tied;
           well = tt;
           short = sound.short;
           named = sound.named;

@@ -1,7 +1,6 @@
 -- START is used: the first script is entered, or left at once.
 use Rattle.std.proofs.Common.{◌≡◌, ◌+◌, ◌≤◌, List, [], ◌∷◌, refl, sym, ◌∙◌, ap, subst, arith}
-use Rattle.std.specs.Prelude.{map}
-use Rattle.std.specs.List.{AllByRecursion, sum_by}
+use Rattle.std.specs.List.{AllByRecursion}
 use Rattle.std.proofs.lemmas.List.Elements.{All-nil}
 use Rattle.nb_imagecmd.specs.Promises.{IsShortName}
 use Rattle.nb_defs.specs.Records.{IsStart, Out, Start, out_texts, start, step}
@@ -11,9 +10,8 @@ use Rattle.nb_runner.specs.World.{world_of}
 use Rattle.nb_machine.specs.Courses.{Standing, ready, stands, StepBegins}
 use Rattle.nb_machine.specs.Running.{first_script}
 use Rattle.nb_traced.specs.Pieces.{IsApart}
-use Rattle.nb_open.specs.declared.open.Open.{Open}
-use Rattle.nb_open.specs.Open.{LivesSome}
-use Rattle.nb_network.specs.Many.{AreApart, AreOpensOf, AreRising, AreSound, HasOwnPort, Many, bound_port, lease_count, most_objects}
+use Rattle.nb_network.specs.Many.{AreOpensOf}
+use Rattle.nb_network.proofs.Sound.{sound_none}
 use Rattle.nb_client.specs.Progressing.{AdvancesFrom}
 use Rattle.nb_client.specs.Snapshots.{StandsForProgress, snapshot}
 use Rattle.nb_client.specs.Soundness.{IsSound, snapshot_at}
@@ -24,20 +22,6 @@ use Rattle.nb_client.specs.declared.stage.Stage.TheVariants as stage
 use Rattle.nb_client.proofs.Moves.{IsQuiet, none_waits, quiet_sound, quiet_under_way}
 use Rattle.nb_client.proofs.Standing.{stands_at}
 use Rattle.nb_client.proofs.Traces.{plain_apart, trace_apart}
-
--- no open lives
-none_sound : (s : Start) (m : Many) → IsStart s → m.list ≡ [] → m.graph.book.room ≡ most_objects → AreSound (world_of s).w 0 (world_of s).net m
-none_sound s m valid none room = record {
-  room = room;
-  w_fits = omega (arith, valid.w_fits);
-  opens_fit = omega arith;
-  ports = sym (ap (map bound_port) none);
-  rising = subst (λ xs. AreRising 0 0 xs) (sym none) tt;
-  own = subst (λ xs. AllByRecursion (HasOwnPort (world_of s).w) xs) (sym none) tt;
-  one_lease = subst (λ (xs : List Open). sum_by (λ o. lease_count o.kind) xs ≤ 1) (sym none) (omega arith);
-  lives = subst (λ xs. AllByRecursion (LivesSome m.graph) xs) (sym none) tt;
-  apart = subst (λ xs. AreApart xs) (sym none) tt;
-}
 
 -- the step of START, which leads here
 pub start_goes : {old new : Logged} (s : Start) (before after : Site) (st : Stage) (rest : List Out) (to : Standing) → IsStart s → IsSound before.used before.world before.opens stage.Ready →
@@ -53,9 +37,9 @@ start_goes {old} {new} s before after st rest to valid sound used world opens qu
     let serials_none : m.graph.book.made ≤ 0 = omega (arith, sound.serials, sound.well.1) in
     let running_sound : IsSound n (world_of s) m (stage.Running (first_script [])) = record {
       time = omega arith;
-      opens = none_sound s m valid none sound.opens.room;
+      opens = sound_none (world_of s).w (world_of s).net m (omega (arith, valid.w_fits)) refl none sound.opens.room;
       serials = omega (arith, serials_none);
-      leases = sound.leases;
+      tied = sound.tied;
       well = tt;
       short = tt;
       named = All-nil IsShortName;

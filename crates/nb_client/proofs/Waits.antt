@@ -83,7 +83,7 @@ resume_goes {r} {before} {mid} {old} {new} s valid is sound v =
       fits = record { state = fits.state; living = fits.living; waiting = fits.waiting; numbered = subst (λ k. h.begun ≤ k) (sym (ap (λ w. w.opens) v.world)) fits.numbered };
     })
     (λ live h none. refl)
-    (served_sound (stage.Yielded s) (stage.Running (anew s)) sound v (t.takes.leases sound.leases) tt) tt
+    (served_sound (stage.Yielded s) (stage.Running (anew s)) sound v (t.takes.tied sound.tied) tt) tt
 
 -- nothing is answered where no open is awaited
 no_answer : (e : Option HasEnded) → AnswersBy e None → e ≡ None
@@ -185,7 +185,7 @@ sleeps_goes {r} {before} {mid} {old} {l1} {new} s until st valid is sound v (sle
       fits = record { state = fits.state; living = fits.living; waiting = fits.waiting; numbered = subst (λ k. h.begun ≤ k) (sym (ap (λ w. w.opens) v.world)) fits.numbered };
     })
     (λ live h none. refl)
-    (served_sound (stage.Waiting s (Moment until)) (stage.Waiting (anew s) (Moment until)) sound v (t.takes.leases sound.leases) tt) tt in
+    (served_sound (stage.Waiting s (Moment until)) (stage.Waiting (anew s) (Moment until)) sound v (t.takes.tied sound.tied) tt) tt in
     subst (λ x. P x st) (sym same) (subst (λ x. P l1 x) (sym there) goes)
 sleeps_goes {r} {before} {mid} {old} {l1} {new} s until st valid is sound v (wakes_now late there p) =
     let t = takes_some sound.opens v in
@@ -209,7 +209,7 @@ sleeps_goes {r} {before} {mid} {old} {l1} {new} s until st valid is sound v (wak
       fits = record { state = fits.state; living = fits.living; waiting = fits.waiting; numbered = subst (λ k. h.begun ≤ k) (sym (ap (λ w. w.opens) v.world)) fits.numbered };
     })
     (λ live h none. refl)
-    (served_sound (stage.Waiting s (Moment until)) woken sound v (t.takes.leases sound.leases) tt) tt)
+    (served_sound (stage.Waiting s (Moment until)) woken sound v (t.takes.tied sound.tied) tt) tt)
 
 -- what was gathered is put at once
 pub gathered_puts : {g0 g1 old new : Logged} (bytes : List ℕ) → IsClean g0 → g1.is_short ≡ false → Puts g0 g1 bytes → Puts old new g1.bytes → Puts old new bytes
@@ -220,7 +220,7 @@ gathered_puts {g0} {g1} {old} {new} bytes clean whole p q =
 pub sound_after : {r : In} {before mid : Site} {old new : Logged} (s : Running) (p : Pending) (e : Option HasEnded) → IsSound before.used before.world before.opens (stage.Waiting s (Open p)) → Serves r (Some p.number) e before mid old new → IsSoundAfter e mid s p
 sound_after s p None sound v =
     let t = takes_some sound.opens v in
-    served_sound (stage.Waiting s (Open p)) (stage.Waiting s (Open p)) sound v (t.takes.leases sound.leases) (record {
+    served_sound (stage.Waiting s (Open p)) (stage.Waiting s (Open p)) sound v (t.takes.tied sound.tied) (record {
       fits = sound.well.fits;
       backed = sound.well.backed;
       waiting = record {
@@ -231,7 +231,7 @@ sound_after s p None sound v =
 sound_after s p (Some e) sound v =
     let t = takes_some sound.opens v in
     let f = some_found p.number t.takes.does.overs e t.takes.does.answers in (
-      served_sound (stage.Waiting s (Open p)) (stage.Running s) sound v (t.takes.leases sound.leases) tt,
+      served_sound (stage.Waiting s (Open p)) (stage.Running s) sound v (t.takes.tied sound.tied) tt,
       record {
         fits = sound.well.fits;
         backed = sound.well.backed;
@@ -253,7 +253,7 @@ waited_goes {r} {before} {mid} {g0} {g1} {old} {new} g2 s p None after valid is 
     let w : g1.is_short ≡ false = subst (λ (x : Logged). x.is_short ≡ false) does.1 whole in
     subst (λ x. GoesOnBy (r ∷ []) (snapshot_at before (stage.Waiting s (Open p))) x old new) (sym does.0)
     (waits_goes s p valid is sound v (λ records u. gathered_puts _ clean w (nothing_more g0 g1 (before.used + 1) records u) q)
-    (record { time = one.time; opens = one.opens; serials = one.serials; leases = one.leases; well = one.well; short = one.short; named = one.named; linked = one.linked }))
+    (record { time = one.time; opens = one.opens; serials = one.serials; tied = one.tied; well = one.well; short = one.short; named = one.named; linked = one.linked }))
 waited_goes {r} {before} {mid} {g0} {g1} {old} {new} g2 s p (Some e) after valid is sound v clean does whole puts =
     ends_goes s p e after valid is v does
     (λ records u. gathered_puts _ clean whole (Puts-outs (step (before.used + 1) ∷ records) does.rest u does.puts) puts)

@@ -45,6 +45,13 @@ errand_kind errand.Echo = chain.Echo
 abbrev pub onward_kind : Onward → ChainKind
 onward_kind (onward.File w) = chain.File
 onward_kind (onward.Echo server) = chain.Echo
+onward_kind (onward.Name e name by) = chain.Name
+
+-- what is asked for next
+abbrev pub asked_onward : Onward → Asked
+asked_onward (onward.File w) = File w
+asked_onward (onward.Echo server) = Exchange (query.Echo server)
+asked_onward (onward.Name e name by) = Exchange (query.Host e name by)
 
 -- of a look-up of a server's name, the kind of what waits beside it; else no matter which
 abbrev pub beside_kind : Asked → ChainKind

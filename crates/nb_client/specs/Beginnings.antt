@@ -5,10 +5,12 @@ use Rattle.nb_record.specs.Logged.{Logged, Puts}
 use Rattle.nb_ledger.specs.declared.event.GraphEvent.{GraphEvent}
 use Rattle.nb_wire.specs.declared.address.Ip4.{Ip4}
 use Rattle.nb_nodes.specs.declared.lookup_ask.LookupAsk.{LookupAsk}
-use Rattle.nb_machine.specs.Findings.{query_id}
+use Rattle.nb_conns.specs.declared.conn_ask.ConnAsk.{ConnAsk}
+use Rattle.nb_machine.specs.Findings.{first_word, query_id}
 use Rattle.nb_machine.specs.Starting.{own_port}
 use Rattle.nb_machine.specs.States.{State}
 use Rattle.nb_stack.specs.Client.{Client}
+use Rattle.nb_stack.specs.declared.address.Addr.{Addr}
 use Rattle.nb_runner.specs.declared.world.World.{World}
 use Rattle.nb_runner.specs.declared.query.Query.TheVariants as query
 use Rattle.nb_runner.specs.World.{IsLinkOfState}
@@ -45,12 +47,25 @@ abbrev pub IsKindBeside : Option ChainKind → Asked → Type 0
 IsKindBeside None a = IsBacked a None
 IsKindBeside (Some k) a = (k ≡ beside_kind a) × ((c : Chain) → IsBacked a (Some c))
 
+-- the client's own address; all zero where it has none
+abbrev pub own_address : Option Addr → Ip4
+own_address None = record { 0 = 0 }
+own_address (Some address) = address.ip
+
 -- The next open asks so for the address of this name.
 pub record IsLookupBy (w : World) (name : List ℕ) (by : Ip4) (a : LookupAsk) : Type 0 where
   pub server : a.server ≡ by
   pub own : a.own_port ≡ own_port w.w w.opens
   pub id : a.id ≡ query_id w.machine w.opens
   pub named : a.name.now ≡ name
+
+-- The next open asks so for a connection to this port of the server.
+pub record IsConnectionBy (w : World) (server : Ip4) (port : ℕ) (a : ConnAsk) : Type 0 where
+  pub peer : a.peer ≡ server
+  pub peer_port : a.peer_port ≡ port
+  pub own : a.own ≡ own_address w.net.address
+  pub own_port : a.own_port ≡ own_port w.w w.opens
+  pub isn : a.isn ≡ first_word w.machine w.opens
 
 -- The next open was begun, of which this has waited; what waits beside it is of this kind.
 pub record BeginsNext (a : Opening) (kind : ChainKind) (waits : Option Chain) (before after : Site) (o : NewOpen) : Type 0 where
@@ -59,7 +74,7 @@ pub record BeginsNext (a : Opening) (kind : ChainKind) (waits : Option Chain) (b
   pub used : after.used ≡ before.used
   pub world : after.world ≡ world_at before.world after.world.net before.world.time
   pub sound : AreSound after.world.w (after.world.opens + 1) after.world.net after.opens
-  pub serials : after.opens.graph.book.made ≤ 3 * before.world.opens + 3
+  pub serials : after.opens.graph.book.made ≤ 4 * before.world.opens + 4
   pub linked : IsLinkOfState after.world
   pub waiting : HasWaiting kind o.waits (number_by o.ended before.world.opens) after.opens
 

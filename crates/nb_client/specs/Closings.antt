@@ -1,5 +1,5 @@
 -- All that lives is closed: with the run, or with the device.
-use Rattle.std.specs.Prelude.{◌≡◌, List, [], ◌++◌, Some, None}
+use Rattle.std.specs.Prelude.{◌≡◌, List, [], ◌++◌, None}
 use Rattle.nb_terms.specs.declared.cause.Cause.{Cause}
 use Rattle.nb_defs.specs.Records.{Out, out_texts}
 use Rattle.nb_traced.specs.Plain.{without_graph}
@@ -43,7 +43,7 @@ ClosesDown before after old new = ClosesBy down_cause [] [] before after old new
 -- this waits where the run stands so
 abbrev pub IsWaitingAt : Stage → WaitingChain → Type 0
 IsWaitingAt (stage.Waiting s (Open p)) w = (w.kind ≡ beside_kind p.asked) × (w.chain ≡ p.waits)
-IsWaitingAt (stage.Reaching s k) w = (w.kind ≡ onward_kind k.onward) × (w.chain ≡ Some k.waits)
+IsWaitingAt (stage.Reaching s k) w = (w.kind ≡ onward_kind k.onward) × (w.chain ≡ k.waits)
 IsWaitingAt stage.Ready w = w.chain ≡ None
 IsWaitingAt (stage.Running s) w = w.chain ≡ None
 IsWaitingAt (stage.Waiting s (Moment time)) w = w.chain ≡ None

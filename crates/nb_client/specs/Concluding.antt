@@ -1,5 +1,5 @@
 -- What comes of a command whose open has ended: an image, or what was found.
-use Rattle.std.specs.Prelude.{◌≡◌, ◌<◌, ℕ, Bool, true, false, [], ◌∷◌, length, Ok, Option, Some, None, option_map, if◌then◌else◌}
+use Rattle.std.specs.Prelude.{◌≡◌, ◌<◌, ℕ, false, List, [], ◌∷◌, Ok, Option, Some, None, option_map, if◌then◌else◌}
 use Rattle.std.specs.Option.{option_map_or}
 use Rattle.nb_defs.specs.Causes.{is_ok_cause}
 use Rattle.nb_defs.specs.Records.{result}
@@ -41,6 +41,10 @@ ArrivesWell depth arrival.Boot left = AreShortImages left.images × (i : ℕ) ×
 abbrev pub handing_of : ℕ → Handing
 handing_of kernel = record { kernel = kernel; part = 0; piece = 0 }
 
+-- the place to which the file was moved whose open has ended so, if it was
+abbrev pub moved_place : HasEnded → Option (List ℕ)
+moved_place e = if is_ok_cause e.cause then e.moved else None
+
 -- what is asked of the server whose address an open has found, if it has
 abbrev pub next_found : Errand → HasEnded → Option Onward
 next_found errand e = if is_ok_cause e.cause then option_map (λ address. onward errand address.0) e.address else None
@@ -78,7 +82,7 @@ settled_so e q table = if is_ok_cause e.cause then settled_by table (change_by q
 pub record ReachesAt (s : Running) (q : Asking) (server : Ip4) (c : Chain) (st : Stage) : Type 0 where
   pub next : Next
   pub there : st ≡ stage.Reaching s next
-  pub waits : next.waits ≡ c
+  pub waits : next.waits ≡ Some c
   pub asks : (errand : Errand) → IsHostOf (query_of q) errand → onward_of next.onward ≡ onward errand server.0
   pub fits : FitsOnward next.onward
 

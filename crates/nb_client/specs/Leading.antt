@@ -1,6 +1,5 @@
 -- Where a command on images leads once it is concluded: on in its script, to a hand-off, or to another script.
 use Rattle.std.specs.Prelude.{◌≡◌, ◌<◌, ◌≤◌, ◌+◌, length, ℕ, Bool, true, false, List, [], ◌∷◌, ◌++◌}
-use Rattle.nb_terms.specs.declared.cause.Cause.{Cause}
 use Rattle.nb_defs.specs.Causes.{ok}
 use Rattle.nb_defs.specs.Records.{Out, enter, leave, out_texts, result}
 use Rattle.nb_record.specs.Logged.{Logged, Puts}
@@ -13,7 +12,7 @@ use Rattle.nb_scripts.specs.declared.entry.TextRead.TheVariants as read
 use Rattle.nb_machine.specs.Conclusions.{conclusion_records}
 use Rattle.nb_machine.specs.Conclusions as defs
 use Rattle.nb_machine.specs.Courses.{ConclusionLeads, Standing, stands}
-use Rattle.nb_machine.specs.Effects.{concludes_at_once, effect_in, shown_as, shown_words, table_after, up_after}
+use Rattle.nb_machine.specs.Effects.{concludes_at_once, effect_in, shown_as, shown_words}
 use Rattle.nb_machine.specs.Lives.{Live}
 use Rattle.nb_machine.specs.Running.{Running, beginning, coming, script_in_place, script_within}
 use Rattle.nb_machine.specs.States.{State}

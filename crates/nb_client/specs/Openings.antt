@@ -16,17 +16,14 @@ use Rattle.nb_machine.specs.Running.{Running, beginning, coming, entered, with_r
 use Rattle.nb_machine.specs.Scripts.{Job, answer}
 use Rattle.nb_machine.specs.States.{State, with_one_made, with_opened}
 use Rattle.nb_runner.specs.CommandWords.{wanted_of}
-use Rattle.nb_runner.specs.declared.errand.Onward.{Onward}
-use Rattle.nb_runner.specs.declared.errand.Onward.TheVariants as onward
-use Rattle.nb_runner.specs.declared.query.Query.TheVariants as query
 use Rattle.nb_runner.specs.Intents.{intent_effect, query_of}
 use Rattle.nb_runner.specs.declared.intent.Intent.{Intent}
 use Rattle.nb_runner.specs.NextCommand.{IsReady}
 use Rattle.nb_traced.specs.Holdings.{Holdings, GraphObject}
 use Rattle.nb_traced.specs.Outputs.{Arrived, Traced}
-use Rattle.nb_open.specs.Open.{pieces_of}
+use Rattle.nb_open.specs.Begins.{waiting_pieces}
 use Rattle.nb_network.specs.Many.{AreOpensOf, FitsHoldings}
-use Rattle.nb_client.specs.Asked.{job_asked, live_asked, onward_kind}
+use Rattle.nb_client.specs.Asked.{asked_onward, job_asked, live_asked, onward_kind}
 use Rattle.nb_client.specs.Beginnings.{DropsWaiting}
 use Rattle.nb_client.specs.Progressing.{IsAtWork, TracesTo}
 use Rattle.nb_client.specs.Snapshots.{Snapshot, StandsForProgress, state_of_world}
@@ -42,11 +39,6 @@ use Rattle.nb_client.specs.declared.stage.Stage.TheVariants as stage
 abbrev pub asked_effect : Asked → Effect
 asked_effect (File w) = asks (wanted_of w)
 asked_effect (Exchange q) = inquires (query_of q)
-
--- what is asked of a server whose address was found
-abbrev pub asked_onward : Onward → Asked
-asked_onward (onward.File w) = File w
-asked_onward (onward.Echo server) = Exchange (query.Echo server)
 
 -- A command whose words are expanded asks for this, in the world that it leaves.
 pub record AsksFor (w : World) (a : Asked) (s : Running) (ws : List (List ℕ)) (now : World) : Type 0 where
@@ -95,9 +87,9 @@ pub record Opened (a : Asked) (first : List GraphObject) (shown : Option (List (
 
 -- The open that is next was begun, or no more may be made, and what has waited was let go.
 pub data OpensNext (s : Running) (k : Next) (before : Site) (after : Snapshot) (old new : Logged) : Type 0 where
-  opens_it : before.world.opens < 16384 → Opened (asked_onward k.onward) (pieces_of (onward_kind k.onward) k.waits) None s before after old new → OpensNext s k before after old new
+  opens_it : before.world.opens < 16384 → Opened (asked_onward k.onward) (waiting_pieces (onward_kind k.onward) k.waits) None s before after old new → OpensNext s k before after old new
   opens_none : (now : Site) → before.world.opens ≡ 16384 → now.used ≡ before.used → now.world ≡ before.world → after ≡ snapshot_at now (stage.Running (with_result s full_opens)) →
-      DropsWaiting (onward_kind k.onward) (Some k.waits) before.world.opens before now (result full_opens ∷ []) old new → OpensNext s k before after old new
+      DropsWaiting (onward_kind k.onward) k.waits before.world.opens before now (result full_opens ∷ []) old new → OpensNext s k before after old new
 
 -- A command whose words are expanded intends this, in the world that it leaves.
 pub record Intends (w : World) (i : Intent) (s : Running) (ws : List (List ℕ)) (now : World) : Type 0 where

@@ -13,7 +13,7 @@ use Rattle.nb_machine.specs.Scripts.{Waiting}
 use Rattle.nb_machine.specs.States.{State, bare}
 use Rattle.nb_machine.specs.Courses.{Progress, stands, ready, running, waiting, reaching, yielded, handing, left, handed_off, stopped}
 use Rattle.nb_traced.specs.Holdings.{Holdings, GraphObject}
-use Rattle.nb_open.specs.Open.{pieces_of}
+use Rattle.nb_open.specs.Begins.{waiting_pieces}
 use Rattle.nb_network.specs.Many.{AreOpensOf, FitsHoldings, Many}
 use Rattle.nb_client.specs.Asked.{awaited_by, job_of, onward_kind, pieces_beside}
 use Rattle.nb_client.specs.declared.pending.Next.{Next}
@@ -70,7 +70,7 @@ abbrev pub pieces_waiting : Stage → List GraphObject
 pieces_waiting stage.Ready = []
 pieces_waiting (stage.Running s) = []
 pieces_waiting (stage.Waiting s e) = pieces_beside e
-pieces_waiting (stage.Reaching s k) = pieces_of (onward_kind k.onward) k.waits
+pieces_waiting (stage.Reaching s k) = waiting_pieces (onward_kind k.onward) k.waits
 pieces_waiting (stage.Yielded s) = []
 pieces_waiting (stage.Returning s cause) = []
 pieces_waiting (stage.HandingOff h) = []

@@ -3,15 +3,16 @@ use Rattle.std.specs.Prelude.{◌≡◌, ◌≤◌, ◌*◌, ℕ, Bool, true, fa
 use Rattle.nb_record.specs.Logged.{Logged}
 use Rattle.nb_imagecmd.specs.Promises.{HasShortNames}
 use Rattle.nb_runner.specs.declared.world.World.{World}
+use Rattle.nb_runner.specs.declared.errand.Onward.{Onward}
 use Rattle.nb_runner.specs.declared.query.Query.TheVariants as query
-use Rattle.nb_runner.specs.CommandWords.{FitsFile, FitsOnward}
+use Rattle.nb_runner.specs.CommandWords.{IsAskedWell, FitsOnward}
 use Rattle.nb_runner.specs.Handings.{AreShortImages, IsAtPiece}
 use Rattle.nb_runner.specs.Intents.{CanAsk}
 use Rattle.nb_runner.specs.World.{IsLinkOfState}
 use Rattle.nb_chains.specs.declared.chain.Chain.{Chain}
 use Rattle.nb_chains.specs.declared.kind.ChainKind.{ChainKind}
-use Rattle.nb_network.specs.Many.{AreSound, HasLeaseOnlyOf, IsNewestBut, Many, WaitsBeside}
-use Rattle.nb_client.specs.Asked.{beside_kind, onward_kind}
+use Rattle.nb_network.specs.Many.{AreSound, HasTiedOnlyOf, IsNewestBut, Many, WaitsBeside}
+use Rattle.nb_client.specs.Asked.{asked_onward, beside_kind, onward_kind}
 use Rattle.nb_client.specs.Snapshots.{Snapshot, snapshot}
 use Rattle.nb_client.specs.declared.asked.Asked.{Asked}
 use Rattle.nb_client.specs.declared.asked.Asked.TheVariants.{File, Query as Exchange}
@@ -41,7 +42,7 @@ awaited_at stage.Stopped = None
 
 -- what is asked for may be
 abbrev pub FitsAsked : Asked → Type 0
-FitsAsked (File w) = FitsFile w.asking
+FitsAsked (File w) = IsAskedWell w.asking
 FitsAsked (Exchange q) = CanAsk q
 
 -- an object waits beside the look-up of a server's name, and beside nothing else
@@ -63,13 +64,18 @@ pub record IsPendingWell (p : Pending) (awaited : Option ℕ) (m : Many) : Type 
   pub backed : IsBacked p.asked p.waits
   pub waiting : HasWaiting (beside_kind p.asked) p.waits awaited m
 
+-- What has waited for the open that is next, if anything has: for the look-up of another server's name nothing has.
+pub record HasWaited (next : Onward) (waits : Option Chain) (m : Many) : Type 0 where
+  pub waiting : HasWaiting (onward_kind next) waits None m
+  pub lone : (c : Chain) → IsBacked (asked_onward next) (Some c) → waits ≡ None
+
 -- what holds by where the run stands
 abbrev pub StandsWell : Stage → World → Many → Type 0
 StandsWell stage.Ready w m = (m.list ≡ []) × (w.opens ≡ 0)
 StandsWell (stage.Running s) w m = Unit {0}
 StandsWell (stage.Waiting s (Open p)) w m = IsPendingWell p (Some p.number) m
 StandsWell (stage.Waiting s (Moment time)) w m = Unit {0}
-StandsWell (stage.Reaching s k) w m = FitsOnward k.onward × HasWaiting (onward_kind k.onward) (Some k.waits) None m
+StandsWell (stage.Reaching s k) w m = FitsOnward k.onward × HasWaited k.onward k.waits m
 StandsWell (stage.Yielded s) w m = Unit {0}
 StandsWell (stage.Returning s cause) w m = Unit {0}
 StandsWell (stage.HandingOff h) w m = IsAtPiece w.state.images h × (m.list ≡ [])
@@ -81,8 +87,8 @@ StandsWell stage.Stopped w m = m.list ≡ []
 pub record IsSound (used : ℕ) (w : World) (m : Many) (st : Stage) : Type 0 where
   pub time : w.time ≤ 60000 * used
   pub opens : AreSound w.w w.opens w.net m
-  pub serials : m.graph.book.made ≤ 3 * w.opens
-  pub leases : HasLeaseOnlyOf (awaited_at st) m
+  pub serials : m.graph.book.made ≤ 4 * w.opens
+  pub tied : HasTiedOnlyOf (awaited_at st) m
   pub well : StandsWell st w m
   pub short : AreShortImages w.state.images.images
   pub named : HasShortNames w.state.images

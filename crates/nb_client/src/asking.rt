@@ -7,9 +7,9 @@ ghost use Rattle.nb_runner.specs.CommandWords.{IsForInquiry};
 ghost use Rattle.nb_runner.specs.Intents.{IsAskable};
 ghost use Rattle.nb_runner.specs.NextCommand.{HasCommand, IsReady};
 ghost use Rattle.nb_runner.specs.declared.world.World.{World as TheWorld};
-ghost use Rattle.nb_client.specs.Asked.{onward_kind};
+ghost use Rattle.nb_client.specs.Asked.{asked_onward, onward_kind};
 ghost use Rattle.nb_client.specs.Beginnings.{DropsWaiting};
-ghost use Rattle.nb_client.specs.Openings.{AsksFor, Intends, OpensNext, asked_onward};
+ghost use Rattle.nb_client.specs.Openings.{AsksFor, Intends, OpensNext};
 ghost use Rattle.nb_client.specs.Snapshots.{snapshot};
 ghost use Rattle.nb_client.specs.Soundness.{FitsAsked, IsSound, snapshot_at};
 ghost use Rattle.nb_client.specs.Turning.{MovesOn};
@@ -88,7 +88,7 @@ impl Site {
         Ok(stage)
     }
 
-    /// The command's own open begins, whose server was looked up, or no more may be made.
+    /// The open begins that a command asks for next, or no more may be made.
     pub(crate) fn go_onward(
         &mut self,
         script: RunningScript,
@@ -119,7 +119,7 @@ impl Site {
             return self.open_no_more(script, &next, out);
         }
         let Next { onward, waits } = next.into_inner();
-        self.open(script, None, asked_onward(onward), Some(waits), out)
+        self.open(script, None, asked_onward(onward), waits, out)
     }
 
     /// No more opens may be made: what has waited is let go, and the script goes on.
@@ -133,33 +133,35 @@ impl Site {
         ensures stage { IfOk result (λ st. st ≡ stage.Running (with_result script full_opens)) }
         ensures used { OnOk result (self.new.used ≡ self.old.used) }
         ensures world { OnOk result (self.new.world ≡ self.old.world) }
-        ensures lets { OnOk result (DropsWaiting (onward_kind next.now.onward) (Some next.now.waits) self.old.world.opens self.old self.new
+        ensures lets { OnOk result (DropsWaiting (onward_kind next.now.onward) next.now.waits self.old.world.opens self.old self.new
             (defs.result full_opens ∷ []) out.old out.new) }
     {
         let desk = lent(self.alloc, self.desk.take())?;
-        self.let_go(kind_onward(next.onward()), Some(next.waits()), desk, out)?;
+        self.let_go(kind_onward(next.onward()), next.waits(), desk, out)?;
         put_result(full_opens(), out);
         script.end_with(full_opens());
         Ok(Stage::Running(script))
     }
 }
 
-/// What is asked of a server whose address was found.
+/// What is asked for next.
 fn asked_onward(onward: Onward) -> Asked
     ensures { result ≡ asked_onward onward }
 {
     match onward {
         Onward::File(wanted) => Asked::File(wanted),
         Onward::Echo(server) => Asked::Query(Query::Echo(server)),
+        Onward::Name { errand, name, by } => Asked::Query(Query::Host { errand, name, by }),
     }
 }
 
-/// The kind of its open.
+/// The kind of its objects, or of the one that may wait for them.
 pub(crate) fn kind_onward(onward: &Onward) -> ChainKind
     ensures { result ≡ onward_kind onward.now }
 {
     match onward {
         Onward::File(_) => ChainKind::File,
         Onward::Echo(_) => ChainKind::Echo,
+        Onward::Name { .. } => ChainKind::Name,
     }
 }

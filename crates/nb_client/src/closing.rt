@@ -55,7 +55,7 @@ fn waiting_at(stage: &Stage) -> WaitingChain
         }
         Stage::Reaching(_, next) => WaitingChain {
             kind: kind_onward(next.onward()),
-            chain: Some(next.waits()),
+            chain: next.waits(),
             beside: u16::MAX,
         },
         Stage::Ready

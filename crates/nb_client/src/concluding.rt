@@ -1,4 +1,5 @@
-ghost use Rattle.std.specs.Prelude.{◌≡◌, ◌<◌, ◌≤◌, ℕ, [], ◌∷◌, None, All, length, map, unwrap_or, IfOk, OnOk};
+ghost use Rattle.std.specs.Prelude.{◌≡◌, ◌<◌, ◌≤◌, ℕ, [], ◌∷◌, None, Some, All, length, map, unwrap_or, IfOk, OnOk};
+ghost use Rattle.std.specs.Option.{option_copied};
 ghost use Rattle.nb_defs.specs.Causes.{ok};
 ghost use Rattle.nb_defs.specs.Records.{out_texts};
 ghost use Rattle.nb_defs.specs.Records as defs;
@@ -8,10 +9,11 @@ ghost use Rattle.nb_machine.specs.Running.{with_result};
 ghost use Rattle.nb_image.specs.Images.{ImageList};
 ghost use Rattle.nb_imagecmd.specs.Promises.{HasShortNames, IsShortLine};
 ghost use Rattle.nb_machine.specs.Conclusions.{arrival_conclusion, conclusion};
-ghost use Rattle.nb_runner.specs.CommandWords.{FitsFile};
+ghost use Rattle.nb_network.specs.declared.over.HasEnded.{HasEnded as TheEnd};
+ghost use Rattle.nb_runner.specs.CommandWords.{IsAskedWell};
 ghost use Rattle.nb_runner.specs.ImageDeeds.{IsConcludedWell, MayFollow, conclusion_of};
 ghost use Rattle.nb_client.specs.Closings.{ShutsAll};
-ghost use Rattle.nb_client.specs.Concluding.{ArrivesWell, handing_of};
+ghost use Rattle.nb_client.specs.Concluding.{ArrivesWell, handing_of, moved_place};
 ghost use Rattle.nb_client.specs.Leading.{LeadsOnBy};
 ghost use Rattle.nb_client.specs.Serving.{Concludes};
 ghost use Rattle.nb_open.specs.Exchanges.{IsLeaseMessage};
@@ -22,13 +24,13 @@ ghost use Rattle.nb_client.specs.declared.stage.Stage.TheVariants as stage;
 
 use crate::opening::kind_beside;
 use crate::site::Site;
-use crate::{Asked, Pending, Stage};
+use crate::{Asked, KeptNext, Next, Pending, Stage};
 use nb_chains::ChainKind;
 use nb_image::{Body, Images};
 use nb_imagecmd::{Arrival, Asking, ImageFailure, arrive};
 use nb_network::HasEnded;
 use nb_record::{Cause, Log, NoMemory, OutRec};
-use nb_runner::{Conclusion, Handing, RunningScript, Wanted, selected};
+use nb_runner::{Conclusion, Following, Handing, RunningScript, Wanted, selected};
 use nb_teller::put_result;
 use nb_terms::Plain;
 use nb_wire::Text;
@@ -57,7 +59,7 @@ fn conclude(
     cause: Cause,
     depth: usize,
 ) -> Result<Conclusion, NoMemory>
-    requires fits { FitsFile asking.now }
+    requires fits { IsAskedWell asking.now }
     requires may { MayFollow images.old }
     ensures same { IfOk result (λ c. conclusion cause asking.now body depth images.old ≡ conclusion_of c images.new) }
     ensures well { IfOk result (λ c. IsConcludedWell c depth images.old images.new) }
@@ -82,6 +84,16 @@ fn file_of(alloc: Global, body: Option<Body>) -> Body
         Some(body) => body,
         None => Body::new(alloc),
     }
+}
+
+/// The place to which the file was moved whose open has ended so, if it was.
+fn moved_place(ended: &HasEnded) -> Option<&Text>
+    ensures { option_copied result ≡ moved_place ended.now }
+{
+    if ended.cause.code != 0 {
+        return None;
+    }
+    ended.moved.as_ref()
 }
 
 /// Puts these lines.
@@ -123,7 +135,7 @@ impl Site {
         let Pending { asked, waits, .. } = pending;
         let kind = kind_beside(&asked);
         match asked {
-            Asked::File(wanted) => self.take_file(script, &wanted, ended, out),
+            Asked::File(wanted) => self.take_file(script, wanted, ended, out),
             Asked::Query(query) => self.take_found(script, query, kind, waits, ended, out),
         }
     }
@@ -132,12 +144,32 @@ impl Site {
     fn take_file(
         &mut self,
         script: RunningScript,
+        wanted: Wanted,
+        ended: HasEnded,
+        out: &mut Log,
+    ) -> Result<Stage, NoMemory>
+        requires sound { IsSound self.old.used self.old.world self.old.opens (stage.Running script) }
+        requires fits { IsAskedWell wanted.asking }
+        ensures { IfOk result (λ st. (p : ThePending) → p.asked ≡ asked.File wanted → p.waits ≡ None
+            → Concludes p ended script self.old (snapshot_at self.new st) out.old out.new) }
+    {
+        match moved_place(&ended) {
+            Some(text) => self.follow_move(script, wanted, text.as_slice(), out),
+            None => self.take_body(script, &wanted, ended, out),
+        }
+    }
+
+    /// The file has come, or its open has failed.
+    fn take_body(
+        &mut self,
+        script: RunningScript,
         wanted: &Wanted,
         ended: HasEnded,
         out: &mut Log,
     ) -> Result<Stage, NoMemory>
         requires sound { IsSound self.old.used self.old.world self.old.opens (stage.Running script) }
-        requires fits { FitsFile wanted.now.asking }
+        requires fits { IsAskedWell wanted.now.asking }
+        requires stays { moved_place ended ≡ None }
         ensures { IfOk result (λ st. (p : ThePending) → p.asked ≡ asked.File wanted.now → p.waits ≡ None
             → Concludes p ended script self.old (snapshot_at self.new st) out.old out.new) }
     {
@@ -146,6 +178,29 @@ impl Site {
         let images = &mut self.world.state.images;
         let conclusion = conclude(self.alloc, images, &wanted.asking, body, ended.cause, depth)?;
         self.lead(script, conclusion, out)
+    }
+
+    /// The server has moved the file: it is asked for where this text says, or the command is over.
+    fn follow_move(
+        &mut self,
+        script: RunningScript,
+        wanted: Wanted,
+        text: &[u8],
+        out: &mut Log,
+    ) -> Result<Stage, NoMemory>
+        requires sound { IsSound self.old.used self.old.world self.old.opens (stage.Running script) }
+        requires fits { IsAskedWell wanted.asking }
+        ensures { IfOk result (λ st. (p : ThePending) (e : TheEnd) → p.asked ≡ asked.File wanted → p.waits ≡ None
+            → moved_place e ≡ Some text.now → Concludes p e script self.old (snapshot_at self.new st) out.old out.new) }
+    {
+        match self.world.move_file(self.alloc, wanted.asking, text)? {
+            Following::Over(cause) => Ok(go_on_with(script, cause, out)),
+            Following::Next(onward) => {
+                let waits = None;
+                let next = KeptNext::of(self.alloc, Next { onward, waits })?;
+                Ok(Stage::Reaching(script, next))
+            }
+        }
     }
 
     /// What comes of a command on images, whose COMMAND was put: puts its records, and leads on from there. Where memory runs

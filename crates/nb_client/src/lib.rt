@@ -13,6 +13,7 @@ mod concluding;
 mod handing;
 mod images;
 mod nesting;
+mod next_open;
 mod opening;
 mod pending;
 mod scripts;

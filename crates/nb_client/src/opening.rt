@@ -6,38 +6,30 @@ ghost use Rattle.nb_defs.specs.Records.{Out, out_texts};
 ghost use Rattle.nb_defs.specs.Records as defs;
 ghost use Rattle.nb_traced.specs.Pieces.{event_records};
 ghost use Rattle.nb_ledger.specs.declared.event.GraphEvent.{GraphEvent};
-ghost use Rattle.nb_machine.specs.Findings.{asker_at, first_word, query_id};
-ghost use Rattle.nb_machine.specs.Lives.{Live};
-ghost use Rattle.nb_nodes.specs.LeaseExchanges.{asker_of};
 ghost use Rattle.nb_record.specs.Logged.{Puts};
 ghost use Rattle.nb_runner.specs.World.{IsLinkOfState, with_ended_open};
 ghost use Rattle.nb_machine.specs.Running.{with_result};
-ghost use Rattle.nb_network.specs.Many.{AreSound, HasNoLease, WaitsBeside, port_for};
-ghost use Rattle.nb_network.specs.Openings.{begun_records};
+ghost use Rattle.nb_network.specs.Many.{AreSound, HasNoneTied, WaitsBeside, port_for};
+ghost use Rattle.nb_network.specs.Openings.{AsksFrom, begun_records};
 ghost use Rattle.nb_open.specs.Begins.{waiting_pieces};
 ghost use Rattle.nb_open.specs.Opening.{CanOpen, chain_kind, live_by, own_by};
-ghost use Rattle.nb_client.specs.Asked.{beside_kind, errand_kind, live_asked};
-ghost use Rattle.nb_client.specs.Beginnings.{BeginsNext, IsKindBeside, IsLookupBy, DropsWaiting, asked_kind};
+ghost use Rattle.nb_client.specs.Asked.{beside_kind, errand_kind};
+ghost use Rattle.nb_client.specs.Beginnings.{BeginsNext, IsKindBeside, DropsWaiting, asked_kind};
 ghost use Rattle.nb_client.specs.Openings.{IsShownWell, Opened, begun_script, front_records};
-ghost use Rattle.nb_client.specs.Snapshots.{state_of_world};
 ghost use Rattle.nb_client.specs.Soundness.{FitsAsked, HasWaiting, IsBacked, IsSound, snapshot_at};
 ghost use Rattle.nb_client.specs.declared.pending.Expected.TheVariants as expected;
 ghost use Rattle.nb_client.specs.declared.stage.Stage.TheVariants as stage;
 
+use crate::next_open::opening_of;
 use crate::site::Site;
 use crate::{Asked, Expected, KeptPending, Pending, Stage};
 use nb_chains::{Chain, ChainKind};
-use nb_machine::Identity;
 use nb_network::put_begun;
-use nb_nodes::{Ask, LeaseAsk, LookupAsk, PingAsk};
 use nb_open::Opening;
 use nb_record::{Cause, Log, NoMemory};
-use nb_runner::{Errand, Query, RunningScript, World, own_port};
+use nb_runner::{Errand, Query, RunningScript};
 use nb_teller::{Desk, lent, put_result, put_told};
-use nb_wire::{Ip4, Word};
-use rand_chacha::ChaCha8Rng;
-use rand_core::SeedableRng;
-use rand_core::utils::NextWord;
+use nb_wire::Word;
 
 /// An open that was begun for a command.
 #[derive(Drop)]
@@ -48,75 +40,6 @@ pub struct NewOpen {
     waits: Option<Chain>,
     /// What was told of it.
     desk: Desk,
-}
-
-/// The first word that the open of this number takes from START's key.
-#[tactic(auto, unfolding(nb_machine::specs::Findings::first_word))]
-fn first_word(machine: &Identity, number: u16) -> u32
-    ensures { result ≡ first_word machine.now number }
-{
-    let mut words = ChaCha8Rng::from_seed(machine.key);
-    words.set_word_pos(16 * u128::from(number));
-    words.next_word()
-}
-
-/// The number of an open's query: the low half of its first word.
-fn query_id(machine: &Identity, number: u16) -> u16
-    ensures { result ≡ query_id machine.now number }
-{
-    (first_word(machine, number) % 65_536) as u16
-}
-
-fn lease_ask(world: &World) -> LeaseAsk
-    ensures { asker_of result ≡ asker_at world.now.net.mac world.now.machine world.now.opens }
-{
-    LeaseAsk {
-        mac: world.net.mac(),
-        uuid: world.machine.uuid,
-        arch: world.machine.arch,
-        xid: first_word(&world.machine, world.opens),
-    }
-}
-
-/// What the next open asks of a name server, for the address of this name.
-fn lookup_ask<'a>(world: &World, name: &'a [u8], by: Ip4) -> LookupAsk<'a>
-    requires w { world.now.w < 16384 }
-    requires few { world.now.opens < 16384 }
-    ensures { IsLookupBy world.now name.now by result }
-{
-    LookupAsk {
-        server: by,
-        own_port: own_port(world.w, world.opens),
-        id: query_id(&world.machine, world.opens),
-        name,
-    }
-}
-
-/// What the next open asks for.
-fn opening_of<'a>(world: &World, asked: &'a Asked) -> Opening<'a>
-    requires w { world.now.w < 16384 }
-    requires few { world.now.opens < 16384 }
-    ensures live { (live : List Live) → live_by result world.now.opens world.now.time ≡ live_asked (state_of_world world.now live) asked.now }
-    ensures kind { chain_kind result ≡ asked_kind asked.now }
-    ensures can { FitsAsked asked.now → CanOpen result }
-    ensures own { own_by result ≡ port_for (asked_kind asked.now) world.now.w world.now.opens }
-{
-    match asked {
-        Asked::File(wanted) => Opening::File(Ask {
-            server: wanted.server,
-            port: wanted.port(),
-            own_port: own_port(world.w, world.opens),
-            path: wanted.path(),
-        }),
-        Asked::Query(Query::Lease) => Opening::Lease(lease_ask(world)),
-        Asked::Query(Query::Echo(host)) => Opening::Echo(PingAsk {
-            host: *host,
-            ident: world.opens,
-        }),
-        Asked::Query(Query::Address { name, by, .. } | Query::Host { name, by, .. }) => {
-            Opening::Name(lookup_ask(world, name.as_slice(), *by))
-        }
-    }
 }
 
 /// The kind of what waits beside an open for this, if anything does: of the look-up of a server's name alone.
@@ -234,10 +157,11 @@ impl Site {
     ) -> Result<NewOpen, NoMemory>
         requires can { CanOpen opening.now }
         requires own { own_by opening.now ≡ port_for (chain_kind opening.now) self.old.world.w self.old.world.opens }
+        requires address { AsksFrom self.old.world.net.address opening.now }
         requires few { self.old.world.opens < 16384 }
         requires sound { AreSound self.old.world.w self.old.world.opens self.old.world.net self.old.opens }
-        requires serials { self.old.opens.graph.book.made ≤ 3 * self.old.world.opens }
-        requires leases { HasNoLease self.old.opens }
+        requires serials { self.old.opens.graph.book.made ≤ 4 * self.old.world.opens }
+        requires tied { HasNoneTied self.old.opens }
         requires linked { IsLinkOfState self.old.world }
         requires waiting { HasWaiting (chain_kind opening.now) waits None self.old.opens }
         requires lone { (c : TheChain) → IsBacked asked.now (Some c) → waits ≡ None }
@@ -260,10 +184,11 @@ impl Site {
     ) -> Result<NewOpen, NoMemory>
         requires can { CanOpen opening.now }
         requires own { own_by opening.now ≡ port_for (chain_kind opening.now) self.old.world.w self.old.world.opens }
+        requires address { AsksFrom self.old.world.net.address opening.now }
         requires few { self.old.world.opens < 16384 }
         requires sound { AreSound self.old.world.w self.old.world.opens self.old.world.net self.old.opens }
-        requires serials { self.old.opens.graph.book.made ≤ 3 * self.old.world.opens }
-        requires leases { HasNoLease self.old.opens }
+        requires serials { self.old.opens.graph.book.made ≤ 4 * self.old.world.opens }
+        requires tied { HasNoneTied self.old.opens }
         requires linked { IsLinkOfState self.old.world }
         requires waiting { HasWaiting (chain_kind opening.now) waits None self.old.opens }
         ensures begins { IfOk result (λ o. (kind : TheKind) → BeginsNext opening.now kind waits self.old self.new o) }
@@ -290,10 +215,11 @@ impl Site {
     ) -> Result<NewOpen, NoMemory>
         requires can { CanOpen opening.now }
         requires own { own_by opening.now ≡ port_for (chain_kind opening.now) self.old.world.w self.old.world.opens }
+        requires address { AsksFrom self.old.world.net.address opening.now }
         requires few { self.old.world.opens < 16384 }
         requires sound { AreSound self.old.world.w self.old.world.opens self.old.world.net self.old.opens }
-        requires serials { self.old.opens.graph.book.made ≤ 3 * self.old.world.opens }
-        requires leases { HasNoLease self.old.opens }
+        requires serials { self.old.opens.graph.book.made ≤ 4 * self.old.world.opens }
+        requires tied { HasNoneTied self.old.opens }
         requires linked { IsLinkOfState self.old.world }
         ensures begins { IfOk result (λ o. BeginsNext opening.now kind None self.old self.new o) }
         ensures waits { IfOk result (λ o. (c : TheChain) × (o.waits ≡ Some c)) }

@@ -24,11 +24,12 @@ pub struct KeptPending {
     place: Box<Pending>,
 }
 
-/// What is asked of a server whose name was looked up, and the object that has waited for its open.
+/// What a command asks for next, once the server's name was looked up or its file was moved, and the object that has waited
+/// for that, if one has.
 #[derive(Drop)]
 pub struct Next {
     pub(crate) onward: Onward,
-    pub(crate) waits: Chain,
+    pub(crate) waits: Option<Chain>,
 }
 
 /// The same at one place of memory.
@@ -111,8 +112,8 @@ impl KeptNext {
         Box::into_inner(self.place)
     }
 
-    /// What has waited.
-    pub fn waits(&self) -> Chain
+    /// What has waited, if anything has.
+    pub fn waits(&self) -> Option<Chain>
         ensures { result ≡ self.now.waits }
     {
         self.place.waits

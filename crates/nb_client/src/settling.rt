@@ -7,7 +7,6 @@ ghost use Rattle.nb_machine.specs.Errands.{Errand as TheErrand, onward};
 ghost use Rattle.nb_runner.specs.CommandWords.{FitsOnward, onward_of};
 ghost use Rattle.nb_runner.specs.Intents.{CanAsk, query_of};
 ghost use Rattle.nb_chains.specs.declared.chain.Chain.{Chain as TheChain};
-ghost use Rattle.nb_network.specs.Many.{AreSound};
 ghost use Rattle.nb_client.specs.Asked.{beside_kind};
 ghost use Rattle.nb_client.specs.Concluding.{FindsServer, IsHostOf, ReachesAt, SettlesAt, settled_so};
 ghost use Rattle.nb_client.specs.Serving.{Concludes};
@@ -159,7 +158,6 @@ impl Site {
         ensures reaches { IfOk result (λ st. (c : TheChain) → waits ≡ Some c → ReachesAt script query server c st) }
         ensures same { self.new ≡ self.old }
     {
-        let Some(waits) = waits else { unreachable!() };
         let onward = onward_of(query, server);
         let next = KeptNext::of(self.alloc, Next { onward, waits })?;
         Ok(Stage::Reaching(script, next))
@@ -175,7 +173,7 @@ impl Site {
         ended: &HasEnded,
         out: &mut Log,
     ) -> Result<Stage, NoMemory>
-        requires sound { AreSound self.old.world.w self.old.world.opens self.old.world.net self.old.opens }
+        requires sound { IsSound self.old.used self.old.world self.old.opens (stage.Running script) }
         requires waiting { HasWaiting kind waits None self.old.opens }
         requires message { IsLeaseMessage ended.now.bytes }
         ensures { IfOk result (λ st. SettlesAt script kind waits (settled_so ended.now (query_of query.now) self.old.world.state.table)

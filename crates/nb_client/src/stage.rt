@@ -14,7 +14,7 @@ pub enum Stage {
     Running(RunningScript),
     /// The script's last command waits.
     Waiting(RunningScript, Expected),
-    /// The address of the server was found that the script's last command named, and its own open is next.
+    /// The script's last command asks for something next: its server's address was found, or its file was moved.
     Reaching(RunningScript, KeptNext),
     /// 4,096 commands of the script began in this step, and another is to begin.
     Yielded(RunningScript),

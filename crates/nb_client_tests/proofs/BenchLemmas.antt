@@ -1,39 +1,25 @@
 -- A test's client is well before any open, and stays so.
-use Rattle.std.proofs.Common.{◌≡◌, ◌≤◌, ℕ, false, List, [], ◌∷◌, refl, sym, ap, subst, arith}
-use Rattle.std.specs.Prelude.{map}
-use Rattle.std.specs.List.{AllByRecursion, sum_by}
-use Rattle.nb_graph.specs.Whole.{Objects}
+use Rattle.std.proofs.Common.{◌≡◌, ℕ, false, List, [], ◌∷◌, Option, refl, arith}
 use Rattle.nb_machine.specs.Lives.{Live}
 use Rattle.nb_machine.specs.Starting.{no_images}
 use Rattle.nb_machine.specs.States.{State, bare}
-use Rattle.nb_nodes.specs.declared.obj.Obj.{Obj}
-use Rattle.nb_open.specs.Open.{LivesSome}
-use Rattle.nb_open.specs.declared.open.Open.{Open}
+use Rattle.nb_open.specs.declared.opening.Opening.{Opening}
+use Rattle.nb_open.specs.declared.opening.Opening.TheVariants.{File, Web, Name, Lease, Echo}
+use Rattle.nb_open.specs.Opening.{is_web}
 use Rattle.nb_stack.specs.Client.{Client}
-use Rattle.nb_network.specs.Many.{AreApart, AreOpensOf, AreRising, AreSound, HasNoLease, HasOwnPort, IsStateOf, Many, bound_port, lease_count, most_objects}
+use Rattle.nb_stack.specs.declared.address.Addr.{Addr}
+use Rattle.nb_network.specs.Many.{AreSound, IsStateOf, Many}
+use Rattle.nb_network.specs.Openings.{AsksFrom}
+use Rattle.nb_network.proofs.Sound.{some_live}
 use Rattle.nb_client_tests.specs.Benches.{AreWell}
 
--- no open lives
-pub none_sound : (net : Client) (m : Many) → net.ports ≡ [] → m.list ≡ [] → m.graph.book.room ≡ most_objects → AreSound 0 0 net m
-none_sound net m free none room = record {
-  w_fits = omega arith;
-  opens_fit = omega arith;
-  ports = subst (λ xs. net.ports ≡ map bound_port xs) (sym none) free;
-  rising = subst (λ xs. AreRising 0 0 xs) (sym none) tt;
-  own = subst (λ xs. AllByRecursion (HasOwnPort 0) xs) (sym none) tt;
-  one_lease = subst (λ (xs : List Open). sum_by (λ o. lease_count o.kind) xs ≤ 1) (sym none) (omega arith);
-  lives = subst (λ xs. AllByRecursion (LivesSome m.graph) xs) (sym none) tt;
-  apart = subst (λ xs. AreApart xs) (sym none) tt;
-  room = room;
-}
-
-pub no_lease : (m : Many) → m.list ≡ [] → HasNoLease m
-no_lease m none = ap (λ (xs : List Open). sum_by (λ o. lease_count o.kind) xs) none
-
--- those that live are some of the machine's
-pub some_live : (g : Objects Obj) (os : List Open) → AllByRecursion (LivesSome g) os → (ls : List Live) × AreOpensOf g os ls
-some_live g [] a = ([], tt)
-some_live g (o ∷ os) a = let rest = some_live g os a.1 in (a.0.0 ∷ rest.0, (a.0.1, rest.1))
+-- an open that is none by HTTP is asked for from whatever address
+pub asks_from_any : (address : Option Addr) (a : Opening) → is_web a ≡ false → AsksFrom address a
+asks_from_any address (File a) plain = tt
+asks_from_any address (Web a) plain = absurd (cc)
+asks_from_any address (Name a) plain = tt
+asks_from_any address (Lease a) plain = tt
+asks_from_any address (Echo a) plain = tt
 
 -- a state of the machine that has them
 abbrev state_of : Client → ℕ → List Live → State

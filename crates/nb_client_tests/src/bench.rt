@@ -1,10 +1,10 @@
 //! A client's opens at work, over its link.
 
-ghost use Rattle.std.specs.Prelude.{◌≡◌, ◌+◌, ◌<◌, [], IfOk};
+ghost use Rattle.std.specs.Prelude.{◌≡◌, ◌+◌, ◌<◌, [], false, IfOk};
 ghost use Rattle.nb_chains.specs.declared.kind.ChainKind.TheVariants as kind;
 ghost use Rattle.nb_defs.specs.Records.{IsTick};
-ghost use Rattle.nb_network.specs.Many.{HasNoLease, port_for};
-ghost use Rattle.nb_open.specs.Opening.{CanOpen, chain_kind, own_by};
+ghost use Rattle.nb_network.specs.Many.{HasNoneTied, port_for};
+ghost use Rattle.nb_open.specs.Opening.{CanOpen, chain_kind, is_web, own_by};
 
 use crate::frames::Frame;
 use crate::rows::{Row, rows_of};
@@ -60,7 +60,7 @@ impl Model for Bench {
 impl Bench {
     /// A client with an address, of which START was used.
     pub(crate) fn new(alloc: Global) -> Result<Bench, NoMemory>
-        ensures { IfOk result (λ b. HasNoLease b.many) }
+        ensures { IfOk result (λ b. HasNoneTied b.many) }
     {
         let mut net = Stack::new(MAC);
         net.set_address(Some(ADDRESS));
@@ -107,7 +107,7 @@ impl Bench {
 
     /// The next open begins, for a lease.
     pub(crate) fn lease(self) -> Result<Bench, NoMemory>
-        requires { HasNoLease self.many }
+        requires { HasNoneTied self.many }
     {
         self.begin(&Opening::Lease(lease_ask()))
     }
@@ -116,7 +116,8 @@ impl Bench {
     fn begin(self, opening: &Opening<'_>) -> Result<Bench, NoMemory>
         requires can { CanOpen opening.now }
         requires own { own_by opening.now ≡ port_for (chain_kind opening.now) 0 self.made }
-        requires leases { chain_kind opening.now ≡ kind.Lease → HasNoLease self.many }
+        requires plain { is_web opening.now ≡ false }
+        requires tied { chain_kind opening.now ≡ kind.Lease → HasNoneTied self.many }
     {
         let Bench {
             alloc,

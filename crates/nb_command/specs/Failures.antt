@@ -46,4 +46,5 @@ image_failure failure.ManyImages = Images failure.ManyImages
 image_failure failure.LargeImages = Images failure.LargeImages
 image_failure failure.NotBootable = Images failure.NotBootable
 image_failure failure.ManyScripts = Images failure.ManyScripts
+image_failure failure.ManyMoves = Images failure.ManyMoves
 image_failure failure.NoMemory = NoMemory

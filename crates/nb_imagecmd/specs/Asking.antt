@@ -13,8 +13,8 @@ use Rattle.nb_imagecmd.specs.declared.error.ImageFailure.{ImageFailure}
 use Rattle.nb_imagecmd.specs.declared.error.ImageFailure.TheVariants.{NoScheme, LongPath}
 use Rattle.nb_imagecmd.specs.Failures.{unresolved}
 
--- the server of a target, its address or its name; the port that it is asked at; what it is asked for; and the URI without its
--- fragment
+-- the server of a target, its address or its name; the port that it is asked at; what it is asked for, by TFTP a path and by HTTP the whole
+-- URI; and the URI without its fragment
 abbrev pub target_host : UriTarget → List ℕ
 target_host (Tftp host port path whole) = host
 target_host (Http host port path whole) = host
@@ -25,10 +25,10 @@ target_port (Tftp host port path whole) = port
 target_port (Http host port path whole) = port
 target_port (Iscsi host port lun name whole) = port
 
-abbrev pub target_path : UriTarget → List ℕ
-target_path (Tftp host port path whole) = path
-target_path (Http host port path whole) = path
-target_path (Iscsi host port lun name whole) = name
+abbrev pub target_text : UriTarget → List ℕ
+target_text (Tftp host port path whole) = path
+target_text (Http host port path whole) = whole
+target_text (Iscsi host port lun name whole) = name
 
 abbrev pub target_uri : UriTarget → List ℕ
 target_uri (Tftp host port path whole) = whole
@@ -60,7 +60,7 @@ asked_name (Some name) target = name
 
 abbrev pub asking_of : UriTarget → List ℕ → List (List ℕ) → After → Asking
 asking_of target name args after =
-    record { target = target; name = name; args = join_with_byte 32 args; after = after }
+    record { target = target; name = name; args = join_with_byte 32 args; after = after; moves = 0 }
 
 -- a disk is refused before what is too long
 abbrev pub asked_target : UriTarget → Option (List ℕ) → List (List ℕ) → After → Result Asking ImageFailure

@@ -14,7 +14,7 @@ use Rattle.nb_uri.specs.declared.target.UriError.TheVariants as uri_error
 use Rattle.nb_imagecmd.specs.declared.error.ImageFailure.{ImageFailure}
 use Rattle.nb_imagecmd.specs.declared.error.ImageFailure.TheVariants.{NoImage, BadUri, NoScheme, LongPath}
 use Rattle.nb_imagecmd.specs.declared.error.ImageFailure.TheVariants.{ManyImages, LargeImages}
-use Rattle.nb_imagecmd.specs.declared.error.ImageFailure.TheVariants.{NotBootable, ManyScripts, NoMemory}
+use Rattle.nb_imagecmd.specs.declared.error.ImageFailure.TheVariants.{NotBootable, ManyScripts, ManyMoves, NoMemory}
 
 abbrev pub image_cause : ImageFailure → Cause
 image_cause NoImage = as_cause (reason.Plain plain.NoImage)
@@ -25,6 +25,7 @@ image_cause ManyImages = as_cause (reason.TooMany many.Images)
 image_cause LargeImages = as_cause (reason.TooLarge large.Images)
 image_cause NotBootable = as_cause (reason.Plain plain.NotBootable)
 image_cause ManyScripts = as_cause (reason.TooMany many.Scripts)
+image_cause ManyMoves = as_cause (reason.TooMany many.Moves)
 image_cause NoMemory = as_cause (reason.Plain plain.NoMemory)
 
 -- what it means that a URI names nothing

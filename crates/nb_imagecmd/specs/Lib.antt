@@ -5,6 +5,7 @@ pub mod CommandNames
 pub mod Executing
 pub mod Failures
 pub mod Freeing
+pub mod Moving
 pub mod Options
 pub mod OptionWords
 pub mod Promises

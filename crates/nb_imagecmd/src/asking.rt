@@ -43,6 +43,8 @@ pub struct Asking {
     /// The image's arguments.
     pub args: Text,
     pub after: After,
+    /// How often its server has moved it to another place.
+    pub moves: u8,
 }
 
 /// What a command asks for whose URI is joined to this base.
@@ -73,11 +75,12 @@ pub(crate) fn asked_file(
         name,
         args: Text::from_vec(joined(alloc, args.as_slice())?),
         after,
+        moves: 0,
     })
 }
 
 /// Whether it is a file, which is fetched, and not a disk.
-fn is_file(target: &UriTarget) -> bool
+pub(crate) fn is_file(target: &UriTarget) -> bool
     ensures { result ≡ is_file target.now }
 {
     match target {
@@ -87,7 +90,7 @@ fn is_file(target: &UriTarget) -> bool
     }
 }
 
-fn has_long_path(target: &UriTarget) -> bool
+pub(crate) fn has_long_path(target: &UriTarget) -> bool
     ensures { result ≡ has_long_path target.now }
 {
     match target {

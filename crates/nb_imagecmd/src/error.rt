@@ -47,6 +47,8 @@ pub enum ImageFailure {
     NotBootable,
     /// Eight scripts are within one another.
     ManyScripts,
+    /// The file was moved a sixth time.
+    ManyMoves,
     /// Memory ran out.
     NoMemory,
 }
@@ -65,6 +67,7 @@ impl ImageFailure {
             ImageFailure::LargeImages => Cause::from(Reason::TooLarge(Large::Images)),
             ImageFailure::NotBootable => Plain::NotBootable.cause(),
             ImageFailure::ManyScripts => Cause::from(Reason::TooMany(Many::Scripts)),
+            ImageFailure::ManyMoves => Cause::from(Reason::TooMany(Many::Moves)),
             ImageFailure::NoMemory => Plain::NoMemory.cause(),
         }
     }

@@ -16,6 +16,7 @@ mod error;
 mod executing;
 mod freeing;
 mod laws;
+mod moving;
 mod options;
 mod outcome;
 mod reading;
@@ -33,6 +34,7 @@ pub use laws::{
     lists_hold_what_was_fetched, named_images_are_booted, names_stay_short,
     printed_lines_are_short, spelled_options_are_read,
 };
+pub use moving::{MAX_MOVES, moved_file};
 pub use outcome::{ImageOutcome, ScriptImage};
 pub use reading::read_command;
 pub use stat::Lines;

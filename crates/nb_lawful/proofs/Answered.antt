@@ -7,50 +7,49 @@ use Rattle.nb_wire.specs.declared.address.Ip4.{Ip4}
 use Rattle.nb_defs.specs.Causes.{ok, is_ok_cause}
 use Rattle.nb_defs.specs.Records.{Out, result}
 use Rattle.nb_machine.specs.Effects.{Effect, sleeps, inquires}
-use Rattle.nb_machine.specs.Errands.{Errand, Onward, onward}
+use Rattle.nb_machine.specs.Errands.{Wanted, Errand, Onward, onward}
 use Rattle.nb_machine.specs.Findings.{query_id}
 use Rattle.nb_machine.specs.Queries.{Query, for_lease, for_echo, for_host, for_address}
 use Rattle.nb_machine.specs.Running.{Running, with_result}
 use Rattle.nb_machine.specs.Lives.{dns, kind_number, Live}
 use Rattle.nb_machine.specs.Kinds.{resolved}
 use Rattle.nb_machine.specs.States.{State, with_images}
-use Rattle.nb_machine.specs.Takings.{Over}
-use Rattle.nb_machine.specs.Scripts.{Job, job_for, sleep, by_end, by_time, next_of, settles, goes_onward, settled_with, upshot_records, concluded_by}
+use Rattle.nb_machine.specs.Scripts.{Job, job_for, sleep, by_end, by_time, next_of, settles, goes_onward, settled_with, place_moved_to, upshot_fetched, upshot_records, concluded_by}
 use Rattle.nb_machine.specs.Courses as course
 use Rattle.nb_machine.specs.Courses.{Standing, LeadsTo}
 use Rattle.nb_dns.specs.LookupReplies.{address_found}
 use Rattle.nb_laws.specs.Events.{Event, puts}
 use Rattle.nb_laws.specs.Lists.{hardware, openings, made, datagrams_of, came_ok, last_end}
-use Rattle.nb_laws.specs.Cores.{lookup_by, looked_at, answers_open}
-use Rattle.nb_laws.specs.CommandsSoFar.{CommandsSoFar, so_far, comes_by, concluded_in, conclusion_so_far, shown_table, shown_query}
+use Rattle.nb_laws.specs.Cores.{lookup_by, looked_at, has_its_answer}
+use Rattle.nb_laws.specs.CommandsSoFar.{CommandsSoFar, so_far, comes_by, comes_after, concluded_in, conclusion_so_far, shown_table, shown_query}
+use Rattle.nb_laws.specs.Moves.{MovedOpen, moves}
 use Rattle.nb_laws.specs.Wanting.{wanted_by}
 use Rattle.nb_laws.specs.Agreement.{AgreesScript, AsksQuery, asks_at_once, echoes_next}
 use Rattle.nb_laws.proofs.Tellings.{told}
 use Rattle.nb_laws.proofs.Commands.{script_as, script_told}
 use Rattle.nb_laws.proofs.SoFar.{over_so_far, left_unasked, result_so_far, fetches_nothing}
+use Rattle.nb_laws.proofs.Afterwards.{sleeps_after}
 use Rattle.nb_laws.proofs.Settling.{comes_sleeps, comes_asleep, query_asleep}
 use Rattle.nb_openlaws.specs.Standings.{live_opening}
 use Rattle.nb_lawful.specs.CommandOpens.{command_open}
 use Rattle.nb_lawful.specs.Results.{by_sleep, GivesOf}
-use Rattle.nb_lawful.specs.ScriptAgreement.{SettingsAre, SleepsUntil, AsksIn, IsToReach, HasImages, NoneLeft}
+use Rattle.nb_lawful.specs.ScriptAgreement.{SettingsAre, SleepsUntil, FetchesWith, AsksIn, IsToReach, reaches_host, HasImages, NoneLeft}
 use Rattle.nb_lawful.proofs.AtOnce.{Goes, goes_nowhere, images_as}
 use Rattle.nb_lawful.proofs.Opened.{Purpose, for_file, for_query}
-use Rattle.nb_lawful.proofs.CommandEnds.{HasEnded, ends_with}
+use Rattle.nb_lawful.proofs.CommandEnds.{ended_so, HasEnded, ends_with}
 use Rattle.nb_lawful.proofs.Concluded.{fetch_goes}
-use Rattle.nb_lawful.proofs.Found.{resolved_same, settled_query, HasFound, found_goes}
+use Rattle.nb_lawful.proofs.Moved.{moved_goes}
+use Rattle.nb_lawful.proofs.Found.{resolved_same, query_moves_none, settled_query, HasFound, found_goes}
 use Rattle.nb_lawful.proofs.Resting.{sleeping_comes}
 
 -- ITS OPEN HAS ENDED
 
-abbrev pub ended_so : Live → Cause → Over
-ended_so l cause = record { live = l; cause = cause }
-
 -- its command asks nothing more
-settles_goes : (es : List Event) (outs : List Out) (s : State) (inner : Running) (outer : List Running) (l : Live) (cause : Cause) (query : Query) (more : List Out) (p : Standing) → HasFound es outs s inner outer l cause query →
+settles_goes : (es : List Event) (outs : List Out) (s : State) (inner : Running) (outer : List Running) (moved : List MovedOpen) (l : Live) (cause : Cause) (query : Query) (more : List Out) (p : Standing) → HasFound es outs s inner outer moved l cause query →
     LeadsTo s inner outer (settles (settled_query cause query l s.table)) more p → Goes es outs (result (settled_query cause query l s.table).cause ∷ more) p
-settles_goes es outs s inner outer l cause query more p f (none, leads) =
+settles_goes es outs s inner outer moved l cause query more p f (none, leads) =
     subst (λ z. Goes es outs (result (settled_query cause query l s.table).cause ∷ z) p) (sym none)
-    (subst (λ z. Goes es outs (result (settled_query cause query l s.table).cause ∷ []) z) (sym leads) (found_goes es outs s inner outer l cause query f))
+    (subst (λ z. Goes es outs (result (settled_query cause query l s.table).cause ∷ []) z) (sym leads) (found_goes es outs s inner outer moved l cause query f))
 
 -- a name is looked up for its server by the command's words
 looks_up_at_once : (e : Effect) (query : Query) (errand : Errand) (name : List ℕ) (by : ℕ) → query ≡ for_host errand name by → AsksQuery e query → e ≡ inquires (for_host errand name by)
@@ -61,48 +60,45 @@ abbrev onward_to : Errand → Ip4 → Onward
 onward_to errand address = onward errand address.0
 
 -- a look-up that has ended well has found an address
-found_one : (es : List Event) (outs : List Out) (s : State) (inner : Running) (outer : List Running) (l : Live) (cause : Cause) → HasEnded es outs s inner outer l cause → l.kind ≡ dns (query_id (hardware es).identity l.number) → is_ok_cause cause ≡ true → is_some (resolved l) ≡ true
-found_one es outs s inner outer l cause h kind well =
+found_one : (es : List Event) (outs : List Out) (s : State) (inner : Running) (outer : List Running) (moved : List MovedOpen) (l : Live) (cause : Cause) → HasEnded es outs s inner outer moved l cause → l.kind ≡ dns (query_id (hardware es).identity l.number) → is_ok_cause cause ≡ true → is_some (resolved l) ≡ true
+found_one es outs s inner outer moved l cause h kind well =
     sym (ap (λ (x : Option Ip4). is_some x) (resolved_same es l kind h.received))
-    ∙ sym (h.answered ∙ ap (λ k. answers_open (hardware es) l.number (record { kind = kind_number k; server = l.server; port = l.port; own = l.own; target = l.target; since = l.since }) (datagrams_of l.number es)) kind) ∙ well
+    ∙ sym (h.answered ∙ ap (λ k. has_its_answer l.number (record { kind = kind_number k; server = l.server; port = l.port; own = l.own; target = l.target; since = l.since }) es) kind) ∙ well
 
 -- it goes on to its server
-onward_goes : (es : List Event) (outs : List Out) (s : State) (inner : Running) (outer : List Running) (l : Live) (cause : Cause) (errand : Errand) (name : List ℕ) (by : ℕ) (next : Onward) (more : List Out) (p : Standing) →
-    HasEnded es outs s inner outer l cause → AsksIn (hardware es) (so_far es) l (for_host errand name by) → next_of errand (ended_so l cause) ≡ Some next → LeadsTo s inner outer (goes_onward next) more p → Goes es outs more p
-onward_goes es outs s inner outer l cause errand name by next more p h a found (none, leads) =
+onward_goes : (es : List Event) (outs : List Out) (s : State) (inner : Running) (outer : List Running) (moved : List MovedOpen) (l : Live) (cause : Cause) (errand : Errand) (name : List ℕ) (by : ℕ) (next : Onward) (more : List Out) (p : Standing) →
+    HasEnded es outs s inner outer moved l cause → AsksIn (hardware es) (so_far es) moved l (for_host errand name by) → next_of errand (ended_so l cause) ≡ Some next → LeadsTo s inner outer (goes_onward next) more p → Goes es outs more p
+onward_goes es outs s inner outer moved l cause errand name by next more p h a found (none, leads) =
     subst (λ z. Goes es outs z p) (sym none) (subst (λ z. Goes es outs [] z) (sym leads) (goes_nowhere es outs (course.reaching s inner outer next)
     (h.script, h.settings, h.images, h.none_left, reach (is_ok_cause cause) (resolved l) refl refl found)))
   where
     reach : (b : Bool) (x : Option Ip4) → is_ok_cause cause ≡ b → resolved l ≡ x → cond b (option_map (onward_to errand) x) None ≡ Some next → IsToReach es next
     reach false x well is e = absurd (none-some next e)
     reach true None well is e = absurd (none-some next e)
-    reach true (Some address) well is e = record {
-      errand = errand;
-      name = name;
-      by = by;
-      names = (a.shown, a.said, ap (λ n. comes_by n (so_far es) a.shown) h.number ∙ looks_up_at_once (comes_by l.number (so_far es) a.shown) (for_host errand name by) errand name by refl a.asked);
-      address = address.0;
-      finds = record {
-        opening = live_opening l;
-        opened = ap (λ n. openings n es) h.number ∙ h.opening;
-        kind = ap kind_number a.is_for.0;
-        asked = a.is_for.1;
-        of = a.is_for.2;
-        ended = ap came_ok (ends_with es outs s inner outer l cause h) ∙ well;
-        found = ap (λ n. address_found (lookup_by (hardware es) n (live_opening l)) (looked_at (live_opening l) (datagrams_of n es))) h.number ∙ resolved_same es l a.is_for.0 h.received ∙ is;
-      };
-      next_is = sym (same_Some (onward_to errand address) next e);
-    }
+    reach true (Some address) well is e =
+        let stays = query_moves_none es outs s inner outer moved l cause (for_host errand name by) h a.is_for in
+        reaches_host errand name by address.0
+        (a.shown, a.said, ap (comes_after (made es - 1) (so_far es) a.shown) stays ∙ ap (λ n. comes_after n (so_far es) a.shown moved) h.number ∙ looks_up_at_once (comes_after l.number (so_far es) a.shown moved) (for_host errand name by) errand name by refl a.asked)
+        (record {
+          opening = live_opening l;
+          opened = ap (λ n. openings n es) h.number ∙ h.opening;
+          kind = ap kind_number a.is_for.0;
+          asked = a.is_for.1;
+          of = a.is_for.2;
+          ended = ap came_ok (ends_with es outs s inner outer moved l cause h) ∙ well;
+          found = ap (λ n. address_found (lookup_by (hardware es) n (live_opening l)) (looked_at (live_opening l) (datagrams_of n es))) h.number ∙ resolved_same es l a.is_for.0 h.received ∙ is;
+        })
+        (sym (same_Some (onward_to errand address) next e))
 
-host_goes : (es : List Event) (outs : List Out) (s : State) (inner : Running) (outer : List Running) (l : Live) (cause : Cause) (errand : Errand) (name : List ℕ) (by : ℕ) (more : List Out) (p : Standing) →
-    HasEnded es outs s inner outer l cause → AsksIn (hardware es) (so_far es) l (for_host errand name by) → (x : Option Onward) → next_of errand (ended_so l cause) ≡ x →
+host_goes : (es : List Event) (outs : List Out) (s : State) (inner : Running) (outer : List Running) (moved : List MovedOpen) (l : Live) (cause : Cause) (errand : Errand) (name : List ℕ) (by : ℕ) (more : List Out) (p : Standing) →
+    HasEnded es outs s inner outer moved l cause → AsksIn (hardware es) (so_far es) moved l (for_host errand name by) → (x : Option Onward) → next_of errand (ended_so l cause) ≡ x →
     LeadsTo s inner outer (option_map_or goes_onward x (settles (settled_with cause (Ok s.table) s.table))) more p → Goes es outs (upshot_records (option_map_or goes_onward x (settles (settled_with cause (Ok s.table) s.table))) ++ more) p
-host_goes es outs s inner outer l cause errand name by more p h a (Some next) is leads = onward_goes es outs s inner outer l cause errand name by next more p h a is leads
-host_goes es outs s inner outer l cause errand name by more p h a None is leads =
-    settles_goes es outs s inner outer l cause (for_host errand name by) more p (record {
+host_goes es outs s inner outer moved l cause errand name by more p h a (Some next) is leads = onward_goes es outs s inner outer moved l cause errand name by next more p h a is leads
+host_goes es outs s inner outer moved l cause errand name by more p h a None is leads =
+    settles_goes es outs s inner outer moved l cause (for_host errand name by) more p (record {
       ended_so = h;
       asks = a;
-      last = λ well. absurd (nowhere well (resolved l) (found_one es outs s inner outer l cause h a.is_for.0 well)
+      last = λ well. absurd (nowhere well (resolved l) (found_one es outs s inner outer moved l cause h a.is_for.0 well)
           (ap (λ b. cond b (option_map (onward_to errand) (resolved l)) None) (sym well) ∙ is));
     }) leads
   where
@@ -110,22 +106,28 @@ host_goes es outs s inner outer l cause errand name by more p h a None is leads 
     nowhere well None some none = let no : false ≡ true = some in cc no
     nowhere well (Some address) some none = absurd (none-some (onward_to errand address) (sym none))
 
-query_goes : (es : List Event) (outs : List Out) (s : State) (inner : Running) (outer : List Running) (l : Live) (cause : Cause) (query : Query) (more : List Out) (p : Standing) → HasEnded es outs s inner outer l cause → AsksIn (hardware es) (so_far es) l query →
+query_goes : (es : List Event) (outs : List Out) (s : State) (inner : Running) (outer : List Running) (moved : List MovedOpen) (l : Live) (cause : Cause) (query : Query) (more : List Out) (p : Standing) → HasEnded es outs s inner outer moved l cause → AsksIn (hardware es) (so_far es) moved l query →
     LeadsTo s inner outer (concluded_by s inner.depth (job_for query) (by_end (ended_so l cause))) more p → Goes es outs (upshot_records (concluded_by s inner.depth (job_for query) (by_end (ended_so l cause))) ++ more) p
-query_goes es outs s inner outer l cause for_lease more p h a leads = settles_goes es outs s inner outer l cause for_lease more p (record { ended_so = h; asks = a; last = λ well. tt }) leads
-query_goes es outs s inner outer l cause (for_echo server) more p h a leads = settles_goes es outs s inner outer l cause (for_echo server) more p (record { ended_so = h; asks = a; last = λ well. tt }) leads
-query_goes es outs s inner outer l cause (for_address setting name by) more p h a leads = settles_goes es outs s inner outer l cause (for_address setting name by) more p (record { ended_so = h; asks = a; last = λ well. tt }) leads
-query_goes es outs s inner outer l cause (for_host errand name by) more p h a leads = host_goes es outs s inner outer l cause errand name by more p h a (next_of errand (ended_so l cause)) refl leads
+query_goes es outs s inner outer moved l cause for_lease more p h a leads = settles_goes es outs s inner outer moved l cause for_lease more p (record { ended_so = h; asks = a; last = λ well. tt }) leads
+query_goes es outs s inner outer moved l cause (for_echo server) more p h a leads = settles_goes es outs s inner outer moved l cause (for_echo server) more p (record { ended_so = h; asks = a; last = λ well. tt }) leads
+query_goes es outs s inner outer moved l cause (for_address setting name by) more p h a leads = settles_goes es outs s inner outer moved l cause (for_address setting name by) more p (record { ended_so = h; asks = a; last = λ well. tt }) leads
+query_goes es outs s inner outer moved l cause (for_host errand name by) more p h a leads = host_goes es outs s inner outer moved l cause errand name by more p h a (next_of errand (ended_so l cause)) refl leads
+
+file_goes : (es : List Event) (outs : List Out) (s : State) (inner : Running) (outer : List Running) (moved : List MovedOpen) (l : Live) (cause : Cause) (wanted : Wanted) (more : List Out) (p : Standing) → HasEnded es outs s inner outer moved l cause →
+    FetchesWith (hardware es) (so_far es) moved l wanted → (x : Option (List ℕ)) → place_moved_to (ended_so l cause) ≡ x → LeadsTo s inner outer (upshot_fetched s inner.depth wanted (ended_so l cause) x) more p →
+    Goes es outs (upshot_records (upshot_fetched s inner.depth wanted (ended_so l cause) x) ++ more) p
+file_goes es outs s inner outer moved l cause wanted more p h f None is leads = fetch_goes es outs s inner outer moved l cause wanted more p h f is leads
+file_goes es outs s inner outer moved l cause wanted more p h f (Some place) is leads = moved_goes es outs s inner outer moved l cause wanted place more p h f is leads
 
 -- what follows of its job
-pub job_goes : (es : List Event) (outs : List Out) (s : State) (inner : Running) (outer : List Running) (l : Live) (cause : Cause) (job : Job) (more : List Out) (p : Standing) → HasEnded es outs s inner outer l cause → Purpose es l job →
+pub job_goes : (es : List Event) (outs : List Out) (s : State) (inner : Running) (outer : List Running) (moved : List MovedOpen) (l : Live) (cause : Cause) (job : Job) (more : List Out) (p : Standing) → HasEnded es outs s inner outer moved l cause → Purpose es moved l job →
     LeadsTo s inner outer (concluded_by s inner.depth job (by_end (ended_so l cause))) more p → Goes es outs (upshot_records (concluded_by s inner.depth job (by_end (ended_so l cause))) ++ more) p
-job_goes es outs s inner outer l cause job more p h (for_file wanted is f) leads =
+job_goes es outs s inner outer moved l cause job more p h (for_file wanted is f) leads =
     subst (λ z. Goes es outs (upshot_records (concluded_by s inner.depth z (by_end (ended_so l cause))) ++ more) p) (sym is)
-    (fetch_goes es outs s inner outer l cause wanted more p h f (subst (λ z. LeadsTo s inner outer (concluded_by s inner.depth z (by_end (ended_so l cause))) more p) is leads))
-job_goes es outs s inner outer l cause job more p h (for_query query is a) leads =
+    (file_goes es outs s inner outer moved l cause wanted more p h f (place_moved_to (ended_so l cause)) refl (subst (λ z. LeadsTo s inner outer (concluded_by s inner.depth z (by_end (ended_so l cause))) more p) is leads))
+job_goes es outs s inner outer moved l cause job more p h (for_query query is a) leads =
     subst (λ z. Goes es outs (upshot_records (concluded_by s inner.depth z (by_end (ended_so l cause))) ++ more) p) (sym is)
-    (query_goes es outs s inner outer l cause query more p h a (subst (λ z. LeadsTo s inner outer (concluded_by s inner.depth z (by_end (ended_so l cause))) more p) is leads))
+    (query_goes es outs s inner outer moved l cause query more p h a (subst (λ z. LeadsTo s inner outer (concluded_by s inner.depth z (by_end (ended_so l cause))) more p) is leads))
 
 -- ITS TIME HAS COME
 
@@ -151,11 +153,12 @@ slept_goes es outs s s0 inner outer until more p h (none, leads) =
     let a = h.sleeping in
     let asleep : (k : ℕ) → comes_by k (so_far es) a.shown ≡ sleeps a.seconds = λ k. comes_sleeps s0.opens k (so_far es) a.shown a.seconds a.sleeps_so in
     let unasked : shown_query (made es - 1) (so_far es).table (so_far es).shown ≡ None = ap (shown_query (made es - 1) (so_far es).table) a.is_shown ∙ query_asleep (made es - 1) (so_far es) a.shown a.seconds (asleep (made es - 1)) in
-    let nothing : conclusion_so_far (last_end es) es (so_far es) ≡ None = fetches_nothing es (so_far es) a.shown a.is_shown (λ x. ap (λ e. wanted_by e x) (asleep (made es - 1))) (ap concluded_in (asleep (made es))) in
+    let still : comes_after (made es - 1) (so_far es) a.shown (moves es) ≡ sleeps a.seconds = sleeps_after s0.opens (made es - 1) (so_far es) a.shown (moves es) a.seconds a.sleeps_so in
+    let nothing : conclusion_so_far (last_end es) es (so_far es) ≡ None = fetches_nothing es (so_far es) a.shown a.is_shown (λ x. ap (λ e. wanted_by e x) still) (ap concluded_in (asleep (made es))) in
     let is : so_far (es ++ puts o ∷ []) ≡ over_so_far None (so_far es) = result_so_far es ok None h.none_left nothing (left_unasked es (so_far es).table (so_far es).shown unasked) in
     let due : (so_far es).since + 1000 * a.seconds ≤ (so_far es).now = omega (arith, h.due, a.until_is, h.settings.now) in
     subst (λ z. Goes es outs (o ∷ z) p) (sym none) (subst (λ z. Goes es outs (o ∷ []) z) (sym leads) (record {
-      stands = (record { is_open = h.settings.is_open; holds = subst (λ l. GivesOf l es ok) (sym h.none_left) (by_sleep a.seconds h.none (sleeping_comes es s0 until h.opens a) due refl) }, tt);
+      stands = (record { is_open = h.settings.is_open; holds = subst (λ l. GivesOf l es ok) (sym h.none_left) (by_sleep a.seconds h.none (sleeping_comes es s0 until a) due refl) }, tt);
       agrees = (
         script_as (es ++ told (o ∷ [])) inner (with_result inner ok) outer (record { same = refl; depth = refl; begun = refl }) (script_told es (o ∷ []) inner outer (tt, tt) refl h.script),
         subst (λ m. SettingsAre m (with_images s s.images) false) (sym is) (record { table = sleep_keeps (so_far es) s0 until a ∙ h.settings.table; up = h.settings.up; now = h.settings.now; is_open = refl }),

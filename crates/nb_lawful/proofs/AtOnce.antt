@@ -8,7 +8,7 @@ use Rattle.nb_defs.specs.ScriptLines.{label_place}
 use Rattle.nb_machine.specs.Effects.{Effect, says, asks, goes, sleeps, shuts_device, inquires, on_images, concludes_at_once, Surroundings, settled_effect, effect, effect_in, shown_words, table_after, up_after}
 use Rattle.nb_machine.specs.Running.{Running, coming, passing, entered, further, behind_line, no_label, with_result, counting_on}
 use Rattle.nb_machine.specs.CommandRecords.{command_record, command_records}
-use Rattle.nb_runner.proofs.CommandLaws.{sleeps_some}
+use Rattle.nb_machine.proofs.Words.{sleeps_some}
 use Rattle.nb_machine.proofs.Eithers.{images_either}
 use Rattle.nb_defs.specs.Parts.{HaveNoParts}
 use Rattle.nb_machine.specs.Lives.{close}
@@ -216,7 +216,7 @@ shuts_goes es outs s s' inner outer ws put over opens few is all a =
     let over_is : so_far (es2 ++ puts (result ok) ∷ []) ≡ over_so_far None (begun_so_far (so_far es) shown) =
     result_so_far es2 ok None (ap (λ (m : CommandsSoFar). m.left) began ∙ a.3) none (left_quiet es2 (so_far es2).table (so_far es2).shown failed) ∙ ap (over_so_far None) began in
     record {
-      stands = shut_stands es outs s inner outer ws put quiet failed opens a d.0 (may_begin es inner outer a.0 few);
+      stands = shut_stands es outs s inner outer ws down_cause put refl all_ends opens a d.0 (may_begin es inner outer a.0 few);
       agrees = subst (λ z. ScriptsAgree (es ++ told (command ∷ put ++ (result ok ∷ []))) (outs ++ (command ∷ put ++ (result ok ∷ []))) (course.running (with_live z []) (further inner ok) outer)) (sym d.1)
           (subst (λ z. ScriptsAgree z (outs ++ (command ∷ put ++ (result ok ∷ []))) (course.running (with_live (left_by s ws) []) (further inner ok) outer)) (sym at) (
             script_told es2 (result ok ∷ []) (further inner ok) outer (tt, tt) refl

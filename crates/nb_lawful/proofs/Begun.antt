@@ -16,18 +16,20 @@ use Rattle.nb_machine.specs.CommandRecords.{prints, command_record, command_reco
 use Rattle.nb_machine.specs.States.{State}
 use Rattle.nb_laws.specs.Events.{Event, puts, EachEvent}
 use Rattle.nb_laws.specs.Lists.{made, commands_begun}
-use Rattle.nb_laws.specs.CommandsSoFar.{CommandsSoFar, so_far, running_code, running_base, script_code, shown_effect, shown_table, shown_up, surroundings_in, comes_by, ComesTo, concluded_in}
+use Rattle.nb_laws.specs.CommandsSoFar.{CommandsSoFar, so_far, running_code, running_base, script_code, shown_effect, shown_table, shown_up, surroundings_in, comes_by, comes_after, ComesTo, concluded_in}
+use Rattle.nb_laws.specs.Moves.{moves}
 use Rattle.nb_laws.specs.Agreement.{as_so_far, AgreesScript}
 use Rattle.nb_laws.proofs.Histories.{each_append}
 use Rattle.nb_laws.proofs.Tellings.{told, made_more}
 use Rattle.nb_laws.proofs.HandOffs.{last_end_more}
+use Rattle.nb_laws.proofs.Moved.{moves_more}
 use Rattle.nb_laws.proofs.SoFar.{so_far_more, told_scripts, over_so_far, begun_so_far, begins_so_far, shown_effect_is, shown_table_is, shown_up_is, shown_refused}
-use Rattle.nb_openlaws.proofs.Puts.{AreQuiet}
+use Rattle.nb_openlaws.proofs.Puts.{AreClosing}
 use Rattle.nb_openlaws.proofs.Doings.{comes_to}
 use Rattle.nb_lawful.specs.CommandOpens.{command_open}
 use Rattle.nb_lawful.specs.Results.{GivesResult, by_words, by_jump, by_no_label, by_shut, GivesOf, ResultStands, CommandsSo}
 use Rattle.nb_lawful.specs.ScriptAgreement.{SettingsAre, HasImages, ScriptsAgree}
-use Rattle.nb_lawful.proofs.Quiet.{command_open_more, quiet_makes_none, quiet_so_far, quiet_scripts, quiet_commands, quiet_made}
+use Rattle.nb_lawful.proofs.Quiet.{command_open_more, quiet_makes_none, quiet_so_far, quiet_scripts, quiet_commands, quiet_made, ends_quiet, ends_fail, closing_moves}
 
 pub told_two : (es : List Event) (a b : List Out) → es ++ told (a ++ b) ≡ (es ++ told a) ++ told b
 told_two es a b = ap (λ z. es ++ z) (map-append puts a b) ∙ sym (append_assoc es (told a) (told b))
@@ -83,17 +85,19 @@ concludes_none es outs s inner outer ws e opens a is none =
     ap (λ k. concluded_in (comes_by k (so_far es) (shown_words s.table ws))) opens ∙ ap concluded_in (comes_is (so_far es) s inner ws (running_finds es outs s inner outer a) ∙ is) ∙ none
 
 -- what a command that has begun comes to
-pub begun_comes : (es : List Event) (m : CommandsSoFar) (s : State) (inner : Running) (ws : List (List ℕ)) (e : Effect) → FindsAll m s inner → so_far es ≡ begun_so_far m (shown_words s.table ws) → comes_to s inner ws ≡ e → ComesTo es s.opens e
-begun_comes es m s inner ws e finds is comes = (
+pub begun_comes : (es : List Event) (m : CommandsSoFar) (s : State) (inner : Running) (ws : List (List ℕ)) (e : Effect) → FindsAll m s inner → so_far es ≡ begun_so_far m (shown_words s.table ws) → moves es ≡ [] → comes_to s inner ws ≡ e → ComesTo es s.opens e
+begun_comes es m s inner ws e finds is unmoved comes = (
   shown_words s.table ws,
   ap (λ (x : CommandsSoFar). x.shown) is,
-  ap (λ (x : CommandsSoFar). comes_by s.opens x (shown_words s.table ws)) is ∙ comes_is m s inner ws finds ∙ comes,
+  ap (comes_after s.opens (so_far es) (shown_words s.table ws)) unmoved ∙ ap (λ (x : CommandsSoFar). comes_by s.opens x (shown_words s.table ws)) is ∙ comes_is m s inner ws finds ∙ comes,
 )
 
 -- the same, by its record
 pub command_comes : (es : List Event) (outs : List Out) (s : State) (inner : Running) (outer : List Running) (ws : List (List ℕ)) (e : Effect) → ScriptsAgree es outs (course.running s inner outer) → comes_to s inner ws ≡ e →
     ComesTo (es ++ puts (command_record inner (shown_words s.table ws)) ∷ []) s.opens e
-command_comes es outs s inner outer ws e a comes = begun_comes _ (so_far es) s inner ws e (running_finds es outs s inner outer a) (begins_so_far es inner (shown_words s.table ws)) comes
+command_comes es outs s inner outer ws e a comes =
+    let command = puts (command_record inner (shown_words s.table ws)) in
+    begun_comes (es ++ command ∷ []) (so_far es) s inner ws e (running_finds es outs s inner outer a) (begins_so_far es inner (shown_words s.table ws)) (moves_more es command) comes
 
 -- why it begins
 pub begins_so : (es : List Event) (s : State) (inner : Running) (ws : List (List ℕ)) → SettingsAre (so_far es) s false → commands_begun es < 4096 → CommandsSo es (puts (command_record inner (shown_words s.table ws)))
@@ -114,6 +118,7 @@ pub record HasBegun (es : List Event) (s : State) (inner : Running) (ws : List (
   pub so_far_is : so_far es ≡ begun_so_far before (shown_words s.table ws)
   pub code : script_code es ≡ inner.code
   pub none : command_open es ≡ None
+  pub unmoved : moves es ≡ []
   pub ended_none : came_ok (last_end es) ≡ false
 
 pub begun_silently : (es : List Event) (outs : List Out) (s : State) (inner : Running) (outer : List Running) (ws : List (List ℕ)) → made es ≡ s.opens → ScriptsAgree es outs (course.running s inner outer) →
@@ -128,6 +133,7 @@ begun_silently es outs s inner outer ws opens a =
       so_far_is = begins_so_far es inner (shown_words s.table ws);
       code = ap running_code (ap (λ (m : CommandsSoFar). m.scripts) (so_far_more es e) ∙ a.0.scripts.same);
       none = command_open_more es e;
+      unmoved = moves_more es e;
       ended_none = ap came_ok (last_end_more es e);
     }
 
@@ -140,24 +146,29 @@ begun_printing es s inner ws bytes b = record {
   so_far_is = so_far_more es (puts (text bytes)) ∙ b.so_far_is;
   code = ap (λ (m : CommandsSoFar). running_code m.scripts) (so_far_more es (puts (text bytes))) ∙ b.code;
   none = command_open_more es (puts (text bytes)) ∙ b.none;
+  unmoved = moves_more es (puts (text bytes)) ∙ b.unmoved;
   ended_none = ap came_ok (last_end_more es (puts (text bytes))) ∙ b.ended_none;
 }
 
-pub begun_closing : (es : List Event) (s : State) (inner : Running) (ws : List (List ℕ)) (put : List Out) → AreQuiet put → came_ok (last_end (es ++ told put)) ≡ false → HasBegun es s inner ws → HasBegun (es ++ told put) s inner ws
-begun_closing es s inner ws put quiet failed b = record {
-  opens = quiet_made es put quiet ∙ b.opens;
-  before = b.before;
-  finds = b.finds;
-  none_left = b.none_left;
-  so_far_is = quiet_so_far es put quiet ∙ b.so_far_is;
-  code = ap running_code (told_scripts es put (quiet_scripts put quiet)) ∙ b.code;
-  none = quiet_makes_none es put quiet b.none;
-  ended_none = failed;
-}
+-- all that lives is closed
+pub begun_closing : (es : List Event) (s : State) (inner : Running) (ws : List (List ℕ)) (cause : Cause) (put : List Out) → came_ok (Some cause) ≡ false → AreClosing cause put → HasBegun es s inner ws → HasBegun (es ++ told put) s inner ws
+begun_closing es s inner ws cause put bad all b =
+    let quiet = ends_quiet cause put all in
+    record {
+      opens = quiet_made es put quiet ∙ b.opens;
+      before = b.before;
+      finds = b.finds;
+      none_left = b.none_left;
+      so_far_is = quiet_so_far es put quiet ∙ b.so_far_is;
+      code = ap running_code (told_scripts es put (quiet_scripts put quiet)) ∙ b.code;
+      none = quiet_makes_none es put quiet b.none;
+      unmoved = closing_moves cause es put bad all ∙ b.unmoved;
+      ended_none = ends_fail cause es put bad all b.ended_none;
+    }
 
 -- what it comes to
 pub has_begun_comes : (es : List Event) (s : State) (inner : Running) (ws : List (List ℕ)) (e : Effect) → HasBegun es s inner ws → comes_to s inner ws ≡ e → ComesTo es (made es) e
-has_begun_comes es s inner ws e b comes = subst (λ k. ComesTo es k e) (sym b.opens) (begun_comes es b.before s inner ws e b.finds b.so_far_is comes)
+has_begun_comes es s inner ws e b comes = subst (λ k. ComesTo es k e) (sym b.opens) (begun_comes es b.before s inner ws e b.finds b.so_far_is b.unmoved comes)
 
 -- its result stands
 result_stands : (es : List Event) (s : State) (inner : Running) (ws : List (List ℕ)) (cause : Cause) (e : Effect) → HasBegun es s inner ws → comes_to s inner ws ≡ e → (command_open es ≡ None → ComesTo es (made es) e → GivesResult es cause) → ResultStands es cause
@@ -192,13 +203,12 @@ no_label_stands es outs s inner outer ws name opens a is nowhere few =
     (begins_so es s inner ws a.1 few, (result_stands _ s inner ws no_label (goes name) b is (λ none c. by_no_label name none c (ap (label_place name) b.code ∙ nowhere) refl), tt))
 
 -- `ifclose`, with the ends of all that lives
-pub shut_stands : (es : List Event) (outs : List Out) (s : State) (inner : Running) (outer : List Running) (ws : List (List ℕ)) (put : List Out) → AreQuiet put →
-    came_ok (last_end ((es ++ puts (command_record inner (shown_words s.table ws)) ∷ []) ++ told put)) ≡ false → made es ≡ s.opens → ScriptsAgree es outs (course.running s inner outer) → comes_to s inner ws ≡ shuts_device →
+pub shut_stands : (es : List Event) (outs : List Out) (s : State) (inner : Running) (outer : List Running) (ws : List (List ℕ)) (cause : Cause) (put : List Out) → came_ok (Some cause) ≡ false → AreClosing cause put → made es ≡ s.opens → ScriptsAgree es outs (course.running s inner outer) → comes_to s inner ws ≡ shuts_device →
     commands_begun es < 4096 → EachEvent CommandsSo es (told (command_record inner (shown_words s.table ws) ∷ put ++ (result ok ∷ [])))
-shut_stands es outs s inner outer ws put quiet failed opens a is few =
+shut_stands es outs s inner outer ws cause put bad all opens a is few =
     let es1 = es ++ puts (command_record inner (shown_words s.table ws)) ∷ [] in
-    let b = begun_closing es1 s inner ws put quiet failed (begun_silently es outs s inner outer ws opens a) in
-    (begins_so es s inner ws a.1 few, stand_then es1 put (result ok ∷ []) (quiet_commands es1 put quiet) (result_stands _ s inner ws ok shuts_device b is (λ none c. by_shut none c refl), tt))
+    let b = begun_closing es1 s inner ws cause put bad all (begun_silently es outs s inner outer ws opens a) in
+    (begins_so es s inner ws a.1 few, stand_then es1 put (result ok ∷ []) (quiet_commands es1 put (ends_quiet cause put all)) (result_stands _ s inner ws ok shuts_device b is (λ none c. by_shut none c refl), tt))
 
 -- THE SETTINGS THEN
 

@@ -15,7 +15,7 @@ use Rattle.nb_lawful.specs.ScriptAgreement.{ScriptsAgree}
 use Rattle.nb_lawful.specs.StateByLists.{IsStateBy}
 use Rattle.nb_lawful.proofs.Runs.{lawful_course, lawful_history, handed_off_all, waiting_state}
 use Rattle.nb_lawful.proofs.StepOpens.{opens_give}
-use Rattle.nb_lawful.proofs.Todays.{todays_laws}
+use Rattle.nb_lawful.proofs.Todays.{handed_silently, todays_laws}
 
 pub has_one : (ins : List In) (outs : List Out) (p : Progress) → Course ins outs p → (es : List Event) × IsHistory ins outs es × ((other : List Event) → IsHistory ins outs other → other ≡ es)
 has_one ins outs p c = let t = lawful_course opens_give ins outs p c in (t.0, t.1, λ other h. one_history ins outs other t.0 h t.1)
@@ -29,7 +29,7 @@ stands_so ins outs p es c h =
     subst (λ z. AgreesStanding z p.standing × ScriptsAgree z outs p.standing) (one_history ins outs t.0 es t.1 h) (t.3, t.4)
 
 pub hands_off : (ins : List In) (outs : List Out) (n : ℕ) (s : State) (es : List Event) → Course ins outs (stands n (handed_off s)) → IsHistory ins outs es → HandsOff es outs []
-hands_off ins outs n s es c h = handed_off_all opens_give ins outs n s es c h
+hands_off ins outs n s es c h = handed_silently es outs [] (keeps_laws ins outs (stands n (handed_off s)) es c h) (handed_off_all opens_give ins outs n s es c h)
 
 pub waits_so : (ins : List In) (outs : List Out) (n : ℕ) (s : State) (w : Waiting) (es : List Event) → Course ins outs (stands n (waiting s w)) → IsHistory ins outs es → IsStateBy es s
 waits_so ins outs n s w es c h = waiting_state opens_give ins outs n s w es c h

@@ -29,7 +29,7 @@ use Rattle.nb_openlaws.proofs.Puts.{close_ends}
 use Rattle.nb_lawful.specs.CommandOpens.{command_open}
 use Rattle.nb_lawful.specs.Results.{GivesResult, GivesOf, ResultStands, HasEndedOpens, CommandsSo}
 use Rattle.nb_lawful.specs.ScriptAgreement.{SettingsAre, HasImages, NoneLeft, ScriptsAgree}
-use Rattle.nb_lawful.proofs.Quiet.{quiet_so_far, quiet_parts, quiet_commands, ends_quiet, ends_silent}
+use Rattle.nb_lawful.proofs.Quiet.{quiet_so_far, quiet_parts, quiet_commands, ends_quiet, ends_alone}
 use Rattle.nb_lawful.proofs.Begun.{depth_is}
 use Rattle.nb_lawful.proofs.AtOnce.{Goes, goes_two, goes_as, images_as, left_goes}
 use Rattle.nb_lawful.proofs.Fits.{Fits}
@@ -97,6 +97,19 @@ result_goes es outs s s' inner outer c cause k gives w = record { stands = (resu
 -- with another list
 pub with_list : (s : State) (list : ImageList) → IsWith s (with_images s list) list
 with_list s list = record { table = refl; up = refl; now = refl; images = refl }
+
+-- what the history says of a command that boots this image, and of the settings before its result and after
+pub record BootsBy (es : List Event) (s : State) (list : ImageList) (kernel : ℕ) : Type 0 where
+  pub is_so : conclusion_so_far (last_end es) es (so_far es) ≡ Some (boots list kernel)
+  pub settings : SettingsAre (so_far es) s true
+  pub ended_so : SettingsAre (so_far (es ++ puts (result ok) ∷ [])) s false
+
+pub boots_by : (es : List Event) (outs : List Out) (s : State) (inner : Running) (outer : List Running) (list : ImageList) (kernel : ℕ) → Concluding es outs s inner outer (boots list kernel) → BootsBy es s list kernel
+boots_by es outs s inner outer list kernel k = record {
+  is_so = said_is (boots list kernel) (λ cause e. absurd (cc e)) k.concluded;
+  settings = k.settings;
+  ended_so = subst (λ m. SettingsAre m s false) (sym (over_is es outs s inner outer (boots list kernel) ok k)) (record { table = k.keeps_table ∙ k.settings.table; up = k.settings.up; now = k.settings.now; is_open = refl });
+}
 
 -- A SCRIPT RUNS
 
@@ -205,7 +218,7 @@ boots_goes es outs s inner outer list kernel more p k (over, all, leads) =
             before = es;
             since = more;
             ends = refl;
-            silent = ends_silent stopped_cause more ends;
+            behind = ends_alone stopped_cause more ends;
             list = list;
             kernel = kernel;
             boots = said_is (boots list kernel) (λ cause e. absurd (cc e)) k.concluded;

@@ -11,6 +11,7 @@ pub mod Fits
 pub mod Leading
 pub mod There
 pub mod Concluded
+pub mod Moved
 pub mod Found
 pub mod Resting
 pub mod Answered
@@ -21,11 +22,11 @@ pub mod DeviceSteps
 pub mod StepReasons
 pub mod OpenWays
 pub mod Runs
+pub mod Shuts
 pub mod MoveReasons
 pub mod Booting
 pub mod StepOpens
 pub mod CourseLaws
-pub mod Shuts
 pub mod Solitude
 pub mod Alone
 pub mod Todays

@@ -1,5 +1,5 @@
 -- A run goes on: the records that it puts have their reasons.
-use Rattle.std.proofs.Common.{◌≡◌, ℕ, ◌+◌, true, false, List, [], ◌∷◌, ◌++◌, Option, Some, None, refl, sym, ap, subst, map, append_assoc}
+use Rattle.std.proofs.Common.{◌≡◌, ℕ, ◌+◌, true, false, List, [], ◌∷◌, ◌++◌, Option, Some, None, refl, sym, ◌∙◌, ap, subst, map, append_assoc}
 use Rattle.std.specs.Prelude.{slice_get}
 use Rattle.std.specs.List.{AllByRecursion}
 use Rattle.nb_defs.specs.Causes.{ok}
@@ -10,14 +10,14 @@ use Rattle.nb_defs.specs.ScriptLines.{script_reading}
 use Rattle.nb_image.specs.Images.{ImageList}
 use Rattle.nb_scripts.specs.Records.{replace}
 use Rattle.nb_machine.specs.FirstText.{text_refusal}
-use Rattle.nb_runner.proofs.HandingLemmas.{all_append}
+use Rattle.nb_streams.proofs.FlowLaws.{all_append}
 use Rattle.nb_stack.specs.Client.{Client}
 use Rattle.nb_machine.specs.Conclusions.{Conclusion, keeps, tells, fails, boots, runs_script, conclusion_records}
 use Rattle.nb_machine.specs.Effects.{shuts_device, ShownWords, shown_words, full_opens}
 use Rattle.nb_machine.specs.Running.{Running, entered, no_label}
 use Rattle.nb_machine.specs.CommandRecords.{prints, command_record, command_records, no_route, stopped_cause}
 use Rattle.nb_machine.specs.Lives.{close, Live, open_record, end_record}
-use Rattle.nb_machine.specs.States.{State}
+use Rattle.nb_machine.specs.States.{State, following}
 use Rattle.nb_machine.specs.Takings.{Over, AllTake}
 use Rattle.nb_machine.specs.Scripts.{Job, opens, shuts, live_onward, doing}
 use Rattle.nb_machine.specs.Courses as course
@@ -32,7 +32,7 @@ use Rattle.nb_laws.specs.Agreement.{IsStill, AreStill}
 use Rattle.nb_laws.proofs.Asides.{still_command, still_conclusion}
 use Rattle.nb_laws.proofs.Tellings.{told, still_advances, still_tries, still_advanced}
 use Rattle.nb_openlaws.specs.Standings.{AgreesState, AgreesDevice}
-use Rattle.nb_openlaws.specs.OpenEndings.{OpensEndSo, FramesSo, by_device, by_hand_off}
+use Rattle.nb_openlaws.specs.OpenEndings.{OpensEndSo, FramesSo, ClosesToBoot, by_device, by_hand_off, closes_down, closes_booted}
 use Rattle.nb_openlaws.specs.OpenReasons.{OpenReasons}
 use Rattle.nb_openlaws.proofs.OpenStates.{still_state}
 use Rattle.nb_openlaws.proofs.Courses.{kept_state, opens_next, onward_next, shuts_keep}
@@ -41,14 +41,16 @@ use Rattle.nb_openlaws.proofs.Doings.{comes_to, shuts_by, opens_by}
 use Rattle.nb_openlaws.proofs.KeptOpens.{AreKept, KeptAt}
 use Rattle.nb_openlaws.proofs.Closings.{EndsFor, closes_reasons}
 use Rattle.nb_openlaws.proofs.FirstReasons.{Opens, begins_reasons, lost_reasons}
-use Rattle.nb_lawful.specs.ScriptAgreement.{ScriptsAgree}
-use Rattle.nb_lawful.proofs.Quiet.{ends_quiet, ends_silent, ends_fail}
-use Rattle.nb_lawful.proofs.Begun.{has_begun_comes, begun_silently, begun_closing}
+use Rattle.nb_lawful.specs.ScriptAgreement.{SettingsAre, ScriptsAgree}
+use Rattle.nb_laws.proofs.SoFar.{begins_so_far}
+use Rattle.nb_lawful.proofs.Quiet.{ends_alone}
+use Rattle.nb_lawful.proofs.Begun.{has_begun_comes, begun_silently, begun_closing, settings_begun}
 use Rattle.nb_lawful.proofs.Opening.{begins_by}
-use Rattle.nb_lawful.proofs.Leading.{ConcludedSo, said_is}
+use Rattle.nb_lawful.proofs.Leading.{Concluding, BootsBy, boots_by}
+use Rattle.nb_lawful.proofs.Shuts.{shuts_keeps_table}
 use Rattle.nb_lawful.proofs.There.{there_boots}
 use Rattle.nb_lawful.proofs.Scripted.{based}
-use Rattle.nb_lawful.proofs.Devices.{opens_device}
+use Rattle.nb_lawful.proofs.Devices.{device_moves, device_stays, opens_device}
 use Rattle.nb_lawful.proofs.OpenWays.{head_is}
 use Rattle.nb_lawful.proofs.Runs.{Story}
 
@@ -115,25 +117,29 @@ unsent_conclusion (runs_script list image false) = tt
 
 -- all that lives is closed before a hand-off
 hand_off_ends : (es : List Event) (list : ImageList) (kernel : ℕ) → conclusion_so_far (last_end es) es (so_far es) ≡ Some (boots list kernel) → EndsFor stopped_cause (es ++ puts (result ok) ∷ [])
-hand_off_ends es list kernel booted = λ ends all k.
-    by_hand_off refl (record { before = es; since = ends; ends = append_assoc es (puts (result ok) ∷ []) (told ends); silent = ends_silent stopped_cause ends all; list = list; kernel = kernel; boots = booted })
+hand_off_ends es list kernel booted = λ ends all.
+    let so : ClosesToBoot ((es ++ puts (result ok) ∷ []) ++ told ends) =
+    record { before = es; since = ends; ends = append_assoc es (puts (result ok) ∷ []) (told ends); behind = ends_alone stopped_cause ends all; list = list; kernel = kernel; boots = booted } in
+    (λ k. by_hand_off refl so, closes_booted so)
 
 text_reasons : (es : List Event) (depth : ℕ) (o : Out) (refused : Option Cause) → AreStill (o ∷ []) → AreUnsent (o ∷ []) → IsAdvanced es → OpenReasons es (text_records depth o refused)
 text_reasons es depth o None still unsent adv = still_reasons es (o ∷ []) still unsent adv
 text_reasons es depth o (Some cause) still unsent adv = still_reasons es (o ∷ leave depth cause ∷ []) (still.0, (tt, tt)) (unsent.0, (tt, tt)) adv
 
-pub conclusion_reasons : (es : List Event) (s : State) (inner : Running) (outer : List Running) (c : Conclusion) (more : List Out) (p : Standing) → ConclusionLeads s inner outer c more p → AgreesState es s → AreKept s.live →
-    IsAdvanced (es ++ told (conclusion_records c)) → ((list : ImageList) (kernel : ℕ) → c ≡ boots list kernel → conclusion_so_far (last_end es) es (so_far es) ≡ Some (boots list kernel)) → OpenReasons (es ++ told (conclusion_records c)) more
-conclusion_reasons es s inner outer (keeps list) more p (none, is) a k adv booted = subst (OpenReasons (es ++ told (result ok ∷ []))) (sym none) (no_reasons (es ++ told (result ok ∷ [])) adv)
-conclusion_reasons es s inner outer (tells list lines) more p (none, is) a k adv booted =
+pub conclusion_reasons : (es : List Event) (s : State) (inner : Running) (outer : List Running) (c : Conclusion) (more : List Out) (p : Standing) → ConclusionLeads s inner outer c more p → AgreesState es s → AgreesDevice es s → AreKept s.live →
+    IsAdvanced (es ++ told (conclusion_records c)) → ((list : ImageList) (kernel : ℕ) → c ≡ boots list kernel → BootsBy es s list kernel) → OpenReasons (es ++ told (conclusion_records c)) more
+conclusion_reasons es s inner outer (keeps list) more p (none, is) a d k adv booted = subst (OpenReasons (es ++ told (result ok ∷ []))) (sym none) (no_reasons (es ++ told (result ok ∷ [])) adv)
+conclusion_reasons es s inner outer (tells list lines) more p (none, is) a d k adv booted =
     subst (OpenReasons (es ++ told (conclusion_records (tells list lines)))) (sym none) (no_reasons (es ++ told (conclusion_records (tells list lines))) adv)
-conclusion_reasons es s inner outer (fails cause) more p (none, is) a k adv booted = subst (OpenReasons (es ++ told (result cause ∷ []))) (sym none) (no_reasons (es ++ told (result cause ∷ [])) adv)
-conclusion_reasons es s inner outer (boots list kernel) more p (over, all, is) a k adv booted =
+conclusion_reasons es s inner outer (fails cause) more p (none, is) a d k adv booted = subst (OpenReasons (es ++ told (result cause ∷ []))) (sym none) (no_reasons (es ++ told (result cause ∷ [])) adv)
+conclusion_reasons es s inner outer (boots list kernel) more p (over, all, is) a d k adv booted =
     let b = still_state es (result ok ∷ []) s (tt, tt) a in
-    closes_reasons s.devices stopped_cause s.live more [] over all refl (es ++ told (result ok ∷ [])) b.each b.apart k adv (hand_off_ends es list kernel (booted list kernel refl))
-conclusion_reasons es s inner outer (runs_script list image true) more p (puts_so, is) a k adv booted =
+    let so = booted list kernel refl in
+    let device : AgreesDevice (es ++ told (result ok ∷ [])) s = device_stays es (result ok ∷ []) s s refl refl refl d so.settings so.ended_so in
+    closes_reasons s.devices stopped_cause s.live more [] over all refl (es ++ told (result ok ∷ [])) device b.each b.apart k adv (hand_off_ends es list kernel so.is_so)
+conclusion_reasons es s inner outer (runs_script list image true) more p (puts_so, is) a d k adv booted =
     subst (OpenReasons (es ++ told (result ok ∷ []))) (sym puts_so) (text_reasons (es ++ told (result ok ∷ [])) inner.depth (replace inner.depth) (text_refusal (script_reading image.text)) (tt, tt) (tt, tt) adv)
-conclusion_reasons es s inner outer (runs_script list image false) more p (puts_so, is) a k adv booted =
+conclusion_reasons es s inner outer (runs_script list image false) more p (puts_so, is) a d k adv booted =
     subst (OpenReasons (es ++ told [])) (sym puts_so) (text_reasons (es ++ told []) (inner.depth + 1) (enter (inner.depth + 1)) (text_refusal (script_reading image.text)) (tt, tt) (tt, tt) adv)
 
 -- A COMMAND MAKES AN OPEN
@@ -158,21 +164,26 @@ command_opens es outs s s2 inner outer ws l job link a d h is got adv =
 -- `ifclose`
 device_ends : (es : List Event) (s : State) (inner : Running) (outs : List Out) (outer : List Running) (ws : List (List ℕ)) → AgreesState es s → ScriptsAgree es outs (course.running s inner outer) → comes_to s inner ws ≡ shuts_device →
     EndsFor down_cause (es ++ told (command_record inner (shown_words s.table ws) ∷ []))
-device_ends es s inner outs outer ws a h e = λ ends all k.
+device_ends es s inner outs outer ws a h e = λ ends all.
     let es1 = es ++ told (command_record inner (shown_words s.table ws) ∷ []) in
     let first = begun_silently es outs s inner outer ws a.opens h in
-    let b = begun_closing es1 s inner ws ends (ends_quiet down_cause ends all) (ends_fail down_cause es1 ends refl all first.ended_none) first in
-    by_device refl (ap (λ (x : CommandsSoFar). x.is_open) b.so_far_is) (has_begun_comes (es1 ++ told ends) s inner ws shuts_device b e)
+    let b = begun_closing es1 s inner ws down_cause ends refl all first in
+    let still = ap (λ (x : CommandsSoFar). x.is_open) b.so_far_is in
+    let comes = has_begun_comes (es1 ++ told ends) s inner ws shuts_device b e in
+    (λ k. by_device refl still comes, closes_down still comes)
 
-shuts_reasons : (es : List Event) (outs : List Out) (s s2 : State) (inner : Running) (outer : List Running) (ws : List (List ℕ)) (put : List Out) (over : List Over) → AgreesState es s → ScriptsAgree es outs (course.running s inner outer) → AreKept s.live →
+shuts_reasons : (es : List Event) (outs : List Out) (s s2 : State) (inner : Running) (outer : List Running) (ws : List (List ℕ)) (put : List Out) (over : List Over) → AgreesState es s → AgreesDevice es s → ScriptsAgree es outs (course.running s inner outer) → AreKept s.live →
     doing s inner ws ≡ shuts s2 → AllTake s2.devices (close down_cause) s2.live put [] over → IsAdvanced es → OpenReasons es (command_record inner (shown_words s.table ws) ∷ put ++ (result ok ∷ []))
-shuts_reasons es outs s s2 inner outer ws put over a h kept is all adv =
+shuts_reasons es outs s s2 inner outer ws put over a device h kept is all adv =
     let b = command_record inner (shown_words s.table ws) ∷ [] in
     let es1 = es ++ told b in
     let d = shuts_by s inner ws s2 is in
+    let settings : SettingsAre (so_far es1) s2 true =
+    settings_begun s s2 ws (begins_so_far es inner (shown_words s.table ws)) (ap (λ (z : State). z.table) d.1 ∙ shuts_keeps_table s inner ws d.0) (sym (ap (λ (z : State). z.up) d.1)) (ap (λ (z : State). z.now) d.1) h.1 in
+    let moved : AgreesDevice es1 s2 = device_moves es b s s2 true (ap (λ (z : State). z.devices) d.1 ∙ ap (λ (z : State). following z.table z.up s.devices) (sym d.1)) device settings in
     let base : AgreesState es1 s2 = kept_state es1 s s2 (shuts_keep s s2 _ _ _ is) (still_state es b s (tt, tt) a) in
     let first = still_reasons es b (tt, tt) (tt, tt) adv in
-    let closes = closes_reasons s2.devices down_cause s2.live put [] over all refl es1 base.each base.apart (subst (λ (z : State). AreKept z.live) (sym d.1) kept) first.after (device_ends es s inner outs outer ws a h d.0) in
+    let closes = closes_reasons s2.devices down_cause s2.live put [] over all refl es1 moved base.each base.apart (subst (λ (z : State). AreKept z.live) (sym d.1) kept) first.after (device_ends es s inner outs outer ws a h d.0) in
     let last = still_reasons (es1 ++ told put) (result ok ∷ []) (tt, tt) (tt, tt) closes.after in
     reasons_then es b (put ++ (result ok ∷ [])) first (reasons_then es1 put (result ok ∷ []) closes last)
 
@@ -188,12 +199,14 @@ move_reasons ins outs es m added m2 (course.concludes_there n s inner outer c cs
     let es1 = es ++ told b in
     let first = still_reasons es b (tt, tt) (tt, tt) t.advanced in
     let second = still_reasons es1 (conclusion_records x) (still_conclusion x) (unsent_conclusion x) first.after in
-    let third = conclusion_reasons es1 s (entered inner) outer x put p leads (still_state es b s (tt, tt) t.base) k second.after
-    (λ list kernel same. said_is (boots list kernel) (λ cause e. absurd (cc e)) (subst (ConcludedSo (conclusion_so_far (last_end es1) es1 (so_far es1))) same (there_boots es outs s inner outer (c ∷ cs) x t.base.opens is t.scripts).concluded)) in
+    let there = there_boots es outs s inner outer (c ∷ cs) x t.base.opens is t.scripts in
+    let device : AgreesDevice es1 s = device_stays es b s s refl refl refl t.device t.scripts.1 there.settings in
+    let third = conclusion_reasons es1 s (entered inner) outer x put p leads (still_state es b s (tt, tt) t.base) device k second.after
+    (λ list kernel same. boots_by es1 (outs ++ b) s (entered inner) outer list kernel (subst (Concluding es1 (outs ++ b) s (entered inner) outer) same there)) in
     reasons_then es b (conclusion_records x ++ put) first (reasons_then es1 (conclusion_records x) put second third)
 move_reasons ins outs es m added m2 (course.yields n s inner outer c cs comes full) t k = no_reasons es t.advanced
 move_reasons ins outs es m added m2 (course.does n s s2 inner outer c cs x comes few is stays) t k = command_reasons es inner (shown_words s.table (c ∷ cs)) x t.advanced
-move_reasons ins outs es m added m2 (course.closes_device n s s2 inner outer c cs put over comes few is all) t k = shuts_reasons es outs s s2 inner outer (c ∷ cs) put over t.base t.scripts k is all t.advanced
+move_reasons ins outs es m added m2 (course.closes_device n s s2 inner outer c cs put over comes few is all) t k = shuts_reasons es outs s s2 inner outer (c ∷ cs) put over t.base t.device t.scripts k is all t.advanced
 move_reasons ins outs es m added m2 (course.leaves n s s2 inner outer c cs x comes few is away) t k =
     let b = command_records inner (shown_words s.table (c ∷ cs)) x in
     let first = command_reasons es inner (shown_words s.table (c ∷ cs)) x t.advanced in

@@ -13,12 +13,12 @@ use Rattle.nb_machine.specs.FirstText.{text_refusal}
 use Rattle.nb_machine.specs.Effects.{Effect}
 use Rattle.nb_machine.specs.Sendings.{has_route}
 use Rattle.nb_machine.specs.Running.{Running, entered, anew}
-use Rattle.nb_runner.proofs.HandingLemmas.{all_append}
-use Rattle.nb_machine.specs.Lives.{OpenKind, tftp, dns, dhcp, ping, OpenInput, Live}
+use Rattle.nb_streams.proofs.FlowLaws.{all_append}
+use Rattle.nb_machine.specs.Lives.{OpenKind, tftp, http, dns, dhcp, ping, OpenInput, Live}
 use Rattle.nb_machine.specs.Kinds.{first_records}
 use Rattle.nb_machine.specs.States.{State, net0, with_images, with_opened}
 use Rattle.nb_machine.specs.Takings.{Over, AllTake, all_have, lives_on, is_over}
-use Rattle.nb_machine.specs.Network.{Network, passes_by, brings, brings_reply, passes_time}
+use Rattle.nb_machine.specs.Network.{Network, passes_by, brings, brings_reply, brings_segment, passes_time}
 use Rattle.nb_machine.specs.Scripts.{Job, live_onward, Upshot, concludes, settles, goes_onward, upshot_records, concluded_by}
 use Rattle.nb_machine.specs.Courses as course
 use Rattle.nb_machine.specs.Courses.{Standing, Progress, text_standing, ConclusionLeads, LeadsTo, StepBegins, Proceeds}
@@ -71,6 +71,8 @@ network_ways es s s' n r put over (brings _ device bytes link p d before behind 
     around (λ (x : Live). HadWay x.number es (live_opening x)) s.live before behind after l is (taken_ways es _ _ (l ∷ []) put after over takes (at_middle (λ (x : Live). HadWay x.number es (live_opening x)) before behind l (subst (HaveWays es) is h), tt)) h
 network_ways es s s' n r put over (brings_reply _ device bytes link p e before behind after l _ _ on got brought is mine before_none behind_none takes) h =
     around (λ (x : Live). HadWay x.number es (live_opening x)) s.live before behind after l is (taken_ways es _ _ (l ∷ []) put after over takes (at_middle (λ (x : Live). HadWay x.number es (live_opening x)) before behind l (subst (HaveWays es) is h), tt)) h
+network_ways es s s' n r put over (brings_segment _ device bytes link from p g before behind after l _ _ on got brought is mine before_none behind_none takes) h =
+    around (λ (x : Live). HadWay x.number es (live_opening x)) s.live before behind after l is (taken_ways es _ _ (l ∷ []) put after over takes (at_middle (λ (x : Live). HadWay x.number es (live_opening x)) before behind l (subst (HaveWays es) is h), tt)) h
 network_ways es s s' n r put over (passes_time ms after _ _ takes) h = taken_ways es _ _ s.live put after over takes h
 
 -- A NEW OPEN
@@ -85,6 +87,7 @@ first_goes l link put is = by l.kind is
   where
     by : (kind : OpenKind) → first_records kind l link ≡ Some put → has_route link (first_of kind l) ≡ true
     by tftp is = either_goes (has_route link (first_of tftp l)) _ put is
+    by (http isn) is = either_goes (has_route link (first_of (http isn) l)) _ put is
     by (dns id) is = either_goes (has_route link (first_of (dns id) l)) _ put is
     by (dhcp a) is = either_goes (has_route link (first_of (dhcp a) l)) _ put is
     by ping is = either_goes (has_route link (first_of ping l)) _ put is

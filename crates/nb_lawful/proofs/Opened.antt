@@ -4,7 +4,7 @@ use Rattle.std.specs.List.{AllByRecursion}
 use Rattle.std.specs.Option.{option_and_then}
 use Rattle.std.proofs.lemmas.Option.{none-some, same_Some}
 use Rattle.nb_terms.specs.declared.acts.SendTo.{SendTo}
-use Rattle.nb_defs.specs.Records.{Out, result}
+use Rattle.nb_defs.specs.Records.{Out, sent, result, tried, advanced}
 use Rattle.nb_stack.specs.Client.{Client}
 use Rattle.nb_dns.specs.Lookups.{query_to}
 use Rattle.nb_dhcp.specs.Acting.{to_servers}
@@ -19,7 +19,8 @@ use Rattle.nb_machine.specs.CommandRecords.{no_route}
 use Rattle.nb_machine.specs.Effects.{Effect, ShownWords}
 use Rattle.nb_machine.specs.Errands.{Wanted}
 use Rattle.nb_machine.specs.Queries.{Query}
-use Rattle.nb_machine.specs.Lives.{OpenKind, tftp, dns, dhcp, ping, Live, open_record, end_record}
+use Rattle.nb_machine.specs.Lives.{OpenKind, tftp, http, dns, dhcp, ping, Live, open_record, end_record}
+use Rattle.nb_machine.specs.Connections.{connection_of, syn_message}
 use Rattle.nb_machine.specs.Kinds.{first_records}
 use Rattle.nb_machine.specs.States.{State, with_opened, with_one_made}
 use Rattle.nb_machine.specs.Scripts.{Job, fetch, job_for, answer, Waiting}
@@ -28,10 +29,12 @@ use Rattle.nb_laws.specs.Events.{Event, puts}
 use Rattle.nb_laws.specs.Lists.{hardware, port_offset, commands_begun, made, came_ok, last_end}
 use Rattle.nb_laws.specs.CommandsSoFar.{CommandsSoFar, so_far, shown_table, comes_by, conclusion_so_far, concluded_in, concluded_by_open}
 use Rattle.nb_laws.specs.Agreement.{AgreesScript}
+use Rattle.nb_laws.specs.Moves.{MovedOpen, moves}
 use Rattle.nb_laws.proofs.Histories.{hardware_more, offset_more}
 use Rattle.nb_laws.proofs.Tellings.{told, same_number}
 use Rattle.nb_laws.proofs.Commands.{script_as, script_told}
-use Rattle.nb_laws.proofs.HandOffs.{AreOpens, opens_send, last_end_more}
+use Rattle.nb_laws.proofs.HandOffs.{IsOpens, AreOpens, opens_send, last_end_more}
+use Rattle.nb_laws.proofs.Moved.{moves_more, IsUnmoving, unmoved}
 use Rattle.nb_laws.proofs.SoFar.{so_far_more, over_so_far, left_quiet, result_so_far}
 use Rattle.nb_laws.proofs.Settling.{concludes_same}
 use Rattle.nb_openlaws.proofs.Puts.{opens_quiet}
@@ -39,7 +42,7 @@ use Rattle.nb_lawful.specs.CommandOpens.{command_open_by, command_end, over_of}
 use Rattle.nb_lawful.specs.Results.{by_failed_end, GivesOf, CommandsSo}
 use Rattle.nb_lawful.specs.ScriptAgreement.{SettingsAre, FetchesWith, AsksIn, IsAnother, IsAwaited, AwaitsSo, awaits_file, awaits_query, HasImages, NoneLeft, ScriptsAgree}
 use Rattle.nb_lawful.proofs.Quiet.{quiet_so_far, quiet_begin, quiet_parts, quiet_scripts, quiet_commands, command_open_more}
-use Rattle.nb_lawful.proofs.Awaited.{opens_keep_open}
+use Rattle.nb_lawful.proofs.Awaited.{opens_beside, beside_open}
 use Rattle.nb_lawful.proofs.AtOnce.{Goes, images_as}
 
 pub told_hardware : (es : List Event) (outs : List Out) → hardware (es ++ told outs) ≡ hardware es
@@ -64,6 +67,7 @@ first_opens l link put is = by l.kind is
   where
     by : (kind : OpenKind) → first_records kind l link ≡ Some put → AreOpens put
     by tftp is = sent_first link l.number (request_of (transfer_of l)) put is
+    by (http isn) is = sent_first link l.number (syn_message (connection_of isn l)) put is
     by (dns id) is = sent_first link l.number (query_to (look_up_of id l)) put is
     by (dhcp a) is = sent_first link l.number (to_servers (message_text a None)) put is
     by ping is = sent_first link l.number (echo_request (ping_of l)) put is
@@ -85,21 +89,40 @@ ConcludesNot m = (k : ℕ) → option_and_then (λ shown. concluded_in (comes_by
 pub concludes_not : (m : CommandsSoFar) (shown : ShownWords) (k : ℕ) (e : Effect) → m.shown ≡ Some shown → comes_by k m shown ≡ e → concluded_in e ≡ None → ConcludesNot m
 concludes_not m shown k e said is none = λ j. ap (option_and_then (λ x. concluded_in (comes_by j m x))) said ∙ concludes_same j k m shown ∙ ap concluded_in is ∙ none
 
--- what the command asks by its open
-pub data Purpose (es : List Event) (l : Live) (job : Job) : Type 0 where
-  for_file : (wanted : Wanted) → job ≡ fetch wanted → FetchesWith (so_far es) l wanted → Purpose es l job
-  for_query : (query : Query) → job ≡ job_for query → AsksIn (hardware es) (so_far es) l query → Purpose es l job
+-- what the command asks by its open, its file moved so
+pub data Purpose (es : List Event) (moved : List MovedOpen) (l : Live) (job : Job) : Type 0 where
+  for_file : (wanted : Wanted) → job ≡ fetch wanted → FetchesWith (hardware es) (so_far es) moved l wanted → Purpose es moved l job
+  for_query : (query : Query) → job ≡ job_for query → AsksIn (hardware es) (so_far es) moved l query → Purpose es moved l job
 
-awaits_so : (es es3 : List Event) (s : State) (w : Waiting) (l : Live) → so_far es3 ≡ so_far es → hardware es3 ≡ hardware es → IsAwaited es3 s w l → Purpose es l w.job → AwaitsSo es3 s w
-awaits_so es es3 s w l same hard at (for_file wanted is f) = awaits_file l wanted at is (subst (λ m. FetchesWith m l wanted) (sym same) f)
-awaits_so es es3 s w l same hard at (for_query query is f) = awaits_query l query at is (subst (λ h. AsksIn h (so_far es3) l query) (sym hard) (subst (λ m. AsksIn (hardware es) m l query) (sym same) f))
+-- the same of another history that says the same
+purpose_as : (es es3 : List Event) (a b : List MovedOpen) (l : Live) (job : Job) → so_far es3 ≡ so_far es → hardware es3 ≡ hardware es → b ≡ a → Purpose es a l job → Purpose es3 b l job
+purpose_as es es3 a b l job same hard moved (for_file wanted is f) =
+    for_file wanted is (subst (λ z. FetchesWith (hardware es3) (so_far es3) z l wanted) (sym moved) (subst (λ m. FetchesWith (hardware es3) m a l wanted) (sym same) (subst (λ h. FetchesWith h (so_far es) a l wanted) (sym hard) f)))
+purpose_as es es3 a b l job same hard moved (for_query query is f) =
+    for_query query is (subst (λ z. AsksIn (hardware es3) (so_far es3) z l query) (sym moved) (subst (λ m. AsksIn (hardware es3) m a l query) (sym same) (subst (λ h. AsksIn h (so_far es) a l query) (sym hard) f)))
+
+awaits_so : (es : List Event) (s : State) (w : Waiting) (l : Live) → IsAwaited es s w l → Purpose es (moves es) l w.job → AwaitsSo es s w
+awaits_so es s w l at (for_file wanted is f) = awaits_file l wanted at is f
+awaits_so es s w l at (for_query query is f) = awaits_query l query at is f
+
+-- FRAMEs, TRYs and ADVANCEs move no file
+opens_move : (o : Out) → IsOpens o → IsUnmoving o
+unfolding IsOpens
+opens_move (sent bytes) h = tt
+opens_move (tried number count) h = tt
+opens_move (advanced number place) h = tt
+opens_move _ h = absurd h
+
+opens_move_none : (outs : List Out) → AreOpens outs → AllByRecursion IsUnmoving outs
+opens_move_none [] h = tt
+opens_move_none (o ∷ outs) h = (opens_move o h.0, opens_move_none outs h.1)
 
 abbrev waiting_for : Running → List Running → Live → Job → Waiting
 waiting_for inner outer l job = record { script = inner; outer = outer; awaited = answer l.number; job = job }
 
 -- the open begins, and the command waits for it
 pub begins_open : (es : List Event) (outs : List Out) (s : State) (inner : Running) (outer : List Running) (l : Live) (link : Client) (put : List Out) (job : Job) → UnderWay es outs s inner outer → first_records l.kind l link ≡ Some put →
-    l.number ≡ s.opens → CommandsSo es (puts (open_record l)) → Purpose es l job → Goes es outs (open_record l ∷ put) (course.waiting (with_opened s l) (waiting_for inner outer l job))
+    l.number ≡ s.opens → CommandsSo es (puts (open_record l)) → Purpose es (moves es) l job → Goes es outs (open_record l ∷ put) (course.waiting (with_opened s l) (waiting_for inner outer l job))
 begins_open es outs s inner outer l link put job u first number stands purpose =
     let o = open_record l in
     let es2 = es ++ puts o ∷ [] in
@@ -116,14 +139,14 @@ begins_open es outs s inner outer l link put job u first number stands purpose =
         subst (λ m. SettingsAre m (with_opened s l) true) (sym same) (record { table = u.settings.table; up = u.settings.up; now = u.settings.now; is_open = u.settings.is_open }),
         images_as es es3 outs (o ∷ put) s (with_opened s l) (ap (λ (m : CommandsSoFar). m.images) same) refl (tt, quiet_parts put quiet) u.images,
         ap (λ (m : CommandsSoFar). m.left) same ∙ u.none_left,
-        awaits_so es es3 (with_opened s l) (waiting_for inner outer l job) l same hard (record {
+        awaits_so es3 (with_opened s l) (waiting_for inner outer l job) l (record {
           earlier = s.live;
           last = refl;
           others = subst (λ k. AllByRecursion (IsAnother k) s.live) (sym number) u.fewer;
           number = ap (λ k. k + 1) (sym number);
           awaited = refl;
-          its = opens_keep_open es2 put opens ∙ command_open_more es (puts o);
-        }) purpose,
+          its = beside_open es2 l.number None put (opens_beside l.number put opens) (command_open_more es (puts o));
+        }) (purpose_as es es3 (moves es) (moves es3) l job same hard (unmoved es2 put (opens_move_none put opens) ∙ moves_more es (puts o)) purpose),
       );
     }
 

@@ -4,27 +4,30 @@ use Rattle.std.specs.List.{AllByRecursion}
 use Rattle.nb_defs.specs.Records.{Out}
 use Rattle.nb_settings.specs.Tables.{TableLists}
 use Rattle.nb_stack.specs.Client.{Client}
+use Rattle.nb_uri.specs.declared.target.UriTarget.{UriTarget}
+use Rattle.nb_uri.specs.declared.target.UriTarget.TheVariants.{Tftp, Http, Iscsi}
 use Rattle.nb_machine.specs.Starting.{own_port}
 use Rattle.nb_machine.specs.Conclusions.{fails, conclusion_records}
 use Rattle.nb_machine.specs.Effects.{asks, inquires, ShownWords, shown_words, table_after, up_after}
 use Rattle.nb_machine.specs.Queries.{Query, for_lease, for_echo, for_host, for_address}
 use Rattle.nb_machine.specs.Running.{Running, entered, further}
 use Rattle.nb_machine.specs.CommandRecords.{command_record, no_route}
-use Rattle.nb_machine.specs.Lives.{dns, dhcp, Live, kind_number, open_record, end_record}
+use Rattle.nb_machine.specs.Lives.{http, dns, dhcp, Live, kind_number, open_record, end_record}
 use Rattle.nb_machine.specs.Kinds.{first_records}
 use Rattle.nb_machine.specs.States.{State, following, with_settings, with_opened, with_one_made}
-use Rattle.nb_machine.specs.Scripts.{Job, answer, net0_mac, transfer_for, live_for, opens, doing}
+use Rattle.nb_machine.specs.Scripts.{Job, answer, net0_mac, transfer_kind, transfer_for, live_for, opens, doing}
 use Rattle.nb_machine.specs.Courses as course
 use Rattle.nb_machine.specs.Courses.{Standing}
 use Rattle.nb_laws.specs.Events.{Event, puts}
 use Rattle.nb_laws.specs.Lists.{Hardware, hardware, port_offset, made}
 use Rattle.nb_laws.specs.CommandsSoFar.{CommandsSoFar, so_far, shown_table, comes_by, ComesTo}
-use Rattle.nb_laws.specs.Wanting.{wanted_by}
+use Rattle.nb_laws.specs.Wanting.{wanted_by, target_kind}
 use Rattle.nb_laws.specs.Cores.{asker_by}
-use Rattle.nb_machine.specs.Findings.{query_id}
+use Rattle.nb_machine.specs.Findings.{first_word, query_id}
 use Rattle.nb_laws.specs.Openings.{inquiry_fields, open_fields}
 use Rattle.nb_laws.specs.Agreement.{asks_at_once}
 use Rattle.nb_laws.proofs.Histories.{offset_more, hardware_more}
+use Rattle.nb_laws.proofs.Moved.{moves_more}
 use Rattle.nb_laws.proofs.Tellings.{told, made_more}
 use Rattle.nb_laws.proofs.Commands.{may_begin, script_begins}
 use Rattle.nb_laws.proofs.Settling.{comes_keeps}
@@ -33,7 +36,7 @@ use Rattle.nb_openlaws.specs.Standings.{live_opening}
 use Rattle.nb_openlaws.proofs.Doings.{comes_to, OpensBy, opens_transfer, opens_query, opens_by, up_stays}
 use Rattle.nb_lawful.specs.OpenPurposes.{first_for_file, first_for_query, OpenStands}
 use Rattle.nb_lawful.specs.Results.{CommandsSo}
-use Rattle.nb_lawful.specs.ScriptAgreement.{FetchesWith, IsLiveFor, AsksIn, IsAnother, ScriptsAgree}
+use Rattle.nb_lawful.specs.ScriptAgreement.{kind_for, FetchesWith, IsLiveFor, AsksIn, IsAnother, ScriptsAgree}
 use Rattle.nb_lawful.proofs.Quiet.{command_open_more}
 use Rattle.nb_lawful.proofs.Begun.{running_finds, comes_is, command_comes, begins_so, settings_begun}
 use Rattle.nb_lawful.proofs.AtOnce.{Goes, images_as}
@@ -58,18 +61,29 @@ following_mac table up [] = refl
 following_mac table up (link ∷ others) = refl
 
 -- what a query's open is
-live_is_for : (h : Hardware) (s : State) (query : Query) → h ≡ record { mac = net0_mac s.devices; identity = s.machine } → IsLiveFor h query (live_for s query)
+pub live_is_for : (h : Hardware) (s : State) (query : Query) → h ≡ record { mac = net0_mac s.devices; identity = s.machine } → IsLiveFor h query (live_for s query)
 live_is_for h s for_lease e = ap (λ (z : Hardware). dhcp (asker_by z s.opens)) (sym e)
 live_is_for h s (for_echo server) e = refl
 live_is_for h s (for_host errand name by) e = (ap (λ (z : Hardware). dns (query_id z.identity s.opens)) (sym e), refl, refl)
 live_is_for h s (for_address setting name by) e = ap (λ (z : Hardware). dns (query_id z.identity s.opens)) (sym e)
 
 -- what its OPEN says
-query_fields : (offset : ℕ) (s : State) (query : Query) → offset ≡ s.w → open_fields (kind_number (live_for s query).kind) (live_for s query).server (live_for s query).port (live_for s query).own (live_for s query).target ≡ inquiry_fields offset (live_for s query).number query
+pub query_fields : (offset : ℕ) (s : State) (query : Query) → offset ≡ s.w → open_fields (kind_number (live_for s query).kind) (live_for s query).server (live_for s query).port (live_for s query).own (live_for s query).target ≡ inquiry_fields offset (live_for s query).number query
 query_fields offset s for_lease e = refl
 query_fields offset s (for_echo server) e = refl
 query_fields offset s (for_host errand name by) e = ap (λ z. open_fields 4 by 53 (own_port z s.opens) name) (sym e)
 query_fields offset s (for_address setting name by) e = ap (λ z. open_fields 4 by 53 (own_port z s.opens) name) (sym e)
+
+-- what a file's open is
+pub transfer_is_for : (h : Hardware) (s : State) (target : UriTarget) → h ≡ record { mac = net0_mac s.devices; identity = s.machine } → transfer_kind s target ≡ kind_for h s.opens target
+transfer_is_for h s (Tftp host port path whole) e = refl
+transfer_is_for h s (Http host port path whole) e = ap (λ (z : Hardware). http (first_word z.identity s.opens)) (sym e)
+transfer_is_for h s (Iscsi host port lun name whole) e = refl
+
+pub kind_is_for : (s : State) (target : UriTarget) → kind_number (transfer_kind s target) ≡ target_kind target
+kind_is_for s (Tftp host port path whole) = refl
+kind_is_for s (Http host port path whole) = refl
+kind_is_for s (Iscsi host port lun name whole) = refl
 
 number_of : (s : State) (query : Query) → (live_for s query).number ≡ s.opens
 number_of s for_lease = refl
@@ -84,7 +98,7 @@ pub record Begins (es : List Event) (outs : List Out) (s s' : State) (inner : Ru
   pub under_way : UnderWay (es ++ puts command ∷ []) (outs ++ command ∷ []) s' (entered inner) outer
   pub number : l.number ≡ s'.opens
   pub stands : OpenStands (es ++ puts command ∷ []) l.number (kind_number l.kind) l.server l.port l.own l.target
-  pub purpose : Purpose (es ++ puts command ∷ []) l job
+  pub purpose : Purpose (es ++ puts command ∷ []) [] l job
   pub keeps : shown_table (so_far (es ++ puts command ∷ [])).table (so_far (es ++ puts command ∷ [])).shown ≡ (so_far (es ++ puts command ∷ [])).table
   pub quiet : ConcludesNot (so_far (es ++ puts command ∷ []))
 
@@ -109,17 +123,17 @@ begins_by es outs s s' inner outer ws l job b a (opens_transfer wanted e state l
           own_is = ap (λ z. own_port z s.opens) (sym (offset_more es (puts command) ∙ b.offset_is));
           wanted = wanted;
           names = command_comes es outs s inner outer ws (asks wanted) a e;
-          kind_is = refl;
+          kind_is = kind_is_for s wanted.asking.target;
           server_is = refl;
           port_is = refl;
           target_is = refl;
         });
       };
-      purpose = for_file wanted refl (subst (λ m. FetchesWith m (transfer_for s wanted) wanted) (sym began) (record {
+      purpose = for_file wanted refl (subst (λ m. FetchesWith (hardware es1) m [] (transfer_for s wanted) wanted) (sym began) (record {
         shown = shown;
         said = refl;
         asked = ap (λ x. wanted_by x (live_opening (transfer_for s wanted))) (here ∙ e);
-        kind_is = refl;
+        kind_is = transfer_is_for (hardware es1) s wanted.asking.target (hardware_more es (puts command) ∙ b.hardware_is);
         server_is = refl;
         port_is = refl;
         target_is = refl;
@@ -136,6 +150,9 @@ begins_by es outs s s' inner outer ws l job b a (opens_transfer wanted e state l
 
     command : Out
     command = command_record inner (shown_words s.table ws)
+
+    es1 : List Event
+    es1 = es ++ puts (command_record inner (shown_words s.table ws)) ∷ []
 
     began : so_far (es ++ puts (command_record inner (shown_words s.table ws)) ∷ []) ≡ begun_so_far (so_far es) (shown_words s.table ws)
     began = begins_so_far es inner (shown_words s.table ws)
@@ -160,7 +177,7 @@ begins_by es outs s s' inner outer ws l job b a (opens_query query e state live 
           fields_are = query_fields (port_offset (es ++ puts command ∷ [])) v query (offset_more es (puts command) ∙ b.offset_is);
         });
       };
-      purpose = for_query query refl (subst (λ m. AsksIn (hardware (es ++ puts command ∷ [])) m (live_for v query) query) (sym began) (record {
+      purpose = for_query query refl (subst (λ m. AsksIn (hardware (es ++ puts command ∷ [])) m [] (live_for v query) query) (sym began) (record {
         shown = shown;
         said = refl;
         asked = asks_at_once (ap (λ k. comes_by k (so_far es) shown) (number_of v query) ∙ here ∙ e);
@@ -195,7 +212,8 @@ opens_goes es outs s s' inner outer ws l job link put b few is first a =
     let command = command_record inner (shown_words s.table ws) in
     let k = begins_by es outs s s' inner outer ws l job b a (opens_by s inner ws s' l job is) in
     goes_after es outs command (open_record l ∷ put) _ (begins_so es s inner ws a.1 (may_begin es inner outer a.0 few))
-    (begins_open (es ++ puts command ∷ []) (outs ++ command ∷ []) s' (entered inner) outer l link put job k.under_way first k.number k.stands k.purpose)
+    (begins_open (es ++ puts command ∷ []) (outs ++ command ∷ []) s' (entered inner) outer l link put job k.under_way first k.number k.stands
+    (subst (λ z. Purpose (es ++ puts command ∷ []) z l job) (sym (moves_more es (puts command))) k.purpose))
 
 pub no_route_goes : (es : List Event) (outs : List Out) (s s' : State) (inner : Running) (outer : List Running) (ws : List (List ℕ)) (l : Live) (job : Job) → Based es s → inner.begun < 4096 → doing s inner ws ≡ opens s' l job →
     ScriptsAgree es outs (course.running s inner outer) →

@@ -1,20 +1,24 @@
 -- What records of opens leave as it was: the settings, the commands, the images; and the end of a command's open.
-use Rattle.std.proofs.Common.{◌≡◌, ℕ, ◌+◌, false, List, [], ◌∷◌, ◌++◌, Some, None, refl, sym, ◌∙◌, ap, subst, append_assoc, append-nil, add-zero, fold}
-use Rattle.std.specs.List.{AllByRecursion}
+use Rattle.std.proofs.Common.{◌≡◌, ℕ, ◌+◌, ◌==◌, ◌&&◌, false, cond, List, [], ◌∷◌, ◌++◌, Option, Some, None, refl, sym, ◌∙◌, ap, append_assoc, append-nil, add-zero, fold}
+use Rattle.std.specs.List.{flat_map, AllByRecursion}
 use Rattle.std.proofs.lemmas.List.Sums.{fold-append}
 use Rattle.nb_terms.specs.declared.cause.Cause.{Cause}
+use Rattle.nb_defs.specs.Causes.{is_ok_cause}
 use Rattle.nb_defs.specs.Parts.{IsNoPart, HaveNoParts}
 use Rattle.nb_defs.specs.Records.{Out, step, sent, command, result, script, opened, tried, advanced, ended, part, done}
 use Rattle.nb_machine.specs.CommandRecords.{reply_records}
 use Rattle.nb_laws.specs.Events.{Event, puts, EachEvent, followed}
-use Rattle.nb_laws.specs.Lists.{commands_by, came_ok, last_end, end_by, made, opens_by}
+use Rattle.nb_laws.specs.Lists.{commands_by, came_ok, last_end, end_by, openings, made, opens_by}
+use Rattle.nb_laws.specs.Moves.{moved_by_server, moves_by, moves}
 use Rattle.nb_laws.specs.CommandsSoFar.{CommandsSoFar, so_far, so_far_by}
 use Rattle.nb_laws.specs.Agreement.{IsStill}
-use Rattle.nb_laws.specs.Silence.{IsSilent, AreSilent}
+use Rattle.nb_laws.specs.Silence.{IsSilent}
 use Rattle.nb_laws.proofs.Tellings.{told, made_more}
 use Rattle.nb_laws.proofs.HandOffs.{last_end_more}
+use Rattle.nb_laws.proofs.Moved.{moves_more}
 use Rattle.nb_laws.proofs.SoFar.{told_so_far, IsNoScript, HaveNoScripts}
-use Rattle.nb_openlaws.proofs.Puts.{IsQuiet, AreQuiet, IsEndWith}
+use Rattle.nb_openlaws.specs.OpenEndings.{MayStandBehind}
+use Rattle.nb_openlaws.proofs.Puts.{IsQuiet, AreQuiet, IsClosing, AreClosing}
 use Rattle.nb_lawful.specs.CommandOpens.{command_open_by, command_open}
 use Rattle.nb_lawful.specs.Results.{CommandsSo}
 
@@ -134,7 +138,7 @@ quiet_none_one (advanced number place) h = refl
 quiet_none_one (ended number cause) h = refl
 quiet_none_one _ h = absurd h
 
-pub quiet_none : (outs : List Out) → AreQuiet outs → fold command_open_by None (told outs) ≡ None
+quiet_none : (outs : List Out) → AreQuiet outs → fold command_open_by None (told outs) ≡ None
 quiet_none [] h = refl
 quiet_none (o ∷ outs) h = ap (λ z. fold command_open_by z (told outs)) (quiet_none_one o h.0) ∙ quiet_none outs h.1
 
@@ -143,18 +147,48 @@ quiet_makes_none es outs h none = told_command_open es outs ∙ ap (λ z. fold c
 
 -- CLOSES
 
-pub ends_quiet : (cause : Cause) (outs : List Out) → AllByRecursion (IsEndWith cause) outs → AreQuiet outs
+closing_quiet : (cause : Cause) (o : Out) → IsClosing cause o → IsQuiet o
 unfolding IsQuiet
-ends_quiet cause [] h = tt
-ends_quiet cause (o ∷ outs) h = (subst IsQuiet (sym h.0.1) tt, ends_quiet cause outs h.1)
+closing_quiet cause (sent bytes) h = tt
+closing_quiet cause (ended k other) h = tt
+closing_quiet cause (step number) h = absurd h
+closing_quiet cause _ h = absurd h
 
-pub ends_silent : (cause : Cause) (outs : List Out) → AllByRecursion (IsEndWith cause) outs → AreSilent outs
-ends_silent cause [] h = tt
-ends_silent cause (o ∷ outs) h = (subst IsSilent (sym h.0.1) tt, ends_silent cause outs h.1)
+pub ends_quiet : (cause : Cause) (outs : List Out) → AreClosing cause outs → AreQuiet outs
+ends_quiet cause [] h = tt
+ends_quiet cause (o ∷ outs) h = (closing_quiet cause o h.0, ends_quiet cause outs h.1)
+
+closing_one : (cause : Cause) (o : Out) → IsClosing cause o → MayStandBehind o
+closing_one cause (sent bytes) h = tt
+closing_one cause (ended k other) h = tt
+closing_one cause (step number) h = absurd h
+closing_one cause _ h = absurd h
+
+pub ends_alone : (cause : Cause) (outs : List Out) → AreClosing cause outs → AllByRecursion MayStandBehind outs
+ends_alone cause [] h = tt
+ends_alone cause (o ∷ outs) h = (closing_one cause o h.0, ends_alone cause outs h.1)
+
+closing_fails : (cause : Cause) (last : Option Cause) (o : Out) → came_ok (Some cause) ≡ false → IsClosing cause o → came_ok last ≡ false → came_ok (end_by last (puts o)) ≡ false
+closing_fails cause last (sent bytes) bad h failed = failed
+closing_fails cause last (ended k other) bad h failed = ap (λ z. came_ok (Some z)) h ∙ bad
+closing_fails cause last (step number) bad h failed = absurd h
+closing_fails cause last _ bad h failed = absurd h
 
 -- ends that aren't Ok leave none that is
-pub ends_fail : (cause : Cause) (es : List Event) (outs : List Out) → came_ok (Some cause) ≡ false → AllByRecursion (IsEndWith cause) outs → came_ok (last_end es) ≡ false → came_ok (last_end (es ++ told outs)) ≡ false
+pub ends_fail : (cause : Cause) (es : List Event) (outs : List Out) → came_ok (Some cause) ≡ false → AreClosing cause outs → came_ok (last_end es) ≡ false → came_ok (last_end (es ++ told outs)) ≡ false
 ends_fail cause es [] bad h failed = ap (λ z. came_ok (last_end z)) (append-nil es) ∙ failed
 ends_fail cause es (o ∷ outs) bad h failed =
     ap (λ z. came_ok (last_end z)) (sym (append_assoc es (puts o ∷ []) (told outs)))
-    ∙ ends_fail cause (es ++ puts o ∷ []) outs bad h.1 (ap came_ok (last_end_more es (puts o) ∙ ap (λ z. end_by (last_end es) (puts z)) h.0.1) ∙ bad)
+    ∙ ends_fail cause (es ++ puts o ∷ []) outs bad h.1 (ap came_ok (last_end_more es (puts o)) ∙ closing_fails cause (last_end es) o bad h.0 failed)
+
+-- nor do they move a command's file
+closing_move : (cause : Cause) (es : List Event) (o : Out) → came_ok (Some cause) ≡ false → IsClosing cause o → moves_by es (moves es) (puts o) ≡ moves es
+closing_move cause es (sent bytes) bad h = refl
+closing_move cause es (ended k other) bad h = ap (λ b. cond (b && (k + 1 == made es)) (moves es ++ flat_map (moved_by_server k es) (openings k es)) (moves es)) (ap is_ok_cause h ∙ bad)
+closing_move cause es (step number) bad h = absurd h
+closing_move cause es _ bad h = absurd h
+
+pub closing_moves : (cause : Cause) (es : List Event) (outs : List Out) → came_ok (Some cause) ≡ false → AreClosing cause outs → moves (es ++ told outs) ≡ moves es
+closing_moves cause es [] bad h = ap moves (append-nil es)
+closing_moves cause es (o ∷ outs) bad h =
+    ap moves (sym (append_assoc es (puts o ∷ []) (told outs))) ∙ closing_moves cause (es ++ puts o ∷ []) outs bad h.1 ∙ moves_more es (puts o) ∙ closing_move cause es o bad h.0

@@ -12,15 +12,12 @@ use Rattle.nb_laws.specs.Events.{Event, puts, inputs, outputs, used_by, written_
 use Rattle.nb_laws.specs.Histories.{IsRead, IsHistory}
 use Rattle.nb_laws.specs.Lists.{last_place, calls, openings, gathered}
 use Rattle.nb_laws.specs.Frames.{TriesSo}
-use Rattle.nb_laws.specs.HandOff.{HandsOff}
-use Rattle.nb_laws.specs.Lawful.{HandsAsBrought}
 use Rattle.nb_laws.specs.Progress.{StepsSo, AdvancesSo, IsAdvanced, NoneOversleeps}
 use Rattle.nb_laws.proofs.Histories.{each_append, each_then_append, one_history}
 use Rattle.nb_laws.proofs.SoFar.{nothing_so_far}
-use Rattle.nb_laws.proofs.Settling.{over_rests, inquiry_rests}
+use Rattle.nb_laws.proofs.Settling.{over_rests}
 use Rattle.nb_laws.proofs.Tellings.{told, tries_later}
 use Rattle.nb_laws.specs.CommandsSoFar.{CommandsSoFar}
-use Rattle.nb_machine.specs.Queries.{for_host}
 use Rattle.nb_openlaws.specs.Standings.{live_opening, AreLive, AgreesStanding}
 use Rattle.nb_openlaws.specs.OpenEndings.{OpensEndSo, FramesSo}
 use Rattle.nb_openlaws.specs.OpenReasons.{OpenReasons}
@@ -30,11 +27,12 @@ use Rattle.nb_openlaws.proofs.KeptOpens.{KeptAt, course_kept}
 use Rattle.nb_openlaws.proofs.CourseEvents.{standing_unanswered}
 use Rattle.nb_lawful.specs.StateByLists.{IsLiveBy, IsStateBy}
 use Rattle.nb_lawful.specs.Results.{CommandsSo}
-use Rattle.nb_lawful.specs.ScriptAgreement.{ScriptsAgree}
+use Rattle.nb_lawful.specs.ScriptAgreement.{HandsOver, HandsWhatCame, ScriptsAgree}
 use Rattle.nb_lawful.specs.Lawful.{KeepsLaws}
 use Rattle.nb_lawful.proofs.Stepping.{used_stands}
 use Rattle.nb_lawful.proofs.Scripted.{AnswersAt, step_scripts, move_scripts}
-use Rattle.nb_lawful.proofs.Resting.{waiting_rests}
+use Rattle.nb_lawful.proofs.Onward.{reached_asks}
+use Rattle.nb_lawful.proofs.Resting.{asking_rests, waiting_rests}
 use Rattle.nb_lawful.proofs.StepReasons.{course_counts, step_stands}
 use Rattle.nb_lawful.proofs.OpenWays.{WaysAt, step_ways, move_ways}
 use Rattle.nb_lawful.proofs.Devices.{DeviceAgrees, told_read, move_device}
@@ -63,7 +61,7 @@ pub standing_rests : (es : List Event) (outs : List Out) (p : Standing) → Agre
 standing_rests es outs course.ready a h = over_rests es (ap (λ (x : CommandsSoFar). x.is_open) (nothing_so_far es h.0))
 standing_rests es outs (course.running s inner outer) a h = over_rests es h.1.is_open
 standing_rests es outs (course.waiting s w) a h = waiting_rests es s w a.opens h.1.now h.4
-standing_rests es outs (course.reaching s inner outer next) a h = inquiry_rests es _ (for_host h.4.errand h.4.name h.4.by) h.4.names
+standing_rests es outs (course.reaching s inner outer next) a h = let r = reached_asks es next h.4 in asking_rests es r.opens r.shown r.said r.asks
 standing_rests es outs (course.yielded s inner outer) a h = over_rests es h.1.is_open
 standing_rests es outs (course.handing s rest) a h = over_rests es h.1
 standing_rests es outs (course.left s [] cause) a h = over_rests es h.2.0
@@ -71,7 +69,7 @@ standing_rests es outs (course.left s (inner ∷ outer) cause) a h = λ seconds 
 standing_rests es outs (course.handed_off s) a h = over_rests es h.0
 standing_rests es outs (course.stopped s) a h = h.0
 
-pub standing_hands : (es : List Event) (outs : List Out) (p : Standing) → ScriptsAgree es outs p → HandsAsBrought es outs
+pub standing_hands : (es : List Event) (outs : List Out) (p : Standing) → ScriptsAgree es outs p → HandsWhatCame es outs
 standing_hands es outs course.ready h = inl h.1
 standing_hands es outs (course.running s inner outer) h = inl h.2.none
 standing_hands es outs (course.waiting s w) h = inl h.2.none
@@ -217,7 +215,7 @@ lawful_course give ins outs p c =
         advanced = t.advanced;
         unfinished = standing_unanswered es p.standing t.base (course_kept ins outs p c);
         rested = standing_rests es outs p.standing t.base t.scripts;
-        parts = subst (λ z. HandsAsBrought es z) t.written (standing_hands es outs p.standing t.scripts);
+        parts = subst (λ z. HandsWhatCame es z) t.written (standing_hands es outs p.standing t.scripts);
       },
       t.base,
       t.scripts,
@@ -228,9 +226,9 @@ pub lawful_history : OpensGive → (ins : List In) (outs : List Out) (p : Progre
 lawful_history give ins outs p es c h = let t = lawful_course give ins outs p c in subst KeepsLaws (one_history ins outs t.0 es t.1 h) t.2
 
 -- where all was handed off, it is what commands have brought
-pub handed_off_all : OpensGive → (ins : List In) (outs : List Out) (n : ℕ) (s : State) (es : List Event) → Course ins outs (course.stands n (course.handed_off s)) → IsHistory ins outs es → HandsOff es outs []
+pub handed_off_all : OpensGive → (ins : List In) (outs : List Out) (n : ℕ) (s : State) (es : List Event) → Course ins outs (course.stands n (course.handed_off s)) → IsHistory ins outs es → HandsOver es outs []
 handed_off_all give ins outs n s es c h =
-    let t = lawful_course give ins outs (course.stands n (course.handed_off s)) c in subst (λ z. HandsOff z outs []) (one_history ins outs t.0 es t.1 h) t.4.1
+    let t = lawful_course give ins outs (course.stands n (course.handed_off s)) c in subst (λ z. HandsOver z outs []) (one_history ins outs t.0 es t.1 h) t.4.1
 
 -- THE STATE BY THE LISTS
 

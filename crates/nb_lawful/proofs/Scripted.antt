@@ -3,7 +3,8 @@ use Rattle.std.proofs.Common.{◌≡◌, ℕ, ◌+◌, ◌≤◌, length, Bool, 
 use Rattle.std.specs.List.{AllByRecursion}
 use Rattle.std.proofs.lemmas.List.{map-append}
 use Rattle.nb_terms.specs.declared.cause.Cause.{Cause}
-use Rattle.nb_defs.specs.Records.{Start, In, Out, step, enter, leave, result}
+use Rattle.nb_defs.specs.Records.{Start, In, Out, step, sent, command, result, script, opened, done, enter, leave}
+use Rattle.nb_openlaws.specs.OpenEndings.{MayStandBehind}
 use Rattle.nb_defs.specs.ScriptLines.{Line, script}
 use Rattle.nb_defs.specs.Causes.{ok}
 use Rattle.nb_machine.specs.FirstText.{first_text, first_reading, lines_of}
@@ -11,7 +12,7 @@ use Rattle.nb_machine.specs.StartTable.{start_table}
 use Rattle.nb_machine.specs.Starting.{is_up}
 use Rattle.nb_machine.specs.Running.{Running, first_script, anew}
 use Rattle.nb_machine.specs.CommandRecords.{stopped_cause}
-use Rattle.nb_runner.proofs.HandingLemmas.{all_append}
+use Rattle.nb_streams.proofs.FlowLaws.{all_append}
 use Rattle.nb_machine.specs.Lives.{close, Live}
 use Rattle.nb_machine.specs.States.{State, state_at_start, with_live}
 use Rattle.nb_machine.specs.Takings.{Over, AllTake}
@@ -89,7 +90,7 @@ pub network_steps : (es : List Event) (outs : List Out) (s s' : State) (w : Wait
 network_steps es outs s s' w n r put over net a h =
     let u = network_agrees es s n r put s' over net a in
     let leaves = network_leaves s s' n r put over net in
-    record { at = refl; came = comes es outs s s' w.script w.outer true n u.event put u.used u.further leaves (now_is es s s' u.event put a u.agrees) h.0 h.1 h.2 h.3; leaves = leaves; net = net }
+    record { at = refl; used = u.used; made_is = a.opens; came = comes es outs s s' w.script w.outer true n u.event put u.used u.further leaves (now_is es s s' u.event put a u.agrees) h.0 h.1 h.2 h.3; leaves = leaves; net = net }
   where
     now_is : (es : List Event) (s s' : State) (e : Event) (put : List Out) → AgreesState es s → AgreesState ((es ++ e ∷ []) ++ told put) s' → s'.now ≡ s.now + ms_of e
     now_is es s s' e put a b = sym b.time ∙ told_time (es ++ e ∷ []) put ∙ time_more es e ∙ ap (λ z. z + ms_of e) a.time
@@ -125,9 +126,9 @@ answered_step es outs s s' w n r put more over x p net a answers answered leads 
     by es2 (its_time until is job slept) =
         let at : concluded_by s' w.script.depth w.job x ≡ concluded_by s' w.script.depth sleep by_time = ap (λ z. concluded_by s' w.script.depth z x) job ∙ ap (concluded_by s' w.script.depth sleep) is in
         subst (λ z. Goes es2 (outs ++ step n ∷ put) (upshot_records z ++ more) p) (sym at) (slept_goes es2 (outs ++ step n ∷ put) s' s (anew w.script) w.outer until more p slept (subst (λ z. LeadsTo s' (anew w.script) w.outer z more p) at leads))
-    by es2 (its_end l cause is ended purpose) =
+    by es2 (its_end moved l cause is over purpose) =
         let at : concluded_by s' w.script.depth w.job x ≡ concluded_by s' w.script.depth w.job (by_end (record { live = l; cause = cause })) = ap (concluded_by s' w.script.depth w.job) is in
-        subst (λ z. Goes es2 (outs ++ step n ∷ put) (upshot_records z ++ more) p) (sym at) (job_goes es2 (outs ++ step n ∷ put) s' (anew w.script) w.outer l cause w.job more p ended purpose (subst (λ z. LeadsTo s' (anew w.script) w.outer z more p) at leads))
+        subst (λ z. Goes es2 (outs ++ step n ∷ put) (upshot_records z ++ more) p) (sym at) (job_goes es2 (outs ++ step n ∷ put) s' (anew w.script) w.outer moved l cause w.job more p over purpose (subst (λ z. LeadsTo s' (anew w.script) w.outer z more p) at leads))
 
 -- a script goes on
 resumes_step : (es : List Event) (outs : List Out) (s s' : State) (inner : Running) (outer : List Running) (n : ℕ) (r : In) (put : List Out) (over : List Over) (net : Network s n r put s' over) (a : AgreesState es s) →
@@ -220,6 +221,16 @@ step_scripts es outs m r added m2 (course.goes_off n s inner outer put over all)
 
 -- A MOVE
 
+silent_behind : (o : Out) → IsSilent o → MayStandBehind o
+silent_behind (sent bytes) h = absurd h
+silent_behind (command depth line place expanded words) h = absurd h
+silent_behind (result cause) h = absurd h
+silent_behind (script what depth cause) h = absurd h
+silent_behind (opened number kind server port own target) h = absurd h
+silent_behind (done status) h = absurd h
+silent_behind (step number) h = tt
+silent_behind _ h = tt
+
 hands_goes : (es : List Event) (outs : List Out) (s : State) (r : Out) (rest : List Out) → IsStill r → ScriptsAgree es outs (course.handing s (r ∷ rest)) → Goes es outs (r ∷ []) (course.handing s rest)
 hands_goes es outs s r rest still (silent, over, hands) = record {
   stands = (silent_stands es r still silent.0, tt);
@@ -232,7 +243,7 @@ hands_goes es outs s r rest still (silent, over, hands) = record {
         since = hands.booted.since ++ r ∷ [];
         ends = ap (λ z. z ++ puts r ∷ []) hands.booted.ends ∙ append_assoc hands.booted.before (puts (result ok) ∷ told hands.booted.since) (puts r ∷ [])
             ∙ ap (λ z. hands.booted.before ++ puts (result ok) ∷ z) (sym (map-append puts hands.booted.since (r ∷ [])));
-        silent = all_append IsSilent hands.booted.since (r ∷ []) hands.booted.silent (silent.0, tt);
+        behind = all_append MayStandBehind hands.booted.since (r ∷ []) hands.booted.behind (silent_behind r silent.0, tt);
         list = hands.booted.list;
         kernel = hands.booted.kernel;
         boots = hands.booted.boots;

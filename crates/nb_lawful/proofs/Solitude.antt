@@ -1,21 +1,26 @@
 -- By the laws alone no open outlives its command: each that lives is the command's own, which has no result yet.
-use Rattle.std.proofs.Common.{◌≡◌, ◌⊎◌, inl, inr, ℕ, ◌+◌, ◌-◌, ◌≤◌, length, true, false, ◌||◌, List, [], ◌∷◌, ◌++◌, Option, Some, None, refl, sym, ◌∙◌, ap, subst, append_assoc, append-nil, add-zero}
+use Rattle.std.proofs.Common.{◌≡◌, ◌⊎◌, inl, inr, ℕ, ◌+◌, ◌-◌, ◌≤◌, length, true, false, ◌||◌, List, [], ◌∷◌, ◌++◌, Option, Some, None, sym, ◌∙◌, ap, subst, append_assoc, append-nil, add-zero}
 use Rattle.std.proofs.Math.Bool.{or-false}
 use Rattle.nb_terms.specs.declared.cause.Cause.{Cause}
-use Rattle.nb_machine.specs.Effects.{Effect, says, asks, goes, sleeps, shuts_device, inquires, on_images, concludes_at_once, ShownWords, settled_effect}
+use Rattle.nb_machine.specs.Effects.{Effect, asks, inquires, onward_effect, ShownWords, settled_effect}
+use Rattle.nb_machine.specs.Queries.{for_host}
 use Rattle.nb_laws.specs.Events.{Event}
-use Rattle.nb_laws.specs.CommandsSoFar.{CommandsSoFar, ScriptSoFar, so_far, so_far_by, running_base, shown_effect, comes_by}
+use Rattle.nb_laws.specs.CommandsSoFar.{CommandsSoFar, ScriptSoFar, so_far, so_far_by, running_base, shown_effect, comes_by, ComesTo}
+use Rattle.nb_laws.specs.Moves.{moves}
 use Rattle.nb_image.specs.Images.{ImageList}
 use Rattle.nb_settings.specs.Tables.{TableLists}
 use Rattle.nb_laws.specs.Lists.{made, opens_by, Opening, opening_at, openings, is_end_of, open_has_ended, live, last_end, end_by, came_ok}
 use Rattle.nb_laws.proofs.HandOffs.{last_end_more}
+use Rattle.nb_laws.proofs.Afterwards.{asks_by_words}
 use Rattle.nb_laws.proofs.SoFar.{so_far_more}
+use Rattle.nb_laws.proofs.Stays.{IsAsking}
 use Rattle.nb_laws.proofs.Tellings.{made_more, openings_more, over_more, no_more, live_same}
 use Rattle.nb_lawful.specs.CommandOpens.{CommandOpen, command_open_by, command_open, over_of}
-use Rattle.nb_lawful.specs.OpenPurposes.{OpenIsFor, first_for_file, first_for_query, next_for_host}
-use Rattle.nb_lawful.specs.Results.{GivesResult, by_words, by_jump, by_no_label, by_shut, by_sleep, by_failed_end, by_found, by_images, by_file, by_full_next, by_echo_of_host, HasEndedOpens}
+use Rattle.nb_lawful.specs.OpenPurposes.{OpenIsFor, first_for_file, first_for_query, next_for_host, next_for_place}
+use Rattle.nb_lawful.specs.Results.{GivesResult, by_words, by_jump, by_no_label, by_shut, by_sleep, by_failed_end, by_found, by_images, by_file, by_move, by_full_next, by_echo_of_host, HasEndedOpens}
 use Rattle.nb_lawful.proofs.Quiet.{command_open_more}
-use Rattle.nb_lawful.proofs.Awaited.{its, snoc_both}
+use Rattle.nb_lawful.proofs.Awaited.{its, last_view, snoc_both}
+use Rattle.nb_lawful.proofs.Onward.{onward_asks}
 
 -- WHAT HOLDS AFTER ANY EVENTS
 
@@ -37,21 +42,10 @@ abbrev pub EndsMatch : Option CommandOpen → Option Cause → Type 0
 EndsMatch None last = last ≡ None
 EndsMatch (Some o) last = OverMatches o.over last
 
--- something is asked for by an open
-abbrev pub AsksByOpen : Effect → Type 0
-AsksByOpen (asks wanted) = Unit {0}
-AsksByOpen (inquires q) = Unit {0}
-AsksByOpen (says o) = ⊥
-AsksByOpen (goes name) = ⊥
-AsksByOpen (sleeps seconds) = ⊥
-AsksByOpen shuts_device = ⊥
-AsksByOpen (on_images c) = ⊥
-AsksByOpen (concludes_at_once c) = ⊥
-
 -- a command that has made an open asks for something by its words
 abbrev pub HasAsked : Option CommandOpen → CommandsSoFar → Type 0
 HasAsked None m = Unit {0}
-HasAsked (Some o) m = (n : ℕ) × (shown : ShownWords) × (m.shown ≡ Some shown) × AsksByOpen (comes_by n m shown)
+HasAsked (Some o) m = (n : ℕ) × (shown : ShownWords) × (m.shown ≡ Some shown) × IsAsking (comes_by n m shown)
 
 -- while an open lives the settings and the device's state stay
 abbrev pub SettingsStay : List Event → Type 0
@@ -103,6 +97,7 @@ settled_by es cause (by_failed_end end bad) = settled_end (command_open es) caus
 settled_by es cause (by_found query last well comes is) = settled_well (command_open es) well
 settled_by es cause (by_images c none comes gives) = settled_none es none
 settled_by es cause (by_file c well comes gives) = settled_well (command_open es) well
+settled_by es cause (by_move o moved comes is) = settled_well (command_open es) moved.ended
 settled_by es cause (by_full_next errand name by well comes kind full is) = settled_well (command_open es) well
 settled_by es cause (by_echo_of_host name by well comes kind is) = settled_well (command_open es) well
 
@@ -114,12 +109,17 @@ pub settled_for : (es : List Event) (number kind server port own : ℕ) (target 
 settled_for es number kind server port own target (first_for_file r) = settled_none es r.first
 settled_for es number kind server port own target (first_for_query r) = settled_none es r.first
 settled_for es number kind server port own target (next_for_host r) = settled_well (command_open es) r.finds.ended
+settled_for es number kind server port own target (next_for_place r) = settled_well (command_open es) r.moved.ended
 
--- such an open is asked for
-pub asked_for : (es : List Event) (number kind server port own : ℕ) (target : List ℕ) → OpenIsFor es number kind server port own target → (n : ℕ) × (shown : ShownWords) × ((so_far es).shown ≡ Some shown) × AsksByOpen (comes_by n (so_far es) shown)
-asked_for es number kind server port own target (first_for_file r) = let (shown, said, names) = r.names in (number, shown, said, subst AsksByOpen (sym names) tt)
-asked_for es number kind server port own target (first_for_query r) = let (shown, said, names) = r.names in (number, shown, said, subst AsksByOpen (sym names) tt)
-asked_for es number kind server port own target (next_for_host r) = let (shown, said, names) = r.names in (made es - 1, shown, said, subst AsksByOpen (sym names) tt)
+-- such an open is asked for, by the words of its command
+asked_to : (es : List Event) (opens : ℕ) (e : Effect) → IsAsking e → ComesTo es opens e → (n : ℕ) × (shown : ShownWords) × ((so_far es).shown ≡ Some shown) × IsAsking (comes_by n (so_far es) shown)
+asked_to es opens e wanted (shown, said, is) = let (n, asked) = asks_by_words opens (so_far es) shown (moves es) (subst IsAsking (sym is) wanted) in (n, shown, said, asked)
+
+pub asked_for : (es : List Event) (number kind server port own : ℕ) (target : List ℕ) → OpenIsFor es number kind server port own target → (n : ℕ) × (shown : ShownWords) × ((so_far es).shown ≡ Some shown) × IsAsking (comes_by n (so_far es) shown)
+asked_for es number kind server port own target (first_for_file r) = asked_to es number (asks r.wanted) tt r.names
+asked_for es number kind server port own target (first_for_query r) = asked_to es number (inquires r.query) tt r.names
+asked_for es number kind server port own target (next_for_host r) = asked_to es (made es - 1) (inquires (for_host r.errand r.name r.by)) tt r.names
+asked_for es number kind server port own target (next_for_place r) = asked_to es number (onward_effect r.next) (onward_asks r.next) r.names
 
 -- EVENTS THAT CHANGE NOTHING OF IT
 
@@ -140,14 +140,6 @@ pub record IsCalm (es : List Event) (e : Event) : Type 0 where
 -- an event at which no open begins or ends
 pub live_then : (es : List Event) (e : Event) (j : ℕ) → opening_at j es e ≡ [] → is_end_of j e ≡ false → live j (es ++ e ∷ []) ≡ live j es
 live_then es e j none lasts = live_same j (es ++ e ∷ []) es (openings_more j es e ∙ no_more (openings j es) _ none) (over_more j es e ∙ ap (λ b. open_has_ended j es || b) lasts ∙ or-false (open_has_ended j es))
-
-pub last_view : {A : Type 0} (xs : List A) → (xs ≡ []) ⊎ ((front : List A) × (z : A) × (xs ≡ front ++ z ∷ []))
-last_view [] = inl refl
-last_view {A = A} (x ∷ xs) = by (last_view xs)
-  where
-    by : (xs ≡ []) ⊎ ((front : List A) × (z : A) × (xs ≡ front ++ z ∷ [])) → (x ∷ xs ≡ []) ⊎ ((front : List A) × (z : A) × (x ∷ xs ≡ front ++ z ∷ []))
-    by (inl e) = inr ([], x, ap (λ ys. x ∷ ys) e)
-    by (inr (front, z, e)) = inr (x ∷ front, z, ap (λ ys. x ∷ ys) e)
 
 -- the settings stay by one more event, where each open that lives then did so before, and they are the same
 pub stay_more : (es : List Event) (e : Event) → SettingsStay es →
@@ -175,7 +167,7 @@ comes_as n m m' words table images scripts =
 
 pub asked_as : (x : Option CommandOpen) (m m' : CommandsSoFar) → m'.shown ≡ m.shown → m'.table ≡ m.table → m'.images ≡ m.images → m'.scripts ≡ m.scripts → HasAsked x m → HasAsked x m'
 asked_as None m m' shown table images scripts a = tt
-asked_as (Some o) m m' shown table images scripts (n, words, said, by_open) = (n, words, shown ∙ said, subst AsksByOpen (sym (comes_as n m m' words table images scripts)) by_open)
+asked_as (Some o) m m' shown table images scripts (n, words, said, by_open) = (n, words, shown ∙ said, subst IsAsking (sym (comes_as n m m' words table images scripts)) by_open)
 
 pub calm_then : (es : List Event) (e : Event) → IsCalm es e → Solitude es → Solitude (es ++ e ∷ [])
 calm_then es e c a =

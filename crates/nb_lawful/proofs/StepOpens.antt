@@ -19,15 +19,17 @@ use Rattle.nb_laws.specs.Frames.{TriesSo}
 use Rattle.nb_laws.specs.Progress.{AdvancesSo, IsAdvanced}
 use Rattle.nb_laws.specs.Agreement.{AreStill}
 use Rattle.nb_laws.proofs.Asides.{still_conclusion}
+use Rattle.nb_laws.proofs.Histories.{client_stops}
 use Rattle.nb_laws.proofs.Tellings.{told}
-use Rattle.nb_openlaws.specs.Standings.{AreLive, AgreesState}
-use Rattle.nb_openlaws.specs.OpenEndings.{OpensEndSo, FramesSo, by_itself}
+use Rattle.nb_openlaws.specs.Standings.{AreLive, AgreesState, AgreesDevice}
+use Rattle.nb_openlaws.proofs.NetworkDevices.{device_follows}
+use Rattle.nb_openlaws.specs.OpenEndings.{OpensEndSo, FramesSo, by_itself, closes_off}
 use Rattle.nb_openlaws.specs.OpenReasons.{OpensAgree, OpenReasons}
 use Rattle.nb_openlaws.proofs.Takings.{grown}
 use Rattle.nb_openlaws.proofs.UsedEvents.{IsUsed, used_same, made_used, hardware_used}
 use Rattle.nb_openlaws.proofs.LiveStates.{all_same}
 use Rattle.nb_openlaws.proofs.Networks.{network_agrees}
-use Rattle.nb_openlaws.proofs.NetworkReasons.{used_advanced, off_advanced}
+use Rattle.nb_openlaws.proofs.NetworkReasons.{start_advanced, off_advanced}
 use Rattle.nb_openlaws.proofs.OpenReasons.{network_so}
 use Rattle.nb_openlaws.proofs.Sendings.{no_reasons, reasons_then}
 use Rattle.nb_openlaws.proofs.Courses.{step_event, step_more}
@@ -37,7 +39,8 @@ use Rattle.nb_lawful.specs.ScriptAgreement.{ScriptsAgree}
 use Rattle.nb_lawful.proofs.Begun.{told_two}
 use Rattle.nb_lawful.proofs.Scripted.{AnswersIn, AnswersAt}
 use Rattle.nb_lawful.proofs.MoveReasons.{AreUnsent, still_reasons, unsent_conclusion, conclusion_reasons, move_reasons}
-use Rattle.nb_lawful.proofs.Booting.{BootsSo, step_boots}
+use Rattle.nb_lawful.proofs.Leading.{BootsBy}
+use Rattle.nb_lawful.proofs.Booting.{step_boots}
 use Rattle.nb_lawful.proofs.Runs.{Story, OpensGive}
 
 -- THE NETWORK'S PART
@@ -72,11 +75,11 @@ unsent_upshot (concludes c) = unsent_conclusion c
 unsent_upshot (settles x) = (tt, tt)
 unsent_upshot (goes_onward next) = tt
 
-leads_reasons : (es : List Event) (s : State) (inner : Running) (outer : List Running) (u : Upshot) (more : List Out) (p : Standing) → LeadsTo s inner outer u more p → AgreesState es s → AreKept s.live → IsAdvanced (es ++ told (upshot_records u)) →
-    ((list : ImageList) (kernel : ℕ) → u ≡ concludes (boots list kernel) → BootsSo es list kernel) → OpenReasons (es ++ told (upshot_records u)) more
-leads_reasons es s inner outer (concludes c) more p leads a k adv booted = conclusion_reasons es s inner outer c more p leads a k adv (λ list kernel same. booted list kernel (ap concludes same))
-leads_reasons es s inner outer (settles x) more p (none, is) a k adv booted = subst (OpenReasons (es ++ told (result x.cause ∷ []))) (sym none) (no_reasons (es ++ told (result x.cause ∷ [])) adv)
-leads_reasons es s inner outer (goes_onward next) more p (none, is) a k adv booted = subst (OpenReasons (es ++ told [])) (sym none) (no_reasons (es ++ told []) adv)
+leads_reasons : (es : List Event) (s : State) (inner : Running) (outer : List Running) (u : Upshot) (more : List Out) (p : Standing) → LeadsTo s inner outer u more p → AgreesState es s → AgreesDevice es s → AreKept s.live → IsAdvanced (es ++ told (upshot_records u)) →
+    ((list : ImageList) (kernel : ℕ) → u ≡ concludes (boots list kernel) → BootsBy es s list kernel) → OpenReasons (es ++ told (upshot_records u)) more
+leads_reasons es s inner outer (concludes c) more p leads a d k adv booted = conclusion_reasons es s inner outer c more p leads a d k adv (λ list kernel same. booted list kernel (ap concludes same))
+leads_reasons es s inner outer (settles x) more p (none, is) a d k adv booted = subst (OpenReasons (es ++ told (result x.cause ∷ []))) (sym none) (no_reasons (es ++ told (result x.cause ∷ [])) adv)
+leads_reasons es s inner outer (goes_onward next) more p (none, is) a d k adv booted = subst (OpenReasons (es ++ told [])) (sym none) (no_reasons (es ++ told []) adv)
 
 answered_reasons : (es : List Event) (outs : List Out) (s s2 : State) (w : Waiting) (n : ℕ) (r : In) (put more : List Out) (over : List Over) (x : Answer) (p : Standing) (net : Network s n r put s2 over) (o : OpensAgree es s) → answer_in s2 r over w.awaited ≡ Some x →
     LeadsTo s2 (anew w.script) w.outer (concluded_by s2 w.script.depth w.job x) more p → ScriptsAgree es outs (course.waiting s w) →
@@ -87,7 +90,7 @@ answered_reasons es outs s s2 w n r put more over x p net o some leads h =
     let c = upshot_records (concluded_by s2 w.script.depth w.job x) in
     let first = (network_so es s s2 n r put over net o o.base).reasons in
     let second = still_reasons (es1 ++ told put) c (still_upshot (concluded_by s2 w.script.depth w.job x)) (unsent_upshot (concluded_by s2 w.script.depth w.job x)) first.after in
-    let third = leads_reasons (es1 ++ told put) s2 (anew w.script) w.outer (concluded_by s2 w.script.depth w.job x) more p leads u.agrees (network_kept s s2 n r put over net o.kept) second.after
+    let third = leads_reasons (es1 ++ told put) s2 (anew w.script) w.outer (concluded_by s2 w.script.depth w.job x) more p leads u.agrees (device_follows es s n r put s2 over net o.base o.device).device (network_kept s s2 n r put over net o.kept) second.after
     (λ list kernel is. step_boots es outs s s2 w n r put over x list kernel net o.base (network_answers es s o) some is h) in
     reasons_then es1 (put ++ c) more (reasons_then es1 put c first second) (subst (λ z. OpenReasons z more) (sym (told_two es1 put c)) third)
 
@@ -103,13 +106,15 @@ unfolding is_off
 last_off es n = fold-append off_by false es (stops n ∷ [])
 
 off_ends : (es : List Event) (n : ℕ) → EndsFor stopped_cause (es ++ stops n ∷ [])
-off_ends es n = λ ends all k. by_itself (by_stop refl (told_off (es ++ stops n ∷ []) ends ∙ last_off es n))
+off_ends es n = λ ends all.
+    let off = told_off (es ++ stops n ∷ []) ends ∙ last_off es n in
+    (λ k. by_itself (by_stop refl off), closes_off off)
 
 off_reasons : (es : List Event) (s : State) (n : ℕ) (put : List Out) (over : List Over) → OpensAgree es s → AllTake s.devices (close stopped_cause) s.live put [] over → OpenReasons (es ++ stops n ∷ []) put
 off_reasons es s n put over o all =
     let es1 = es ++ stops n ∷ [] in
-    let each : AreLive es1 s.live = all_same es es1 s.live (grown es (stops n ∷ [])) (made_used es (stops n) tt) (hardware_used es (stops n) tt tt) (λ j some. used_same j es (stops n) tt refl) o.base.each in
-    closes_reasons s.devices stopped_cause s.live put [] over all refl es1 each o.base.apart o.kept (off_advanced es n o.advanced) (off_ends es n)
+    let each : AreLive es1 s.live = all_same es es1 s.live (grown es (stops n ∷ [])) (made_used es (stops n) tt) (hardware_used es (stops n) tt tt) (λ j some. used_same j es (stops n) tt (refl, refl)) o.base.each in
+    closes_reasons s.devices stopped_cause s.live put [] over all refl es1 (o.device ∙ ap (λ c. c ∷ []) (sym (client_stops es n))) each o.base.apart o.kept (off_advanced es n o.advanced) (off_ends es n)
 
 -- EACH STEP
 
@@ -129,10 +134,10 @@ pub step_reasons : (ins : List In) (outs : List Out) (es : List Event) (m : Prog
     × OpenReasons (es ++ step_event es m r added m2 begins t.base ∷ []) (step_more m r added m2 begins)
 step_reasons ins outs es m r added m2 (course.runs n s code valid reads) t k =
     let e = starts (n + 1) s in
-    with_event es e (enter 1 ∷ []) tt t.advanced (still_reasons (es ++ e ∷ []) (enter 1 ∷ []) (tt, tt) (tt, tt) (used_advanced es e tt (λ j. refl) t.advanced))
+    with_event es e (enter 1 ∷ []) tt t.advanced (still_reasons (es ++ e ∷ []) (enter 1 ∷ []) (tt, tt) (tt, tt) (start_advanced es (n + 1) s t.base t.advanced))
 step_reasons ins outs es m r added m2 (course.refuses n s cause valid refuses) t k =
     let e = starts (n + 1) s in
-    with_event es e (enter 1 ∷ leave 1 cause ∷ []) tt t.advanced (still_reasons (es ++ e ∷ []) (enter 1 ∷ leave 1 cause ∷ []) (tt, (tt, tt)) (tt, (tt, tt)) (used_advanced es e tt (λ j. refl) t.advanced))
+    with_event es e (enter 1 ∷ leave 1 cause ∷ []) tt t.advanced (still_reasons (es ++ e ∷ []) (enter 1 ∷ leave 1 cause ∷ []) (tt, (tt, tt)) (tt, (tt, tt)) (start_advanced es (n + 1) s t.base t.advanced))
 step_reasons ins outs es m r added m2 (course.waits_on n s s2 w r0 put over valid net none) t k =
     let u = network_agrees es s (n + 1) r put s2 over net t.base in
     with_event es u.event put u.used t.advanced (network_so es s s2 (n + 1) r put over net (record { base = t.base; device = t.device; kept = k; ways = t.ways; advanced = t.advanced }) t.base).reasons

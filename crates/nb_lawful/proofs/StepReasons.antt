@@ -71,7 +71,7 @@ pub waiting_resumes : (es : List Event) (outs : List Out) (s : State) (w : Waiti
 waiting_resumes es outs s w a h = by h.4
   where
     by : AwaitsSo es s w → IsResumed es
-    by (awaits_time until at job none t) = by_sleep t.seconds h.1.is_open (sleeping_comes es s until a.opens t)
+    by (awaits_time until at job none t) = by_sleep t.seconds h.1.is_open (sleeping_comes es s until t)
     by (awaits_file l wanted at job f) = awaited_lives es s w l a at
     by (awaits_query l query at job q) = awaited_lives es s w l a at
 

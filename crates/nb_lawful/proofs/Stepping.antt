@@ -1,31 +1,33 @@
 -- A record is used: what its step does to the settings, the command and the open that it waits for.
-use Rattle.std.proofs.Common.{◌≡◌, ◌⊎◌, inl, inr, ℕ, ◌+◌, Bool, List, [], ◌∷◌, ◌++◌, Option, None, refl, sym, ◌∙◌, ap, subst, append_assoc, append-nil, add-zero, fold}
+use Rattle.std.proofs.Common.{◌≡◌, ◌⊎◌, inl, inr, ℕ, ◌+◌, Bool, List, [], ◌∷◌, ◌++◌, Option, refl, sym, ◌∙◌, ap, subst, append_assoc, append-nil, add-zero}
 use Rattle.std.specs.List.{AllByRecursion}
 use Rattle.nb_defs.specs.Records.{In, Out, step}
 use Rattle.nb_stack.specs.Client.{Client}
-use Rattle.nb_stack.specs.Takes.{reply_of}
+use Rattle.nb_machine.specs.Kinds.{reply_beside}
 use Rattle.nb_machine.specs.CommandRecords.{reply_records}
 use Rattle.nb_machine.specs.Running.{Running, anew}
-use Rattle.nb_runner.proofs.HandingLemmas.{all_append}
+use Rattle.nb_streams.proofs.FlowLaws.{all_append}
 use Rattle.nb_machine.specs.Lives.{OpenInput, Live}
 use Rattle.nb_machine.specs.States.{State}
 use Rattle.nb_machine.specs.Takings.{Over, AllTake}
-use Rattle.nb_machine.specs.Network.{Network, passes_by, brings, brings_reply, passes_time}
+use Rattle.nb_machine.specs.Network.{Network, passes_by, brings, brings_reply, brings_segment, passes_time}
 use Rattle.nb_laws.specs.Events.{Event, starts, hears, waits, stops, puts}
 use Rattle.nb_laws.specs.Lists.{time, ms_of, commands_by, commands_begun, hardware, hardware_by}
 use Rattle.nb_laws.specs.CommandsSoFar.{CommandsSoFar, so_far, so_far_by}
+use Rattle.nb_laws.specs.Moves.{moves_by, moves}
 use Rattle.nb_laws.specs.Agreement.{AgreesScript}
 use Rattle.nb_laws.proofs.Histories.{hardware_more, time_more}
 use Rattle.nb_laws.proofs.Tellings.{told}
 use Rattle.nb_laws.proofs.Commands.{script_used, script_told}
+use Rattle.nb_laws.proofs.Moved.{moves_more}
 use Rattle.nb_laws.proofs.SoFar.{so_far_more}
 use Rattle.nb_openlaws.proofs.UsedEvents.{IsUsed, IsFurther}
 use Rattle.nb_openlaws.proofs.Puts.{AreQuiet, take_quiet}
 use Rattle.nb_lawful.specs.CommandOpens.{CommandOpen, command_open_by, command_open}
 use Rattle.nb_lawful.specs.Results.{CommandsSo}
 use Rattle.nb_lawful.specs.ScriptAgreement.{SettingsAre, IsAnother, HasImages, NoneLeft}
-use Rattle.nb_lawful.proofs.Quiet.{reply_quiet, quiet_so_far, quiet_begin, quiet_parts, quiet_scripts, command_open_more, told_command_open}
-use Rattle.nb_lawful.proofs.Awaited.{its, others_took, with_exchanges, Took, took_on, took_last, snoc_both, took}
+use Rattle.nb_lawful.proofs.Quiet.{reply_quiet, quiet_so_far, quiet_begin, quiet_parts, quiet_scripts, command_open_more}
+use Rattle.nb_lawful.proofs.Awaited.{IsBeside, AreBeside, last_view, others_took, with_exchanges, Took, took_on, took_last, snoc_both, took}
 use Rattle.nb_lawful.proofs.AtOnce.{images_as}
 use Rattle.nb_lawful.proofs.Opened.{told_hardware}
 
@@ -40,20 +42,13 @@ pub record Leaves (s s' : State) (put : List Out) : Type 0 where
   pub quiet : AreQuiet put
 
 pub network_leaves : (s s' : State) (n : ℕ) (r : In) (put : List Out) (over : List Over) → Network s n r put s' over → Leaves s s' put
-network_leaves s s' n r put over (passes_by _ device bytes link m on got brought none) = record { table = refl; up = refl; images = refl; opens = refl; quiet = reply_quiet (reply_of link m) }
+network_leaves s s' n r put over (passes_by _ device bytes link m on got brought none) = record { table = refl; up = refl; images = refl; opens = refl; quiet = reply_quiet (reply_beside device s.live link m) }
 network_leaves s s' n r put over (brings _ device bytes link p d before behind after l _ _ on got brought is mine before_none behind_none takes) = record { table = refl; up = refl; images = refl; opens = refl; quiet = take_quiet _ _ _ _ _ _ takes }
 network_leaves s s' n r put over (brings_reply _ device bytes link p e before behind after l _ _ on got brought is mine before_none behind_none takes) = record { table = refl; up = refl; images = refl; opens = refl; quiet = take_quiet _ _ _ _ _ _ takes }
+network_leaves s s' n r put over (brings_segment _ device bytes link from p g before behind after l _ _ on got brought is mine before_none behind_none takes) = record { table = refl; up = refl; images = refl; opens = refl; quiet = take_quiet _ _ _ _ _ _ takes }
 network_leaves s s' n r put over (passes_time ms after _ _ takes) = record { table = refl; up = refl; images = refl; opens = refl; quiet = take_quiet _ _ _ _ _ _ takes }
 
 -- THE COMMAND'S OPEN
-
-last_view : {A : Type 0} (xs : List A) → (xs ≡ []) ⊎ ((front : List A) × (z : A) × (xs ≡ front ++ z ∷ []))
-last_view [] = inl refl
-last_view {A = A} (x ∷ xs) = by (last_view xs)
-  where
-    by : (xs ≡ []) ⊎ ((front : List A) × (z : A) × (xs ≡ front ++ z ∷ [])) → (x ∷ xs ≡ []) ⊎ ((front : List A) × (z : A) × (x ∷ xs ≡ front ++ z ∷ []))
-    by (inl e) = inr ([], x, ap (λ ys. x ∷ ys) e)
-    by (inr (front, z, e)) = inr (x ∷ front, z, ap (λ ys. x ∷ ys) e)
 
 all_front : {A : Type 0} (P : A → Type 0) (xs ys : List A) → AllByRecursion P (xs ++ ys) → AllByRecursion P xs
 all_front P [] ys h = tt
@@ -69,11 +64,11 @@ one_took : (devices : List Client) (input : OpenInput) (live before behind after
 one_took devices input live before behind after l1 put over is takes earlier l last h = by (last_view behind)
   where
     by_last : before ≡ earlier → l1 ≡ l → behind ≡ [] → Took l.number l put after over → Took l.number l put (before ++ after ++ behind) over
-    by_last same here none (took_on front xs at all missing still) =
+    by_last same here none (took_on front xs at all missing beside) =
         took_on (before ++ front) xs
         (ap (λ z. (before ++ after) ++ z) none ∙ append-nil (before ++ after) ∙ ap (λ z. before ++ z) at ∙ sym (append_assoc before front (with_exchanges l xs ∷ [])))
-        (all_append (IsAnother l.number) before front (subst (λ z. AllByRecursion (IsAnother l.number) z) (sym same) h) all) missing still
-    by_last same here none (took_last x cause some ends at_end) = took_last x cause some ends at_end
+        (all_append (IsAnother l.number) before front (subst (λ z. AllByRecursion (IsAnother l.number) z) (sym same) h) all) missing beside
+    by_last same here none (took_last x cause front some at beside) = took_last x cause front some at beside
 
     by : (behind ≡ []) ⊎ ((front : List Live) × (z : Live) × (behind ≡ front ++ z ∷ [])) → Took l.number l put (before ++ after ++ behind) over
     by (inl none) =
@@ -88,16 +83,18 @@ one_took devices input live before behind after l1 put over is takes earlier l l
         let o = others_took devices input (l1 ∷ []) put after over takes l.number (rest.0, tt) in
         took_on ((before ++ after) ++ front) l.exchanges
         (ap (λ y. (before ++ after) ++ y) (e ∙ ap (λ y. front ++ y ∷ []) two.1) ∙ sym (append_assoc (before ++ after) front (l ∷ [])))
-        (all_append (IsAnother l.number) (before ++ after) front (all_append (IsAnother l.number) before after first o.others) rest.1) o.none o.still
+        (all_append (IsAnother l.number) (before ++ after) front (all_append (IsAnother l.number) before after first o.others) rest.1) o.none o.beside
+
+reply_aside : (k : ℕ) (bytes : List ℕ) → AreBeside k (reply_records bytes)
+unfolding IsBeside
+reply_aside k [] = tt
+reply_aside k (b ∷ bytes) = (tt, tt)
 
 pub network_took : (s s' : State) (n : ℕ) (r : In) (put : List Out) (over : List Over) → Network s n r put s' over → (earlier : List Live) (l : Live) → s.live ≡ earlier ++ l ∷ [] → AllByRecursion (IsAnother l.number) earlier → Took l.number l put s'.live over
-network_took s s' n r put over (passes_by _ device bytes link m on got brought none) earlier l last h = took_on earlier l.exchanges last h refl (by (reply_of link m))
-  where
-    by : (bytes : List ℕ) → fold command_open_by (its l.number None) (told (reply_records bytes)) ≡ its l.number None
-    by [] = refl
-    by (b ∷ bytes) = refl
+network_took s s' n r put over (passes_by _ device bytes link m on got brought none) earlier l last h = took_on earlier l.exchanges last h refl (reply_aside l.number (reply_beside device s.live link m))
 network_took s s' n r put over (brings _ device bytes link p d before behind after l1 _ _ on got brought is mine before_none behind_none takes) earlier l last h = one_took _ _ s.live before behind after l1 put over is takes earlier l last h
 network_took s s' n r put over (brings_reply _ device bytes link p e before behind after l1 _ _ on got brought is mine before_none behind_none takes) earlier l last h = one_took _ _ s.live before behind after l1 put over is takes earlier l last h
+network_took s s' n r put over (brings_segment _ device bytes link from p g before behind after l1 _ _ on got brought is mine before_none behind_none takes) earlier l last h = one_took _ _ s.live before behind after l1 put over is takes earlier l last h
 network_took s s' n r put over (passes_time ms after _ _ takes) earlier l last h = took _ _ s.live put after over takes earlier l last h
 
 -- THE EVENT
@@ -132,6 +129,15 @@ used_open last _ h = refl
 pub used_command_open : (es : List Event) (e : Event) → IsUsed e → command_open (es ++ e ∷ []) ≡ command_open es
 used_command_open es e h = command_open_more es e ∙ used_open (command_open es) e h
 
+used_move : (es : List Event) (e : Event) → IsUsed e → moves_by es (moves es) e ≡ moves es
+used_move es (puts o) h = absurd h
+used_move es (starts n s) h = refl
+used_move es _ h = refl
+
+-- nor moves its file
+pub used_moves : (es : List Event) (e : Event) → IsUsed e → moves (es ++ e ∷ []) ≡ moves es
+used_moves es e h = moves_more es e ∙ used_move es e h
+
 -- time passes by events that are used alone
 pub told_time : (es : List Event) (outs : List Out) → time (es ++ told outs) ≡ time es
 told_time es [] = ap time (append-nil es)
@@ -147,7 +153,7 @@ pub record Came (es es2 : List Event) (outs : List Out) (s s' : State) (inner : 
   pub images : HasImages es2 (outs ++ step n ∷ put) s'
   pub none_left : NoneLeft es2
   pub hard : hardware es2 ≡ hardware es
-  pub opens : command_open es2 ≡ fold command_open_by (command_open es) (told put)
+  pub opens : command_open (es ++ e ∷ []) ≡ command_open es
 
 pub comes : (es : List Event) (outs : List Out) (s s' : State) (inner : Running) (outer : List Running) (still : Bool) (n : ℕ) (e : Event) (put : List Out) → IsUsed e → IsFurther e → Leaves s s' put → s'.now ≡ s.now + ms_of e →
     AgreesScript es inner outer → SettingsAre (so_far es) s still → HasImages es outs s → NoneLeft es → Came es ((es ++ e ∷ []) ++ told put) outs s s' inner outer still n e put
@@ -162,5 +168,5 @@ comes es outs s s' inner outer still n e put used further leaves now script sett
       images = images_as es (es1 ++ told put) outs (step n ∷ put) s s' (ap (λ (m : CommandsSoFar). m.images) same) leaves.images (tt, quiet_parts put leaves.quiet) images;
       none_left = ap (λ (m : CommandsSoFar). m.left) same ∙ none_left;
       hard = told_hardware es1 put ∙ hardware_more es e ∙ t.same_hardware es;
-      opens = told_command_open es1 put ∙ ap (λ z. fold command_open_by z (told put)) (used_command_open es e used);
+      opens = used_command_open es e used;
     }

@@ -12,10 +12,12 @@ use Rattle.nb_machine.specs.Scripts.{concludes_now, doing}
 use Rattle.nb_machine.specs.Courses as course
 use Rattle.nb_machine.specs.Courses.{Standing, ConclusionLeads}
 use Rattle.nb_laws.specs.Agreement.{AgreesScript}
-use Rattle.nb_laws.specs.CommandsSoFar.{CommandsSoFar, so_far, shown_table, concluded_in}
+use Rattle.nb_laws.specs.CommandsSoFar.{CommandsSoFar, so_far, shown_table, comes_by, concluded_in}
+use Rattle.nb_laws.specs.Moves.{moves}
 use Rattle.nb_laws.specs.Events.{Event, puts}
 use Rattle.nb_laws.specs.Lists.{made}
 use Rattle.nb_laws.proofs.Commands.{may_begin, script_begins, script_told}
+use Rattle.nb_laws.proofs.Afterwards.{after_by_words}
 use Rattle.nb_laws.proofs.Settling.{comes_keeps}
 use Rattle.nb_laws.proofs.SoFar.{so_far_more, begins_so_far, left_quiet, concludes_at_once_so}
 use Rattle.nb_openlaws.proofs.Doings.{comes_to, concludes_by, up_stays}
@@ -37,17 +39,18 @@ pub record ConcludesThere (es : List Event) (outs : List Out) (s : State) (inner
 concluding_there : (es : List Event) (outs : List Out) (s : State) (inner : Running) (outer : List Running) (ws : List (List ℕ)) (c : Conclusion) → ConcludesThere es outs s inner outer ws c → Concluding es outs s (entered inner) outer c
 concluding_there es outs s inner outer ws c k =
     let (shown, said, comes) = has_begun_comes es s inner ws (concludes_at_once c) k.begun k.comes in
+    let words : comes_by (made es) (so_far es) shown ≡ concludes_at_once c = after_by_words (made es) (so_far es) shown (moves es) (concludes_at_once c) (λ no. no) comes in
     record {
       script = k.script;
       settings = k.settings;
       images = k.images;
       none_left = ap (λ (m : CommandsSoFar). m.left) k.begun.so_far_is ∙ k.begun.none_left;
-      concluded = concluded_so (concludes_at_once_so es (so_far es) shown k.begun.ended_none said ∙ ap concluded_in comes);
-      keeps_table = ap (shown_table (so_far es).table) said ∙ comes_keeps (made es) (so_far es) shown (concludes_at_once c) comes tt;
+      concluded = concluded_so (concludes_at_once_so es (so_far es) shown k.begun.ended_none said ∙ ap concluded_in words);
+      keeps_table = ap (shown_table (so_far es).table) said ∙ comes_keeps (made es) (so_far es) shown (concludes_at_once c) words tt;
       leaves_table = left_quiet es (so_far es).table (so_far es).shown k.begun.ended_none;
       holds = λ cause gives. by_images c k.begun.none (shown, said, comes) gives;
       ended = subst HasEndedOpens (sym k.begun.none) tt;
-      fits = comes_fit (made es) (so_far es) shown c comes;
+      fits = comes_fit (made es) (so_far es) shown c words;
     }
 
 -- what it prints stands before its result

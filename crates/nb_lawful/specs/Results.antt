@@ -16,7 +16,7 @@ use Rattle.nb_laws.specs.Lists.{made, came_ok}
 use Rattle.nb_laws.specs.CommandsSoFar.{so_far, ComesTo, change_found, script_code, concluded_by_open, GivesCause}
 use Rattle.nb_laws.specs.Frames.{IsLastQuery, IsLastKind, BeginsCommand, ScriptStands}
 use Rattle.nb_lawful.specs.CommandOpens.{CommandOpen, command_open, command_end}
-use Rattle.nb_lawful.specs.OpenPurposes.{OpenStands}
+use Rattle.nb_lawful.specs.OpenPurposes.{HasBeenMoved, OpenStands}
 
 -- The cause of a command's result; the first five are of one that has made no open, and the others of one whose last open has ended.
 pub data GivesResult (es : List Event) (cause : Cause) : Type 0 where
@@ -39,6 +39,8 @@ pub data GivesResult (es : List Event) (cause : Cause) : Type 0 where
   by_images : (c : Conclusion) → command_open es ≡ None → ComesTo es (made es) (concludes_at_once c) → GivesCause c cause → GivesResult es cause
   -- its open has brought its file, and this comes of it
   by_file : (c : Conclusion) → came_ok (command_end es) ≡ true → concluded_by_open es (so_far es) ≡ Some c → GivesCause c cause → GivesResult es cause
+  -- its file was moved to a place for which nothing may be asked: of no file, past the fifth move, or of a server that can't be asked
+  by_move : (o : CommandOutcome) → HasBeenMoved es → ComesTo es (made es) (says o) → cause ≡ o.cause → GivesResult es cause
   -- it has looked up its server, and no more opens may be made
   by_full_next : (errand : Errand) (name : List ℕ) (by : ℕ) → came_ok (command_end es) ≡ true → ComesTo es (made es - 1) (inquires (for_host errand name by)) →
       IsLastKind es 4 → made es ≡ 16384 → cause ≡ full_opens → GivesResult es cause

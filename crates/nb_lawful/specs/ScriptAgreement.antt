@@ -1,17 +1,19 @@
 -- What the scripts of a course agree with in the history of its records: the settings, the device, the command that runs or waits, and
 -- the images.
-use Rattle.std.specs.Prelude.{◌≡◌, ℕ, ◌+◌, ◌-◌, ◌*◌, ◌<◌, ◌==◌, Bool, true, false, List, [], ◌∷◌, ◌++◌, Some, None}
+use Rattle.std.specs.Prelude.{◌≡◌, ◌⊎◌, ℕ, ◌+◌, ◌-◌, ◌*◌, ◌<◌, ◌==◌, Bool, true, false, List, [], ◌∷◌, ◌++◌, Some, None}
 use Rattle.std.specs.List.{AllByRecursion}
 use Rattle.nb_defs.specs.Parts.{HaveNoParts}
 use Rattle.nb_defs.specs.Records.{Out}
 use Rattle.nb_terms.specs.declared.cause.Cause.{Cause}
-use Rattle.nb_imagecmd.specs.Asking.{target_port, target_path}
+use Rattle.nb_imagecmd.specs.Asking.{target_port, target_text}
 use Rattle.nb_machine.specs.Running.{Running}
-use Rattle.nb_machine.specs.Effects.{ShownWords, sleeps, inquires}
+use Rattle.nb_uri.specs.declared.target.UriTarget.{UriTarget}
+use Rattle.nb_uri.specs.declared.target.UriTarget.TheVariants.{Tftp, Http, Iscsi}
+use Rattle.nb_machine.specs.Effects.{ShownWords, sleeps, inquires, onward_effect}
 use Rattle.nb_machine.specs.Errands.{Wanted, Errand, Onward, onward}
 use Rattle.nb_machine.specs.Queries.{Query, for_lease, for_echo, for_host, for_address}
-use Rattle.nb_machine.specs.Findings.{query_id}
-use Rattle.nb_machine.specs.Lives.{tftp, dns, dhcp, ping, Live}
+use Rattle.nb_machine.specs.Findings.{first_word, query_id}
+use Rattle.nb_machine.specs.Lives.{OpenKind, tftp, http, dns, dhcp, ping, Live}
 use Rattle.nb_machine.specs.States.{State}
 use Rattle.nb_machine.specs.Scripts.{fetch, sleep, job_for, answer, moment, Waiting}
 use Rattle.nb_machine.specs.Courses as course
@@ -19,15 +21,17 @@ use Rattle.nb_machine.specs.Courses.{Standing}
 use Rattle.nb_laws.specs.Events.{Event}
 use Rattle.nb_laws.specs.Lists.{Hardware, hardware, made, commands_begun}
 use Rattle.nb_laws.specs.Cores.{asker_by}
-use Rattle.nb_laws.specs.CommandsSoFar.{CommandsSoFar, so_far, comes_by, ComesTo}
-use Rattle.nb_laws.specs.HandOff.{HandsOff}
+use Rattle.nb_laws.specs.CommandsSoFar.{CommandsSoFar, so_far, comes_by, comes_after, ComesTo}
+use Rattle.nb_laws.specs.Moves.{MovedOpen, moves}
+use Rattle.nb_machine.specs.Conclusions.{handoff_records}
+use Rattle.nb_openlaws.specs.OpenEndings.{ClosesToBoot}
 use Rattle.nb_laws.specs.Wanting.{wanted_by}
 use Rattle.nb_laws.specs.Progress.{NoneOversleeps}
 use Rattle.nb_laws.specs.Silence.{AreSilent}
 use Rattle.nb_laws.specs.Agreement.{AreScripts, AgreesScript, AsksQuery}
 use Rattle.nb_openlaws.specs.Standings.{live_opening}
 use Rattle.nb_lawful.specs.CommandOpens.{command_open}
-use Rattle.nb_lawful.specs.OpenPurposes.{HasLookedUp}
+use Rattle.nb_lawful.specs.OpenPurposes.{HasLookedUp, HasBeenMoved}
 
 -- the settings, the device's state and the time are the state's, and the command that began last has its result, or hasn't
 pub record SettingsAre (m : CommandsSoFar) (s : State) (still : Bool) : Type 0 where
@@ -45,15 +49,21 @@ pub record SleepsUntil (m : CommandsSoFar) (s : State) (until : ℕ) : Type 0 wh
   pub until_is : until ≡ m.since + 1000 * seconds
   pub early : s.now < until
 
--- the command that began last asks for this file by this open, of the server that its words name
-pub record FetchesWith (m : CommandsSoFar) (l : Live) (wanted : Wanted) : Type 0 where
+-- the kind of open k for a target: by HTTP its SYN has the open's first word as its number; a disk isn't fetched
+abbrev pub kind_for : Hardware → ℕ → UriTarget → OpenKind
+kind_for h k (Tftp host port path whole) = tftp
+kind_for h k (Http host port path whole) = http (first_word h.identity k)
+kind_for h k (Iscsi host port lun name whole) = tftp
+
+-- the command that began last, whose file was moved so, asks for this file by this open, of the server that its words or the last place name
+pub record FetchesWith (h : Hardware) (m : CommandsSoFar) (moved : List MovedOpen) (l : Live) (wanted : Wanted) : Type 0 where
   pub shown : ShownWords
   pub said : m.shown ≡ Some shown
-  pub asked : wanted_by (comes_by l.number m shown) (live_opening l) ≡ Some wanted
-  pub kind_is : l.kind ≡ tftp
+  pub asked : wanted_by (comes_after l.number m shown moved) (live_opening l) ≡ Some wanted
+  pub kind_is : l.kind ≡ kind_for h l.number wanted.asking.target
   pub server_is : l.server ≡ wanted.server
   pub port_is : l.port ≡ target_port wanted.asking.target
-  pub target_is : l.target ≡ target_path wanted.asking.target
+  pub target_is : l.target ≡ target_text wanted.asking.target
 
 -- this open is for this query
 abbrev pub IsLiveFor : Hardware → Query → Live → Type 0
@@ -62,22 +72,20 @@ IsLiveFor h (for_echo server) l = l.kind ≡ ping
 IsLiveFor h (for_host errand name by) l = (l.kind ≡ dns (query_id h.identity l.number)) × (l.target ≡ name) × (l.server ≡ by)
 IsLiveFor h (for_address setting name by) l = l.kind ≡ dns (query_id h.identity l.number)
 
--- the command that began last asks this by this open
-pub record AsksIn (h : Hardware) (m : CommandsSoFar) (l : Live) (query : Query) : Type 0 where
+-- the command that began last, whose file was moved so, if it asks for one, asks this by this open
+pub record AsksIn (h : Hardware) (m : CommandsSoFar) (moved : List MovedOpen) (l : Live) (query : Query) : Type 0 where
   pub shown : ShownWords
   pub said : m.shown ≡ Some shown
-  pub asked : AsksQuery (comes_by l.number m shown) query
+  pub asked : AsksQuery (comes_after l.number m shown moved) query
   pub is_for : IsLiveFor h query l
 
--- the command that began last has looked up its server, and asks this of it
-pub record IsToReach (es : List Event) (next : Onward) : Type 0 where
-  pub errand : Errand
-  pub name : List ℕ
-  pub by : ℕ
-  pub names : ComesTo es (made es - 1) (inquires (for_host errand name by))
-  pub address : ℕ
-  pub finds : HasLookedUp es name by address
-  pub next_is : next ≡ onward errand address
+-- what the command that began last asks next
+pub data IsToReach (es : List Event) (next : Onward) : Type 0 where
+  -- it has looked up its server, and asks this of it
+  reaches_host : (errand : Errand) (name : List ℕ) (by address : ℕ) → ComesTo es (made es - 1) (inquires (for_host errand name by)) → HasLookedUp es name by address →
+      next ≡ onward errand address → IsToReach es next
+  -- its file was moved, and this is asked for at its place, for which one more open may be made
+  reaches_place : HasBeenMoved es → ComesTo es (made es) (onward_effect next) → (made es ≡ 16384 → ⊥) → IsToReach es next
 
 abbrev pub IsAnother : ℕ → Live → Type 0
 IsAnother k l = (l.number == k) ≡ false
@@ -94,8 +102,8 @@ pub record IsAwaited (es : List Event) (s : State) (w : Waiting) (l : Live) : Ty
 -- what the command that began last waits for
 pub data AwaitsSo (es : List Event) (s : State) (w : Waiting) : Type 0 where
   awaits_time : (until : ℕ) → w.awaited ≡ moment until → w.job ≡ sleep → command_open es ≡ None → SleepsUntil (so_far es) s until → AwaitsSo es s w
-  awaits_file : (l : Live) (wanted : Wanted) → IsAwaited es s w l → w.job ≡ fetch wanted → FetchesWith (so_far es) l wanted → AwaitsSo es s w
-  awaits_query : (l : Live) (query : Query) → IsAwaited es s w l → w.job ≡ job_for query → AsksIn (hardware es) (so_far es) l query → AwaitsSo es s w
+  awaits_file : (l : Live) (wanted : Wanted) → IsAwaited es s w l → w.job ≡ fetch wanted → FetchesWith (hardware es) (so_far es) (moves es) l wanted → AwaitsSo es s w
+  awaits_query : (l : Live) (query : Query) → IsAwaited es s w l → w.job ≡ job_for query → AsksIn (hardware es) (so_far es) (moves es) l query → AwaitsSo es s w
 
 -- the images are those of the history, and nothing was handed off
 pub record HasImages (es : List Event) (outs : List Out) (s : State) : Type 0 where
@@ -116,6 +124,20 @@ abbrev pub AreCounted : List Event → List Running → Type 0
 AreCounted es [] = Unit {0}
 AreCounted es (inner ∷ outer) = commands_begun es ≡ inner.begun
 
+-- The output, with these records still to come, ends with the hand-off of the images that the commands have left, the selected one
+-- first, after the RESULT of the command that boots it, after which what was closed then may have its FRAME; no PART stands before it.
+pub record HandsOver (es : List Event) (outs rest : List Out) : Type 0 where
+  pub booted : ClosesToBoot es
+  pub place : booted.list.selected ≡ Some booted.kernel
+  pub list_is : booted.list ≡ (so_far es).images
+  pub before : List Out
+  pub none : HaveNoParts before
+  pub ends : outs ++ rest ≡ before ++ handoff_records booted.kernel booted.list.images
+
+-- no PART stands, or the output hands over what was brought
+abbrev pub HandsWhatCame : List Event → List Out → Type 0
+HandsWhatCame es outs = HaveNoParts outs ⊎ ((rest : List Out) × HandsOver es outs rest)
+
 -- what the history says of the scripts, where a course stands
 abbrev pub ScriptsAgree : List Event → List Out → Standing → Type 0
 ScriptsAgree es outs course.ready = (es ≡ []) × HaveNoParts outs
@@ -123,7 +145,7 @@ ScriptsAgree es outs (course.running s inner outer) = AgreesScript es inner oute
 ScriptsAgree es outs (course.waiting s w) = AgreesScript es w.script w.outer × SettingsAre (so_far es) s true × HasImages es outs s × NoneLeft es × AwaitsSo es s w
 ScriptsAgree es outs (course.reaching s inner outer next) = AgreesScript es inner outer × SettingsAre (so_far es) s true × HasImages es outs s × NoneLeft es × IsToReach es next
 ScriptsAgree es outs (course.yielded s inner outer) = AgreesScript es inner outer × SettingsAre (so_far es) s false × HasImages es outs s × NoneLeft es × (inner.begun ≡ 4096)
-ScriptsAgree es outs (course.handing s rest) = AreSilent rest × ((so_far es).is_open ≡ false) × HandsOff es outs rest
+ScriptsAgree es outs (course.handing s rest) = AreSilent rest × ((so_far es).is_open ≡ false) × HandsOver es outs rest
 ScriptsAgree es outs (course.left s outer cause) = AreScripts (so_far es) outer × AreCounted es outer × HasLeft (so_far es) outer cause × SettingsAre (so_far es) s (so_far es).is_open × HasImages es outs s
-ScriptsAgree es outs (course.handed_off s) = ((so_far es).is_open ≡ false) × HandsOff es outs []
+ScriptsAgree es outs (course.handed_off s) = ((so_far es).is_open ≡ false) × HandsOver es outs []
 ScriptsAgree es outs (course.stopped s) = NoneOversleeps es × HaveNoParts outs

@@ -1,9 +1,10 @@
--- A command that fetches a file has a URI that resolves to it.
-use Rattle.std.proofs.Common.{◌≡◌, ℕ, ◌||◌, not, Bool, true, false, cond, length, List, Option, Some, None, Result, Ok, Err, refl, sym, ◌∙◌, ap, subst}
+-- A command that asks for a file has a URI that resolves to it, and asks a server of its host.
+use Rattle.std.proofs.Common.{◌≡◌, ℕ, ◌==◌, ◌||◌, not, Bool, true, false, cond, length, List, Option, Some, None, Result, Ok, Err, refl, sym, ◌∙◌, ap, subst}
 use Rattle.std.specs.Prelude.{nat_lt, slice_get, unwrap_or}
 use Rattle.std.specs.List.{join_with_byte}
 use Rattle.std.specs.Option.{option_map_or}
 use Rattle.std.proofs.lemmas.Option.{none-some, same_Some}
+use Rattle.nb_terms.specs.declared.cause.Cause.{Cause}
 use Rattle.nb_defs.specs.Commands.{CommandOutcome, refused}
 use Rattle.nb_settings.specs.Tables.{TableLists}
 use Rattle.nb_expand.specs.declared.error.ExpandError.{ExpandError}
@@ -33,20 +34,23 @@ use Rattle.nb_imagecmd.specs.declared.error.ImageFailure.TheVariants.{NoImage, N
 use Rattle.nb_imagecmd.specs.declared.error.PlanError.{PlanError}
 use Rattle.nb_imagecmd.specs.declared.outcome.ImageOutcome.{ImageOutcome}
 use Rattle.nb_imagecmd.specs.declared.outcome.ImageOutcome.TheVariants.{Done, Print, Ask, Run, Boot}
-use Rattle.nb_imagecmd.specs.Asking.{is_file, has_long_path, asked_name, asking_of, asked_by, asked_file}
+use Rattle.nb_imagecmd.specs.declared.outcome.ScriptImage.{ScriptImage}
+use Rattle.nb_imagecmd.specs.Failures.{image_cause}
+use Rattle.nb_imagecmd.specs.Asking.{target_host, target_uri, is_file, has_long_path, asked_name, asking_of, asked_by, asked_file}
 use Rattle.nb_imagecmd.specs.CarryingOut.{asking_answer, select_at, execute_at, set_args_at, image_effect}
 use Rattle.nb_imagecmd.specs.Executing.{ImageAnswer, selected_with, executed_kind, executed_image, executed_selected, script_taken}
 use Rattle.nb_imagecmd.specs.Freeing.{are_all_listed, kept_list}
 use Rattle.nb_wire.specs.declared.address.Ip4.{Ip4}
-use Rattle.nb_machine.specs.Effects.{Effect, says, asks, goes, sleeps, shuts_device, inquires, on_images, concludes_at_once, unless_full, onward_effect, asked_host, named_host, at_host, planned_effect, words_effect, ShownWords, effect, expansion, expanded_effect, Surroundings, asked_effect, taken_effect, image_outcome_effect, image_answer_effect, images_effect, settled_effect}
-use Rattle.nb_machine.specs.Errands.{Wanted, fetches_then, echoes_then, onward}
+use Rattle.nb_machine.specs.Conclusions.{Conclusion, keeps, tells, boots_selected, runs_script}
+use Rattle.nb_machine.specs.Effects.{Effect, says, asks, goes, sleeps, shuts_device, inquires, on_images, concludes_at_once, full_opens, next_effect, next_open, next_look_up, next_by_name, at_host, planned_effect, words_effect, ShownWords, effect, expansion, expanded_effect, Surroundings, asked_effect, taken_effect, image_outcome_effect, image_answer_effect, images_effect, settled_effect}
+use Rattle.nb_machine.specs.Errands.{Wanted, fetches_then, echoes_then, Onward, onward}
 use Rattle.nb_machine.specs.Queries.{for_lease, for_echo, for_host, for_address, bad_name, no_server, dns_in, with_domain}
-use Rattle.nb_machine.proofs.Eithers.{full_either}
-use Rattle.nb_laws.specs.CommandsSoFar.{shown_effect}
-use Rattle.nb_laws.specs.Fetching.{expanded_shown, IsServerOf, by_decimals, by_look_up, AsksBy, by_fetch, by_select, by_exec, FetchesFile}
+use Rattle.nb_machine.proofs.Eithers.{host_either}
+use Rattle.nb_laws.specs.CommandsSoFar.{CommandsSoFar, shown_effect, surroundings_in, comes_by, asking_in}
+use Rattle.nb_laws.specs.Fetching.{expanded_shown, IsServerOf, by_decimals, by_look_up, AsksBy, by_fetch, by_select, by_exec}
 use Rattle.nb_laws.specs.Lists.{Opening}
 use Rattle.nb_laws.specs.Wanting.{wanted_by}
-use Rattle.nb_laws.proofs.Settling.{IsPlain, plain_settles, PlanIs, images_plan, other_plan, plan_is}
+use Rattle.nb_laws.proofs.Settling.{IsPlain, plain_settles, PlanIs, images_plan, other_plan, plan_is, WordsAre, images_words, other_words, words_are, images_come, plain_comes}
 
 -- WHICH FILE A COMMAND ASKS FOR
 
@@ -140,191 +144,218 @@ image_asks command.Imgstat base list left asking is = absurd (never (Print _) li
 record IsAskingOf (r : Result UriTarget UriError) (given : Option (List ℕ)) (args : List (List ℕ)) (next : After) (asking : Asking) : Type 0 where
   target : UriTarget
   resolves : r ≡ Ok target
+  file : is_file target ≡ true
   same : asking_of target (asked_name given target) args next ≡ asking
 
 target_of : (r : Result UriTarget UriError) (given : Option (List ℕ)) (args : List (List ℕ)) (next : After) (asking : Asking) → asked_by r given args next ≡ Ok asking → IsAskingOf r given args next asking
 target_of (Err why) given args next asking is = absurd (cc)
 target_of (Ok target) given args next asking is =
-    by (not (is_file target)) (has_long_path target || nat_lt 255 (length (asked_name given target))) is
+    by (is_file target) (has_long_path target || nat_lt 255 (length (asked_name given target))) refl is
   where
     one : Asking
     one = asking_of target (asked_name given target) args next
 
-    by : (a b : Bool) → ◌≡◌ {A = Result Asking ImageFailure} (cond a (Err NoScheme) (cond b (Err LongPath) (Ok one))) (Ok asking) → IsAskingOf (Ok target) given args next asking
-    by true b e = absurd (let impossible : ◌≡◌ {A = Result Asking ImageFailure} (Err NoScheme) (Ok asking) = e in cc)
-    by false true e = absurd (let impossible : ◌≡◌ {A = Result Asking ImageFailure} (Err LongPath) (Ok asking) = e in cc)
-    by false false e = record { target = target; resolves = refl; same = cc }
+    by : (a b : Bool) → is_file target ≡ a → ◌≡◌ {A = Result Asking ImageFailure} (cond (not a) (Err NoScheme) (cond b (Err LongPath) (Ok one))) (Ok asking) → IsAskingOf (Ok target) given args next asking
+    by false b at e = absurd (let impossible : ◌≡◌ {A = Result Asking ImageFailure} (Err NoScheme) (Ok asking) = e in cc)
+    by true true at e = absurd (let impossible : ◌≡◌ {A = Result Asking ImageFailure} (Err LongPath) (Ok asking) = e in cc)
+    by true false at e = record { target = target; resolves = refl; file = at; same = cc }
 
--- WHICH SERVER IT ASKS
+-- What a command on images asks for first, before any move: the file of its URI.
+pub record IsFirst (x : Surroundings) (c : ImageCommand) (asking : Asking) : Type 0 where
+  pub given : Option (List ℕ)
+  pub uri : List ℕ
+  pub args : List (List ℕ)
+  pub asks : AsksBy c given uri args
+  pub resolves : resolution (base_by x.base x.table) uri ≡ Ok asking.target
+  pub file : is_file asking.target ≡ true
+  pub name : asking.name ≡ unwrap_or given (image_name (target_uri asking.target) (target_host asking.target))
+  pub arguments : asking.args ≡ join_with_byte 32 args
+  pub unmoved : asking.moves ≡ 0
 
--- a file of a host
-record HostGives (table : TableLists) (host : List ℕ) (asking : Asking) (wanted : Wanted) : Type 0 where
-  same : wanted.asking ≡ asking
-  server : IsServerOf table host wanted.server
+abbrev name_by : Option (List ℕ) → UriTarget → List ℕ
+name_by given target = unwrap_or given (image_name (target_uri target) (target_host target))
 
-abbrev AsksOfHost : TableLists → List ℕ → Asking → Effect → Type 0
-AsksOfHost table host asking e = (o : Opening) (wanted : Wanted) → wanted_by e o ≡ Some wanted → HostGives table host asking wanted
+named_so : (given : Option (List ℕ)) (target : UriTarget) → asked_name given target ≡ name_by given target
+named_so None (Tftp host port path whole) = refl
+named_so None (Http host port path whole) = refl
+named_so None (Iscsi host port lun name whole) = refl
+named_so (Some name) target = refl
 
-host_gives : (opens : ℕ) (table : TableLists) (host : List ℕ) (asking : Asking) → AsksOfHost table host asking (at_host opens table host (fetches_then asking))
-host_gives opens table host asking = by (four_decimals host) refl
-  where
-    P : Effect → Type 0
-    P e = AsksOfHost table host asking e
-
-    said : (x : CommandOutcome) → P (says x)
-    said x = λ o wanted is. absurd (none-some wanted is)
-
-    given : (server : ℕ) (wanted : Wanted) → IsServerOf table host server → ◌≡◌ {A = Option Wanted} (Some (record { server = server; asking = asking })) (Some wanted) → HostGives table host asking wanted
-    given server wanted of is = subst (HostGives table host asking) (same_Some (record { server = server; asking = asking }) wanted is) (record { same = refl; server = of })
-
-    by_server : (o : Option Ip4) → four_decimals host ≡ None → is_lookup_name (with_domain table host) ≡ true → dns_in table ≡ o → P (asked_host (fetches_then asking) (with_domain table host) o)
-    by_server None none can e = said (refused no_server)
-    by_server (Some server) none can e = λ o wanted is. given o.server wanted (by_look_up server none can e) is
-
-    named : (b : Bool) → four_decimals host ≡ None → is_lookup_name (with_domain table host) ≡ b →
-        P (cond b (unless_full opens (asked_host (fetches_then asking) (with_domain table host) (dns_in table))) (says (refused bad_name)))
-    named true none e = full_either P said opens (asked_host (fetches_then asking) (with_domain table host) (dns_in table)) (by_server (dns_in table) none e refl)
-    named false none e = said (refused bad_name)
-
-    by : (o : Option ℕ) → four_decimals host ≡ o → P (option_map_or (λ address. unless_full opens (onward_effect (onward (fetches_then asking) address))) o (named_host opens table (fetches_then asking) (with_domain table host)))
-    by None e = named (is_lookup_name (with_domain table host)) e refl
-    by (Some address) e = full_either P said opens (asks (record { server = address; asking = asking })) (λ o wanted is. given address wanted (by_decimals e) is)
-
--- A COMMAND ON IMAGES
-
-record IsImagesOf (x : Surroundings) (c : ImageCommand) (wanted : Wanted) : Type 0 where
-  given : Option (List ℕ)
-  uri : List ℕ
-  args : List (List ℕ)
-  asks : AsksBy c given uri args
-  host : List ℕ
-  port : ℕ
-  path : List ℕ
-  whole : List ℕ
-  resolves : resolution (base_by x.base x.table) uri ≡ Ok (Tftp host port path whole)
-  target : wanted.asking.target ≡ Tftp host port path whole
-  server : IsServerOf x.table host wanted.server
-  name : wanted.asking.name ≡ unwrap_or given (image_name whole host)
-  arguments : wanted.asking.args ≡ join_with_byte 32 args
-
-named_so : (given : Option (List ℕ)) (host : List ℕ) (port : ℕ) (path whole : List ℕ) → asked_name given (Tftp host port path whole) ≡ unwrap_or given (image_name whole host)
-named_so None host port path whole = refl
-named_so (Some name) host port path whole = refl
-
-images_of : (x : Surroundings) (c : ImageCommand) (asking : Asking) (host : List ℕ) (port : ℕ) (path whole : List ℕ) (wanted : Wanted) → asking.target ≡ Tftp host port path whole → AskedBy c (base_by x.base x.table) asking →
-    HostGives x.table host asking wanted → IsImagesOf x c wanted
-images_of x c asking host port path whole wanted is a g =
+first_asked : (x : Surroundings) (c : ImageCommand) (asking : Asking) → AskedBy c (base_by x.base x.table) asking → IsFirst x c asking
+first_asked x c asking a =
     let t = target_of (resolution (base_by x.base x.table) a.uri) a.given a.args a.next asking a.file in
-    let target : t.target ≡ Tftp host port path whole = ap (λ (y : Asking). y.target) t.same ∙ is in
+    let target : t.target ≡ asking.target = ap (λ (y : Asking). y.target) t.same in
     record {
       given = a.given;
       uri = a.uri;
       args = a.args;
       asks = a.asks;
-      host = host;
-      port = port;
-      path = path;
-      whole = whole;
       resolves = t.resolves ∙ ap (λ y. Ok y) target;
-      target = ap (λ (y : Asking). y.target) g.same ∙ is;
-      server = g.server;
-      name = ap (λ (y : Asking). y.name) g.same ∙ sym (ap (λ (y : Asking). y.name) t.same) ∙ ap (asked_name a.given) target ∙ named_so a.given host port path whole;
-      arguments = ap (λ (y : Asking). y.args) g.same ∙ sym (ap (λ (y : Asking). y.args) t.same);
+      file = subst (λ y. is_file y ≡ true) target t.file;
+      name = sym (ap (λ (y : Asking). y.name) t.same) ∙ named_so a.given t.target ∙ ap (name_by a.given) target;
+      arguments = sym (ap (λ (y : Asking). y.args) t.same);
+      unmoved = sym (ap (λ (y : Asking). y.moves) t.same);
     }
 
-images_fetch : (x : Surroundings) (c : ImageCommand) (o : Opening) (wanted : Wanted) → wanted_by (images_effect x c) o ≡ Some wanted → IsImagesOf x c wanted
-images_fetch x c o wanted is = by (image_effect c (base_by x.base x.table) x.images) refl is
+-- WHICH SERVER IT ASKS
+
+-- a file that is wanted is the one that is asked for
+pub wanted_asks : (e : Effect) (o : Opening) (wanted : Wanted) → wanted_by e o ≡ Some wanted → asking_in e ≡ Some wanted.asking
+wanted_asks (asks other) o wanted is = ap (λ w. Some w.asking) (same_Some other wanted is)
+wanted_asks (inquires (for_host (fetches_then asking) name by)) o wanted is = ap (λ w. Some w.asking) (same_Some (record { server = o.server; asking = asking }) wanted is)
+wanted_asks (inquires (for_host echoes_then name by)) o wanted is = absurd (none-some wanted is)
+wanted_asks (inquires for_lease) o wanted is = absurd (none-some wanted is)
+wanted_asks (inquires (for_echo server)) o wanted is = absurd (none-some wanted is)
+wanted_asks (inquires (for_address setting name by)) o wanted is = absurd (none-some wanted is)
+wanted_asks (says x) o wanted is = absurd (none-some wanted is)
+wanted_asks (goes name) o wanted is = absurd (none-some wanted is)
+wanted_asks (sleeps seconds) o wanted is = absurd (none-some wanted is)
+wanted_asks shuts_device o wanted is = absurd (none-some wanted is)
+wanted_asks (on_images c) o wanted is = absurd (none-some wanted is)
+wanted_asks (concludes_at_once c) o wanted is = absurd (none-some wanted is)
+
+-- of a host no other file is asked for
+abbrev AsksOnly : Asking → Effect → Type 0
+AsksOnly asking e = (other : Asking) → asking_in e ≡ Some other → asking ≡ other
+
+pub host_asks : (opens : ℕ) (table : TableLists) (host : List ℕ) (asking : Asking) → AsksOnly asking (at_host opens table host (fetches_then asking))
+host_asks opens table host asking =
+    host_either (AsksOnly asking) (λ o other is. absurd (none-some other is)) opens table host (fetches_then asking) (λ name by other is. same_Some asking other is) (λ address other is. same_Some asking other is)
+
+-- and the server is one of that host
+abbrev AsksServer : TableLists → List ℕ → Effect → Type 0
+AsksServer table host e = (o : Opening) (wanted : Wanted) → wanted_by e o ≡ Some wanted → IsServerOf table host wanted.server
+
+pub host_serves : (opens : ℕ) (table : TableLists) (host : List ℕ) (asking : Asking) → AsksServer table host (at_host opens table host (fetches_then asking))
+host_serves opens table host asking = by (four_decimals host) refl
   where
-    by_target : (target : UriTarget) (asking : Asking) → asking.target ≡ target → AskedBy c (base_by x.base x.table) asking → wanted_by (asked_effect target x asking) o ≡ Some wanted → IsImagesOf x c wanted
-    by_target (Tftp host port path whole) asking at a e = images_of x c asking host port path whole wanted at a (host_gives x.opens x.table host asking o wanted e)
-    by_target (Http host port path whole) asking at a e = absurd (none-some wanted e)
-    by_target (Iscsi host port lun name whole) asking at a e = absurd (none-some wanted e)
+    P : Result Onward Cause → Type 0
+    P next = AsksServer table host (next_effect next)
 
-    by_taken : (replace : Bool) (r : Result (_ × ImageList) ImageFailure) → wanted_by (taken_effect replace r) o ≡ Some wanted → IsImagesOf x c wanted
-    by_taken replace (Ok taken) e = absurd (none-some wanted e)
-    by_taken replace (Err why) e = absurd (none-some wanted e)
+    refuses : (why : Cause) → P (Err why)
+    refuses why = λ o wanted is. absurd (none-some wanted is)
 
-    by_outcome : (y : ImageOutcome) (list : ImageList) → image_effect c (base_by x.base x.table) x.images ≡ Ok (y, list) → wanted_by (image_outcome_effect x y list) o ≡ Some wanted → IsImagesOf x c wanted
-    by_outcome Done list at e = absurd (none-some wanted e)
-    by_outcome (Print lines) list at e = absurd (none-some wanted e)
-    by_outcome (Ask asking) list at e = by_target asking.target asking refl (image_asks c (base_by x.base x.table) x.images list asking at) e
-    by_outcome (Run image replace) list at e = by_taken replace (script_taken image replace x.depth list) e
-    by_outcome Boot list at e = absurd (none-some wanted e)
+    either : (b : Bool) (next other : Result Onward Cause) → P next → P other → P (cond b next other)
+    either true next other p q = p
+    either false next other p q = q
 
-    by : (r : ImageAnswer) → image_effect c (base_by x.base x.table) x.images ≡ r → wanted_by (image_answer_effect x r) o ≡ Some wanted → IsImagesOf x c wanted
-    by (Ok (y, list)) at e = by_outcome y list at e
-    by (Err why) at e = absurd (none-some wanted e)
+    given : (server : ℕ) (wanted : Wanted) → IsServerOf table host server → ◌≡◌ {A = Option Wanted} (Some (record { server = server; asking = asking })) (Some wanted) → IsServerOf table host wanted.server
+    given server wanted of is = subst (λ (w : Wanted). IsServerOf table host w.server) (same_Some (record { server = server; asking = asking }) wanted is) of
+
+    by_server : (o : Option Ip4) → four_decimals host ≡ None → is_lookup_name (with_domain table host) ≡ true → dns_in table ≡ o → P (next_look_up (fetches_then asking) (with_domain table host) o)
+    by_server None none can e = refuses no_server
+    by_server (Some server) none can e = λ o wanted is. given o.server wanted (by_look_up server none can e) is
+
+    named : (b : Bool) → four_decimals host ≡ None → is_lookup_name (with_domain table host) ≡ b →
+        P (cond b (cond (opens == 16384) (Err full_opens) (next_look_up (fetches_then asking) (with_domain table host) (dns_in table))) (Err bad_name))
+    named true none e = either (opens == 16384) _ _ (refuses full_opens) (by_server (dns_in table) none e refl)
+    named false none e = refuses bad_name
+
+    by : (o : Option ℕ) → four_decimals host ≡ o → P (option_map_or (λ address. next_open opens (onward (fetches_then asking) address)) o (next_by_name opens table (fetches_then asking) (with_domain table host)))
+    by None e = named (is_lookup_name (with_domain table host)) e refl
+    by (Some address) e = either (opens == 16384) _ _ (refuses full_opens) (λ o wanted is. given address wanted (by_decimals e) is)
+
+-- A COMMAND ON IMAGES
+
+at_its_host : (target : UriTarget) (x : Surroundings) (asking : Asking) → is_file target ≡ true → asked_effect target x asking ≡ at_host x.opens x.table (target_host target) (fetches_then asking)
+at_its_host (Tftp host port path whole) x asking file = refl
+at_its_host (Http host port path whole) x asking file = refl
+at_its_host (Iscsi host port lun name whole) x asking file = absurd (let impossible : false ≡ true = file in cc)
+
+-- it is refused, concludes at once, or asks the host of its file for that
+images_walk : (P : Effect → Type 0) → ((o : CommandOutcome) → P (says o)) → ((c : Conclusion) → P (concludes_at_once c)) → (x : Surroundings) (c : ImageCommand) →
+    ((asking : Asking) → IsFirst x c asking → P (at_host x.opens x.table (target_host asking.target) (fetches_then asking))) → P (images_effect x c)
+images_walk P said concluded x c asked = by (image_effect c (base_by x.base x.table) x.images) refl
+  where
+    by_taken : (replace : Bool) (r : Result (ScriptImage × ImageList) ImageFailure) → P (taken_effect replace r)
+    by_taken replace (Ok taken) = concluded (runs_script taken.1 taken.0 replace)
+    by_taken replace (Err why) = said (refused (image_cause why))
+
+    by_outcome : (y : ImageOutcome) (list : ImageList) → image_effect c (base_by x.base x.table) x.images ≡ Ok (y, list) → P (image_outcome_effect x y list)
+    by_outcome Done list at = concluded (keeps list)
+    by_outcome (Print lines) list at = concluded (tells list lines)
+    by_outcome (Ask asking) list at =
+        let f = first_asked x c asking (image_asks c (base_by x.base x.table) x.images list asking at) in
+        subst P (sym (at_its_host asking.target x asking f.file)) (asked asking f)
+    by_outcome (Run image replace) list at = by_taken replace (script_taken image replace x.depth list)
+    by_outcome Boot list at = concluded (boots_selected list)
+
+    by : (r : ImageAnswer) → image_effect c (base_by x.base x.table) x.images ≡ r → P (image_answer_effect x r)
+    by (Ok (y, list)) at = by_outcome y list at
+    by (Err why) at = said (refused (image_cause why))
+
+images_ask : (x : Surroundings) (c : ImageCommand) (asking : Asking) → asking_in (images_effect x c) ≡ Some asking → IsFirst x c asking
+images_ask x c asking = images_walk (λ e. asking_in e ≡ Some asking → IsFirst x c asking) (λ o is. absurd (none-some asking is)) (λ y is. absurd (none-some asking is)) x c
+    (λ first f is. subst (IsFirst x c) (host_asks x.opens x.table (target_host first.target) first asking is) f)
+
+images_serve : (x : Surroundings) (c : ImageCommand) (o : Opening) (wanted : Wanted) → wanted_by (images_effect x c) o ≡ Some wanted → IsServerOf x.table (target_host wanted.asking.target) wanted.server
+images_serve x c o wanted = images_walk (λ e. wanted_by e o ≡ Some wanted → IsServerOf x.table (target_host wanted.asking.target) wanted.server) (λ y is. absurd (none-some wanted is)) (λ y is. absurd (none-some wanted is)) x c
+    (λ first f is.
+    let host = target_host first.target in
+    let same : first ≡ wanted.asking = host_asks x.opens x.table host first wanted.asking (wanted_asks (at_host x.opens x.table host (fetches_then first)) o wanted is) in
+    subst (λ (a : Asking). IsServerOf x.table (target_host a.target) wanted.server) same (host_serves x.opens x.table host first o wanted is))
 
 -- ITS WORDS
 
--- no other command fetches a file
-plain_fetches : (e : Effect) (o : Opening) → IsPlain e → wanted_by e o ≡ None
-plain_fetches (says x) o is = refl
-plain_fetches (asks wanted) o is = absurd is
-plain_fetches (goes name) o is = refl
-plain_fetches (sleeps seconds) o is = refl
-plain_fetches shuts_device o is = refl
-plain_fetches (inquires for_lease) o is = refl
-plain_fetches (inquires (for_echo server)) o is = refl
-plain_fetches (inquires (for_address setting name by)) o is = refl
-plain_fetches (inquires (for_host echoes_then name by)) o is = refl
-plain_fetches (inquires (for_host (fetches_then asking) name by)) o is = absurd is
-plain_fetches (on_images c) o is = refl
-plain_fetches (concludes_at_once c) o is = absurd is
+-- no other command asks for a file
+pub plain_asks : (e : Effect) → IsPlain e → asking_in e ≡ None
+plain_asks (says x) is = refl
+plain_asks (asks wanted) is = absurd is
+plain_asks (goes name) is = refl
+plain_asks (sleeps seconds) is = refl
+plain_asks shuts_device is = refl
+plain_asks (inquires for_lease) is = refl
+plain_asks (inquires (for_echo server)) is = refl
+plain_asks (inquires (for_address setting name by)) is = refl
+plain_asks (inquires (for_host echoes_then name by)) is = refl
+plain_asks (inquires (for_host (fetches_then asking) name by)) is = absurd is
+plain_asks (on_images c) is = refl
+plain_asks (concludes_at_once c) is = absurd is
 
-record AreWordsOf (x : Surroundings) (words : List (List ℕ)) (wanted : Wanted) : Type 0 where
-  images : ImageCommand
-  planned_so : planned words ≡ Ok (plan.Images images)
-  of : IsImagesOf x images wanted
+-- the words of a command on images, which asks first for a file
+pub record AsksFirst (x : Surroundings) (shown : ShownWords) (asking : Asking) : Type 0 where
+  pub words : List (List ℕ)
+  pub expanded : expanded_shown x.table shown ≡ Ok words
+  pub images : ImageCommand
+  pub planned_so : planned words ≡ Ok (plan.Images images)
+  pub first : IsFirst x images asking
 
-words_fetch : (x : Surroundings) (words : List (List ℕ)) (o : Opening) (wanted : Wanted) → wanted_by (settled_effect x (words_effect x.opens x.table words)) o ≡ Some wanted → AreWordsOf x words wanted
+words_ask : (x : Surroundings) (shown : ShownWords) (words : List (List ℕ)) (asking : Asking) → expanded_shown x.table shown ≡ Ok words → asking_in (settled_effect x (words_effect x.opens x.table words)) ≡ Some asking → AsksFirst x shown asking
 unfolding words_effect
-words_fetch x words o wanted e = by (planned words) refl e
+words_ask x shown words asking expanded e = by (planned words) refl e
   where
-    by_plan : (p : CommandPlan) → PlanIs x.table p → planned words ≡ Ok p → wanted_by (settled_effect x (planned_effect x.opens x.table (Ok p))) o ≡ Some wanted → AreWordsOf x words wanted
+    by_plan : (p : CommandPlan) → PlanIs x.table p → planned words ≡ Ok p → asking_in (settled_effect x (planned_effect x.opens x.table (Ok p))) ≡ Some asking → AsksFirst x shown asking
     by_plan p (images_plan c at) is asked = record {
+      words = words;
+      expanded = expanded;
       images = c;
       planned_so = is ∙ ap (λ y. Ok y) at;
-      of = images_fetch x c o wanted (subst (λ y. wanted_by (settled_effect x (planned_effect x.opens x.table (Ok y))) o ≡ Some wanted) at asked);
+      first = images_ask x c asking (subst (λ y. asking_in (settled_effect x (planned_effect x.opens x.table (Ok y))) ≡ Some asking) at asked);
     }
     by_plan p (other_plan plain) is asked =
-        absurd (none-some wanted (sym (ap (λ y. wanted_by y o) (plain_settles x (planned_effect x.opens x.table (Ok p)) (plain x.opens)) ∙ plain_fetches (planned_effect x.opens x.table (Ok p)) o (plain x.opens)) ∙ asked))
+        absurd (none-some asking (sym (ap asking_in (plain_settles x (planned_effect x.opens x.table (Ok p)) (plain x.opens)) ∙ plain_asks (planned_effect x.opens x.table (Ok p)) (plain x.opens)) ∙ asked))
 
-    by : (r : Result CommandPlan PlanError) → planned words ≡ r → wanted_by (settled_effect x (planned_effect x.opens x.table r)) o ≡ Some wanted → AreWordsOf x words wanted
+    by : (r : Result CommandPlan PlanError) → planned words ≡ r → asking_in (settled_effect x (planned_effect x.opens x.table r)) ≡ Some asking → AsksFirst x shown asking
     by (Ok p) is asked = by_plan p (plan_is x.table p) is asked
-    by (Err why) is asked = absurd (none-some wanted asked)
+    by (Err why) is asked = absurd (none-some asking asked)
 
-fetches_by : (x : Surroundings) (shown : ShownWords) (words : List (List ℕ)) (wanted : Wanted) → expanded_shown x.table shown ≡ Ok words → AreWordsOf x words wanted → FetchesFile x shown wanted
-fetches_by x shown words wanted expanded y = record {
-  words = words;
-  expanded = expanded;
-  images = y.images;
-  planned_so = y.planned_so;
-  given = y.of.given;
-  uri = y.of.uri;
-  args = y.of.args;
-  asks = y.of.asks;
-  host = y.of.host;
-  port = y.of.port;
-  path = y.of.path;
-  whole = y.of.whole;
-  resolves = y.of.resolves;
-  target = y.of.target;
-  server = y.of.server;
-  name = y.of.name;
-  arguments = y.of.arguments;
-}
-
--- what a command fetches by an open
-pub fetches_file : (x : Surroundings) (shown : ShownWords) (o : Opening) (wanted : Wanted) → wanted_by (settled_effect x (shown_effect x.opens x.table shown)) o ≡ Some wanted → FetchesFile x shown wanted
+-- what a command asks for first
+pub asks_first : (x : Surroundings) (shown : ShownWords) (asking : Asking) → asking_in (settled_effect x (shown_effect x.opens x.table shown)) ≡ Some asking → AsksFirst x shown asking
 unfolding effect
-fetches_file x shown o wanted e = by_shown shown.expanded refl e
+asks_first x shown asking e = by_shown shown.expanded refl e
   where
-    by_expansion : (r : Result (List (List ℕ)) ExpandError) → expansion x.table shown.words ≡ r → shown.expanded ≡ false → wanted_by (settled_effect x (expanded_effect x.opens x.table r)) o ≡ Some wanted → FetchesFile x shown wanted
-    by_expansion (Ok words) is off asked =
-        fetches_by x shown words wanted (ap (λ b. cond b (Ok shown.words) (expansion x.table shown.words)) off ∙ is) (words_fetch x words o wanted asked)
-    by_expansion (Err why) is off asked = absurd (none-some wanted asked)
+    by_expansion : (r : Result (List (List ℕ)) ExpandError) → expansion x.table shown.words ≡ r → shown.expanded ≡ false → asking_in (settled_effect x (expanded_effect x.opens x.table r)) ≡ Some asking → AsksFirst x shown asking
+    by_expansion (Ok words) is off asked = words_ask x shown words asking (ap (λ b. cond b (Ok shown.words) (expansion x.table shown.words)) off ∙ is) asked
+    by_expansion (Err why) is off asked = absurd (none-some asking asked)
 
-    by_shown : (b : Bool) → shown.expanded ≡ b → wanted_by (settled_effect x (cond b (words_effect x.opens x.table shown.words) (effect x.opens x.table shown.words))) o ≡ Some wanted → FetchesFile x shown wanted
-    by_shown true is asked = fetches_by x shown shown.words wanted (ap (λ b. cond b (Ok shown.words) (expansion x.table shown.words)) is) (words_fetch x shown.words o wanted asked)
+    by_shown : (b : Bool) → shown.expanded ≡ b → asking_in (settled_effect x (cond b (words_effect x.opens x.table shown.words) (effect x.opens x.table shown.words))) ≡ Some asking → AsksFirst x shown asking
+    by_shown true is asked = words_ask x shown shown.words asking (ap (λ b. cond b (Ok shown.words) (expansion x.table shown.words)) is) asked
     by_shown false is asked = by_expansion (expansion x.table shown.words) refl is asked
+
+-- and of which server
+pub asks_server : (k : ℕ) (m : CommandsSoFar) (shown : ShownWords) (o : Opening) (wanted : Wanted) → wanted_by (comes_by k m shown) o ≡ Some wanted → IsServerOf m.table (target_host wanted.asking.target) wanted.server
+asks_server k m shown o wanted e = by (words_are m.table shown.expanded shown.words)
+  where
+    by : WordsAre m.table shown.expanded shown.words → IsServerOf m.table (target_host wanted.asking.target) wanted.server
+    by (images_words c at same still) = images_serve (surroundings_in k m) c o wanted (subst (λ (y : Effect). wanted_by y o ≡ Some wanted) (images_come k m shown c (at k)) e)
+    by (other_words plain) = absurd (none-some wanted.asking (sym (ap asking_in (plain_comes k m shown (plain k)) ∙ plain_asks (shown_effect k m.table shown) (plain k)) ∙ wanted_asks (comes_by k m shown) o wanted e))

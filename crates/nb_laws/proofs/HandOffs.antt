@@ -12,7 +12,7 @@ use Rattle.nb_machine.specs.Sendings.{has_route, send_records, sends_records, ac
 use Rattle.nb_defs.specs.Parts.{IsNoPart, HaveNoParts}
 use Rattle.nb_machine.specs.Running.{Running}
 use Rattle.nb_machine.specs.CommandRecords.{prints, command_record, command_records}
-use Rattle.nb_runner.proofs.HandingLemmas.{all_append}
+use Rattle.nb_streams.proofs.FlowLaws.{all_append}
 use Rattle.nb_laws.specs.Events.{Event}
 use Rattle.nb_laws.specs.Lists.{last_end, end_by}
 

@@ -24,13 +24,12 @@ use Rattle.nb_machine.specs.Effects.{Effect, says, asks, goes, sleeps, shuts_dev
 use Rattle.nb_machine.specs.Errands.{Errand, fetches_then, echoes_then}
 use Rattle.nb_machine.specs.Queries.{Query, for_lease, for_echo, for_host, for_address}
 use Rattle.nb_machine.proofs.Eithers.{either_of, full_either, pinged_case, pinged_either, looked_up_case, looked_up_either, asked_case, images_case, images_either}
-use Rattle.nb_runner.proofs.CommandLaws.{effect_of_words, effect_of_refused, KeepsTable, keeps_words}
-use Rattle.nb_laws.specs.CommandsSoFar.{CommandsSoFar, so_far, shown_effect, shown_table, shown_up, surroundings_in, comes_by, ComesTo, concluded_in, query_in}
+use Rattle.nb_machine.proofs.Words.{effect_of_words, effect_of_refused, KeepsTable, keeps_words}
+use Rattle.nb_laws.specs.CommandsSoFar.{CommandsSoFar, so_far, shown_effect, shown_table, shown_up, surroundings_in, comes_by, concluded_in, query_in}
 use Rattle.nb_laws.specs.Events.{Event}
-use Rattle.nb_laws.specs.Lists.{made}
 use Rattle.nb_laws.specs.Progress.{NoneOversleeps}
 use Rattle.nb_laws.proofs.Inquiries.{shown_inquiry_keeps}
-use Rattle.nb_laws.proofs.Stays.{Stays, IsAsking, host_stays, inquiry_stays}
+use Rattle.nb_laws.proofs.Stays.{Stays, IsAsking, host_stays, shown_stays}
 
 -- A COMMAND ON IMAGES, OR ANOTHER
 
@@ -198,12 +197,12 @@ comes_sleeps k j m shown n e = by (words_are m.table shown.expanded shown.words)
     by (images_words c at keeps stays) = absurd (subst IsAwake (sym (images_come k m shown c (at k)) ∙ e) (images_either IsAwake (λ o. tt) (λ x. tt) (λ wanted. tt) (λ q. tt) (surroundings_in k m) c))
     by (other_words plain) = plain_comes j m shown (plain j) ∙ shown_sleeps k j m.table shown.expanded shown.words n (sym (plain_comes k m shown (plain k)) ∙ e)
 
--- SOMETHING IS ASKED FOR BY ONE EXCHANGE, WHILE MORE OPENS MAY BE MADE
+-- SOMETHING IS ASKED FOR, WHILE MORE OPENS MAY BE MADE
 
 asked_stays : (k j : ℕ) (table : TableLists) (images : ImageList) (base : Option (List ℕ)) (depth : ℕ) (target : UriTarget) (asking : Asking) → j < 16384 →
     Stays (asked_effect target (record { opens = k; table = table; images = images; base = base; depth = depth }) asking) (asked_effect target (record { opens = j; table = table; images = images; base = base; depth = depth }) asking)
 asked_stays k j table images base depth (Tftp host port path whole) asking few = host_stays k j table host (fetches_then asking) few
-asked_stays k j table images base depth (Http host port path whole) asking few = λ is. refl
+asked_stays k j table images base depth (Http host port path whole) asking few = host_stays k j table host (fetches_then asking) few
 asked_stays k j table images base depth (Iscsi host port lun name whole) asking few = λ is. refl
 
 images_stay : (k j : ℕ) (table : TableLists) (images : ImageList) (base : Option (List ℕ)) (depth : ℕ) (c : ImageCommand) → j < 16384 →
@@ -224,14 +223,16 @@ images_stay k j table images base depth c few = by (image_effect c (base_by base
     by (Ok answer) = by_outcome answer.0 answer.1
     by (Err why) = λ is. refl
 
-pub comes_stay : (k j : ℕ) (m : CommandsSoFar) (shown : ShownWords) (q : Query) → j < 16384 → comes_by k m shown ≡ inquires q → comes_by j m shown ≡ inquires q
-comes_stay k j m shown q few e = by (words_are m.table shown.expanded shown.words)
+pub comes_stays : (k j : ℕ) (m : CommandsSoFar) (shown : ShownWords) → j < 16384 → Stays (comes_by k m shown) (comes_by j m shown)
+comes_stays k j m shown few = by (words_are m.table shown.expanded shown.words)
   where
-    by : WordsAre m.table shown.expanded shown.words → comes_by j m shown ≡ inquires q
-    by (images_words c at keeps stays) =
-        let is = sym (images_come k m shown c (at k)) ∙ e in
-        images_come j m shown c (at j) ∙ images_stay k j m.table m.images (surroundings_in k m).base (surroundings_in k m).depth c few (subst IsAsking (sym is) tt) ∙ is
-    by (other_words plain) = plain_comes j m shown (plain j) ∙ inquiry_stays k j m.table shown q few (sym (plain_comes k m shown (plain k)) ∙ e)
+    by : WordsAre m.table shown.expanded shown.words → Stays (comes_by k m shown) (comes_by j m shown)
+    by (images_words c at keeps stays) = λ is.
+        let here = images_come k m shown c (at k) in
+        images_come j m shown c (at j) ∙ images_stay k j m.table m.images (surroundings_in k m).base (surroundings_in k m).depth c few (subst IsAsking here is) ∙ sym here
+    by (other_words plain) = λ is.
+        let here = plain_comes k m shown (plain k) in
+        plain_comes j m shown (plain j) ∙ shown_stays k j m.table shown few (subst IsAsking here is) ∙ sym here
 
 -- IT CONCLUDES AT ONCE, WHATEVER OPENS WERE MADE
 
@@ -310,7 +311,7 @@ comes_keeps k m shown e is leaves = by (words_are m.table shown.expanded shown.w
 
 -- A QUERY OF ITS OWN
 
-abbrev AsksFile : Effect → Type 0
+abbrev pub AsksFile : Effect → Type 0
 AsksFile (inquires q) = IsNoFetch q → ⊥
 AsksFile (says o) = Unit {0}
 AsksFile (asks wanted) = Unit {0}
@@ -343,24 +344,6 @@ query_of_host k m shown errand name server e = by (words_are m.table shown.expan
     by (images_words c at keeps stays) = ask_none (ap query_in (at k))
     by (other_words plain) = ask_host errand name server (ap query_in (sym (plain_comes k m shown (plain k)) ∙ e))
 
--- and where it asks for a file at once, or concludes at once
-pub query_of_file : (k j : ℕ) (m : CommandsSoFar) (shown : ShownWords) (e : Effect) → comes_by k m shown ≡ e → LeavesTable e → query_in e ≡ None → query_in (shown_effect j m.table shown) ≡ None
-query_of_file k j m shown e is leaves none = by (words_are m.table shown.expanded shown.words)
-  where
-    never : (f : Effect) → IsPlain f → LeavesTable f → query_in f ≡ None → ⊥
-    never (inquires q) plain l asked = let impossible : Some q ≡ None = asked in cc
-    never (asks wanted) plain l asked = plain
-    never (concludes_at_once c) plain l asked = plain
-    never (says o) plain l asked = l
-    never (goes name) plain l asked = l
-    never (sleeps seconds) plain l asked = l
-    never shuts_device plain l asked = l
-    never (on_images c) plain l asked = l
-
-    by : WordsAre m.table shown.expanded shown.words → query_in (shown_effect j m.table shown) ≡ None
-    by (images_words c at keeps stays) = ap query_in (at j)
-    by (other_words plain) = absurd (never e (subst IsPlain (sym (plain_comes k m shown (plain k)) ∙ is) (plain k)) leaves none)
-
 -- a command that sleeps leaves the settings, and asks nothing
 pub comes_asleep : (k : ℕ) (m : CommandsSoFar) (shown : ShownWords) (n : ℕ) → comes_by k m shown ≡ sleeps n → shown_table m.table (Some shown) ≡ m.table
 comes_asleep k m shown n e = by (words_are m.table shown.expanded shown.words)
@@ -391,13 +374,3 @@ same_shown o x y p q = let both : Some x ≡ Some y = sym p ∙ q in cc
 -- a command that has its result doesn't oversleep
 pub over_rests : (es : List Event) → (so_far es).is_open ≡ false → NoneOversleeps es
 over_rests es over = λ seconds still comes. absurd (let impossible : false ≡ true = sym over ∙ still in cc)
-
--- nor one that asks for something by one exchange
-pub inquiry_rests : (es : List Event) (k : ℕ) (q : Query) → ComesTo es k (inquires q) → NoneOversleeps es
-inquiry_rests es k q comes_to = λ seconds still comes.
-    let (shown, is, sleeps_so) = comes in
-    let (said, said_is, asked) = comes_to in
-    let same : shown ≡ said = same_shown (so_far es).shown shown said is said_is in
-    let asleep : comes_by (made es) (so_far es) said ≡ sleeps seconds = subst (λ x. comes_by (made es) (so_far es) x ≡ sleeps seconds) same sleeps_so in
-    let again : comes_by k (so_far es) said ≡ sleeps seconds = comes_sleeps (made es) k (so_far es) said seconds asleep in
-    absurd (let impossible : inquires q ≡ sleeps seconds = sym asked ∙ again in cc)

@@ -16,14 +16,16 @@ use Rattle.nb_machine.specs.Running.{Running}
 use Rattle.nb_machine.specs.CommandRecords.{prints, command_record, command_records}
 use Rattle.nb_machine.specs.StartTable.{start_table}
 use Rattle.nb_machine.specs.Starting.{is_up}
-use Rattle.nb_runner.proofs.CommandLaws.{effect_of_words, table_of_words, up_of_words, shown_of_words, shown_of_refused, table_of_refused, up_of_refused}
+use Rattle.nb_machine.proofs.Words.{effect_of_words, table_of_words, up_of_words, shown_of_words, shown_of_refused, table_of_refused, up_of_refused}
 use Rattle.nb_laws.specs.Events.{Event, starts, puts, followed}
-use Rattle.nb_laws.specs.Lists.{Opening, openings, opens_file, datagrams_of, made, came_ok, last_end}
+use Rattle.nb_laws.specs.Lists.{Opening, openings, made, came_ok, last_end}
+use Rattle.nb_laws.specs.Moves.{moves}
+use Rattle.nb_laws.specs.Webs.{opens_a_file}
 use Rattle.nb_laws.specs.Wanting.{wanted_by}
 use Rattle.std.specs.Prelude.{find}
 use Rattle.nb_laws.specs.CommandsSoFar as commands
-use Rattle.nb_laws.specs.CommandsSoFar.{CommandsSoFar, so_far, so_far_by, no_commands, script_so_far, shown_effect, shown_table, shown_up, shown_query, found_table, left_table, comes_by, concluded_in, arrived_so_far, concluded_by_open, conclusion_so_far, images_after}
-use Rattle.nb_laws.specs.Silence.{IsSilent, AreSilent}
+use Rattle.nb_laws.specs.CommandsSoFar.{CommandsSoFar, so_far, so_far_by, no_commands, script_so_far, shown_effect, shown_table, shown_up, shown_query, found_table, left_table, comes_by, comes_after, concluded_in, file_fetched, wanted_so_far, arrived_so_far, concluded_by_open, conclusion_so_far, images_after}
+use Rattle.nb_laws.specs.Silence.{IsSilent}
 use Rattle.nb_laws.proofs.Histories.{followed_one, followed_append}
 use Rattle.nb_laws.proofs.Tellings.{told, made_more}
 use Rattle.nb_laws.proofs.HandOffs.{last_end_more}
@@ -113,25 +115,25 @@ concludes_at_once_so es m shown failed said =
     ap (λ b. cond b (concluded_by_open es m) (option_and_then (λ x. concluded_in (comes_by (made es) m x)) m.shown)) failed ∙ ap (option_and_then (λ x. concluded_in (comes_by (made es) m x))) said
 
 -- it has concluded nothing, whatever its opens: it fetches no file
-pub fetches_nothing : (es : List Event) (m : CommandsSoFar) (shown : ShownWords) → m.shown ≡ Some shown → ((o : Opening) → wanted_by (comes_by (made es - 1) m shown) o ≡ None) → concluded_in (comes_by (made es) m shown) ≡ None →
+pub fetches_nothing : (es : List Event) (m : CommandsSoFar) (shown : ShownWords) → m.shown ≡ Some shown → ((o : Opening) → wanted_by (comes_after (made es - 1) m shown (moves es)) o ≡ None) → concluded_in (comes_by (made es) m shown) ≡ None →
     conclusion_so_far (last_end es) es m ≡ None
 fetches_nothing es m shown said none concluded = by (came_ok (last_end es))
   where
-    by_open : (x : Option Opening) → option_and_then (λ o. option_and_then (arrived_so_far (datagrams_of (made es - 1) es) m o) (commands.wanted_so_far (made es - 1) m o)) x ≡ None
+    by_open : (x : Option Opening) → option_and_then (λ o. option_and_then (arrived_so_far (file_fetched (made es - 1) es o) m o) (wanted_so_far (made es - 1) m (moves es) o)) x ≡ None
     by_open None = refl
-    by_open (Some o) = ap (option_and_then (arrived_so_far (datagrams_of (made es - 1) es) m o)) (ap (option_and_then (λ x. wanted_by (comes_by (made es - 1) m x) o)) said ∙ none o)
+    by_open (Some o) = ap (option_and_then (arrived_so_far (file_fetched (made es - 1) es o) m o)) (ap (option_and_then (λ x. wanted_by (comes_after (made es - 1) m x (moves es)) o)) said ∙ none o)
 
     by : (b : Bool) → cond b (concluded_by_open es m) (option_and_then (λ x. concluded_in (comes_by (made es) m x)) m.shown) ≡ None
-    by true = by_open (find opens_file (openings (made es - 1) es))
+    by true = by_open (find opens_a_file (openings (made es - 1) es))
     by false = ap (option_and_then (λ x. concluded_in (comes_by (made es) m x))) said ∙ concluded
 
 -- or its last open is that of no file
-pub opened_no_file : (es : List Event) (m : CommandsSoFar) (shown : ShownWords) → m.shown ≡ Some shown → find opens_file (openings (made es - 1) es) ≡ None → concluded_in (comes_by (made es) m shown) ≡ None →
+pub opened_no_file : (es : List Event) (m : CommandsSoFar) (shown : ShownWords) → m.shown ≡ Some shown → find opens_a_file (openings (made es - 1) es) ≡ None → concluded_in (comes_by (made es) m shown) ≡ None →
     conclusion_so_far (last_end es) es m ≡ None
 opened_no_file es m shown said none concluded = by (came_ok (last_end es))
   where
     by : (b : Bool) → cond b (concluded_by_open es m) (option_and_then (λ x. concluded_in (comes_by (made es) m x)) m.shown) ≡ None
-    by true = ap (option_and_then (λ o. option_and_then (arrived_so_far (datagrams_of (made es - 1) es) m o) (commands.wanted_so_far (made es - 1) m o))) none
+    by true = ap (option_and_then (λ o. option_and_then (arrived_so_far (file_fetched (made es - 1) es o) m o) (wanted_so_far (made es - 1) m (moves es) o))) none
     by false = ap (option_and_then (λ x. concluded_in (comes_by (made es) m x))) said ∙ concluded
 
 -- a command begins

@@ -1,5 +1,5 @@
 -- What a command asks for stays so while more opens may be made.
-use Rattle.std.proofs.Common.{◌≡◌, ℕ, ◌==◌, ◌<◌, Bool, true, false, cond, List, Option, Some, None, Result, Ok, Err, refl, sym, ◌∙◌, ap, subst, arith, ne_eqb}
+use Rattle.std.proofs.Common.{◌≡◌, ℕ, ◌==◌, ◌<◌, Bool, true, false, cond, List, Option, Some, None, Result, Ok, Err, refl, ap, arith, ne_eqb}
 use Rattle.std.specs.Option.{option_map_or}
 use Rattle.nb_defs.specs.Causes.{ok}
 use Rattle.nb_defs.specs.Commands.{refused}
@@ -15,9 +15,10 @@ use Rattle.nb_command.specs.Planning.{planned}
 use Rattle.nb_command.specs.Settings.{Change}
 use Rattle.nb_dns.specs.WrittenNames.{is_lookup_name}
 use Rattle.nb_uri.specs.Addresses.{four_decimals}
-use Rattle.nb_machine.specs.Errands.{Errand, echoes_then, onward}
-use Rattle.nb_machine.specs.Queries.{Query, for_lease, bad_name, dns_in, with_domain}
-use Rattle.nb_machine.specs.Effects.{Effect, says, asks, goes, sleeps, shuts_device, inquires, on_images, concludes_at_once, full_opens, unless_full, device_effect, onward_effect, asked_host, named_host, at_host, asked_name_server, name_effect, unless_refused, looked_up_effect, plan_effect, planned_effect, words_effect, expansion, expanded_effect, effect, ShownWords, shown_as}
+use Rattle.nb_terms.specs.declared.cause.Cause.{Cause}
+use Rattle.nb_machine.specs.Errands.{Errand, echoes_then, Onward, onward}
+use Rattle.nb_machine.specs.Queries.{for_lease, bad_name, dns_in, with_domain}
+use Rattle.nb_machine.specs.Effects.{Effect, says, asks, goes, sleeps, shuts_device, inquires, on_images, concludes_at_once, full_opens, unless_full, device_effect, next_effect, next_look_up, next_by_name, at_host, asked_name_server, name_effect, unless_refused, looked_up_effect, plan_effect, planned_effect, words_effect, expansion, expanded_effect, effect, ShownWords, shown_as}
 use Rattle.nb_laws.specs.CommandsSoFar.{shown_effect}
 
 -- something is asked for by an open
@@ -35,15 +36,22 @@ IsAsking (concludes_at_once c) = ⊥
 abbrev pub Stays : Effect → Effect → Type 0
 Stays e f = IsAsking e → f ≡ e
 
+not_full : (j : ℕ) → j < 16384 → (j == 16384) ≡ false
+not_full j few = ne_eqb j 16384 (λ same. omega (arith, same, few))
+
 full_stays : (k j : ℕ) (e : Effect) → j < 16384 → Stays (unless_full k e) (unless_full j e)
 full_stays k j e few = by (k == 16384)
   where
-    not_full : (j == 16384) ≡ false
-    not_full = ne_eqb j 16384 (λ same. omega (arith, same, few))
-
     by : (b : Bool) → Stays (cond b (says (refused full_opens)) e) (unless_full j e)
     by true = λ is. absurd is
-    by false = λ is. ap (λ b. cond b (says (refused full_opens)) e) not_full
+    by false = λ is. ap (λ b. cond b (says (refused full_opens)) e) (not_full j few)
+
+next_stays : (k j : ℕ) (next : Result Onward Cause) → j < 16384 → Stays (next_effect (cond (k == 16384) (Err full_opens) next)) (next_effect (cond (j == 16384) (Err full_opens) next))
+next_stays k j next few = by (k == 16384)
+  where
+    by : (b : Bool) → Stays (next_effect (cond b (Err full_opens) next)) (next_effect (cond (j == 16384) (Err full_opens) next))
+    by true = λ is. absurd is
+    by false = λ is. ap (λ b. next_effect (cond b (Err full_opens) next)) (not_full j few)
 
 pub host_stays : (k j : ℕ) (table : TableLists) (text : List ℕ) (errand : Errand) → j < 16384 → Stays (at_host k table text errand) (at_host j table text errand)
 host_stays k j table text errand few = by (four_decimals text)
@@ -51,14 +59,17 @@ host_stays k j table text errand few = by (four_decimals text)
     name : List ℕ
     name = with_domain table text
 
-    named : (b : Bool) → Stays (cond b (unless_full k (asked_host errand name (dns_in table))) (says (refused bad_name))) (cond b (unless_full j (asked_host errand name (dns_in table))) (says (refused bad_name)))
-    named true = full_stays k j (asked_host errand name (dns_in table)) few
+    full : ℕ → Result Onward Cause → Result Onward Cause
+    full n next = cond (n == 16384) (Err full_opens) next
+
+    named : (b : Bool) → Stays (next_effect (cond b (full k (next_look_up errand name (dns_in table))) (Err bad_name))) (next_effect (cond b (full j (next_look_up errand name (dns_in table))) (Err bad_name)))
+    named true = next_stays k j (next_look_up errand name (dns_in table)) few
     named false = λ is. refl
 
-    by : (o : Option ℕ) → Stays (option_map_or (λ address. unless_full k (onward_effect (onward errand address))) o (named_host k table errand name))
-        (option_map_or (λ address. unless_full j (onward_effect (onward errand address))) o (named_host j table errand name))
+    by : (o : Option ℕ) → Stays (next_effect (option_map_or (λ address. full k (Ok (onward errand address))) o (next_by_name k table errand name)))
+        (next_effect (option_map_or (λ address. full j (Ok (onward errand address))) o (next_by_name j table errand name)))
     by None = named (is_lookup_name name)
-    by (Some address) = full_stays k j (onward_effect (onward errand address)) few
+    by (Some address) = next_stays k j (Ok (onward errand address)) few
 
 address_stays : (k j : ℕ) (table : TableLists) (setting text : List ℕ) → j < 16384 → Stays (looked_up_effect k table setting text) (looked_up_effect j table setting text)
 address_stays k j table setting text few = by (address_table setting 0 table) (four_decimals text)
@@ -114,13 +125,10 @@ written_stays : (k j : ℕ) (table : TableLists) (ws : List (List ℕ)) → j < 
 unfolding effect
 written_stays k j table ws few = expanded_stays k j table (expansion table ws) few
 
--- what is asked for by one exchange is so however many opens were made, where one more may be
-pub inquiry_stays : (k j : ℕ) (table : TableLists) (shown : ShownWords) (q : Query) → j < 16384 → shown_effect k table shown ≡ inquires q → shown_effect j table shown ≡ inquires q
-inquiry_stays k j table shown q few is = by shown.expanded shown.words is
+-- what a command asks for is so however many opens were made, where one more may be
+pub shown_stays : (k j : ℕ) (table : TableLists) (shown : ShownWords) → j < 16384 → Stays (shown_effect k table shown) (shown_effect j table shown)
+shown_stays k j table shown few = by shown.expanded shown.words
   where
-    asking : (e : Effect) → e ≡ inquires q → IsAsking e
-    asking e is = subst IsAsking (sym is) tt
-
-    by : (expanded : Bool) (ws : List (List ℕ)) → shown_effect k table (shown_as expanded ws) ≡ inquires q → shown_effect j table (shown_as expanded ws) ≡ inquires q
-    by true ws is = words_stay k j table ws few (asking (words_effect k table ws) is) ∙ is
-    by false ws is = written_stays k j table ws few (asking (effect k table ws) is) ∙ is
+    by : (expanded : Bool) (ws : List (List ℕ)) → Stays (shown_effect k table (shown_as expanded ws)) (shown_effect j table (shown_as expanded ws))
+    by true ws = words_stay k j table ws few
+    by false ws = written_stays k j table ws few

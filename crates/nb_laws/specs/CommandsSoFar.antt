@@ -1,6 +1,6 @@
 -- What a history says of the command that began last, of the settings, of the device, of the images, and of the scripts within one
 -- another.
-use Rattle.std.specs.Prelude.{◌≡◌, ℕ, ◌+◌, ◌-◌, ◌==◌, ◌&&◌, Bool, true, false, List, [], ◌∷◌, ◌++◌, length, drop, find, Option, Some, None, Ok, if◌then◌else◌}
+use Rattle.std.specs.Prelude.{◌≡◌, ℕ, ◌+◌, ◌-◌, ◌==◌, Bool, true, false, List, [], ◌∷◌, ◌++◌, length, drop, find, fold, Option, Some, None, Result, Ok, Err, if◌then◌else◌}
 use Rattle.std.specs.Option.{option_map_or, option_and_then}
 use Rattle.nb_terms.specs.declared.cause.Cause.{Cause}
 use Rattle.nb_defs.specs.Causes.{ok}
@@ -9,13 +9,18 @@ use Rattle.nb_defs.specs.ScriptLines.{Line, script_reading}
 use Rattle.nb_image.specs.Images.{ImageList}
 use Rattle.nb_tftp.specs.Blocks.{file, is_whole}
 use Rattle.nb_machine.specs.Conclusions.{Conclusion, keeps, tells, fails, boots, runs_script, conclusion}
-use Rattle.nb_machine.specs.Errands.{Wanted}
+use Rattle.nb_imagecmd.specs.declared.asking.Asking.{Asking}
+use Rattle.nb_imagecmd.specs.declared.error.ImageFailure.{ImageFailure}
+use Rattle.nb_imagecmd.specs.declared.error.ImageFailure.TheVariants.{NoScheme}
+use Rattle.nb_imagecmd.specs.Moving.{moved_file}
+use Rattle.nb_responses.specs.Chunks.{Response}
+use Rattle.nb_machine.specs.Errands.{Wanted, fetches_then, echoes_then}
 use Rattle.nb_machine.specs.FirstText.{first_text, lines_of}
-use Rattle.nb_laws.specs.Wanting.{wanted_by, is_open_of}
+use Rattle.nb_laws.specs.Wanting.{wanted_by, is_open_of, is_open_for}
 use Rattle.nb_settings.specs.Tables.{TableLists, root_alone}
 use Rattle.nb_machine.specs.StartTable.{start_table}
 use Rattle.nb_machine.specs.Starting.{is_up, no_images}
-use Rattle.nb_machine.specs.Effects.{Effect, says, asks, goes, sleeps, shuts_device, inquires, on_images, concludes_at_once, Surroundings, settled_effect, ShownWords, shown_as, effect, words_effect, words_table, words_up, changed}
+use Rattle.nb_machine.specs.Effects.{Effect, says, asks, goes, sleeps, shuts_device, inquires, on_images, concludes_at_once, Surroundings, settled_effect, ShownWords, shown_as, effect, next_effect, next_moved, words_effect, words_table, words_up, changed}
 use Rattle.nb_machine.specs.Queries.{Query, for_lease, for_echo, for_host, for_address}
 use Rattle.nb_machine.specs.Findings.{lease_change}
 use Rattle.nb_command.specs.Settings.{Change}
@@ -24,7 +29,9 @@ use Rattle.nb_dns.specs.LookupReplies.{address_found}
 use Rattle.nb_dhcp.specs.History.{acknowledgement_in}
 use Rattle.nb_tftp.specs.Received.{Received}
 use Rattle.nb_laws.specs.Events.{Event, starts, hears, waits, stops, puts, followed}
-use Rattle.nb_laws.specs.Lists.{Hardware, hardware, Opening, openings, opens_file, datagrams_of, made, last_end, came_ok}
+use Rattle.nb_laws.specs.Lists.{Hardware, hardware, Opening, openings, datagrams_of, made, last_end, came_ok}
+use Rattle.nb_laws.specs.Webs.{opens_connection, opens_a_file, is_body, response_so_far}
+use Rattle.nb_laws.specs.Moves.{MovedOpen, moves}
 use Rattle.nb_laws.specs.Cores.{lookup_by, asker_by, looked_at, handed_over}
 
 -- what a command comes to by the words that its record shows: they are expanded, or stand as they are written
@@ -84,6 +91,43 @@ surroundings_in opens m = record { opens = opens; table = m.table; images = m.im
 abbrev pub comes_by : ℕ → CommandsSoFar → ShownWords → Effect
 comes_by opens m shown = settled_effect (surroundings_in opens m) (shown_effect opens m.table shown)
 
+-- the file that a command asks for, if it asks for one
+abbrev pub asking_of_query : Query → Option Asking
+asking_of_query (for_host (fetches_then asking) name by) = Some asking
+asking_of_query (for_host echoes_then name by) = None
+asking_of_query for_lease = None
+asking_of_query (for_echo server) = None
+asking_of_query (for_address setting name by) = None
+
+abbrev pub asking_in : Effect → Option Asking
+asking_in (asks wanted) = Some wanted.asking
+asking_in (inquires q) = asking_of_query q
+asking_in (says o) = None
+asking_in (goes name) = None
+asking_in (sleeps seconds) = None
+asking_in shuts_device = None
+asking_in (on_images c) = None
+asking_in (concludes_at_once c) = None
+
+-- the same, where the server of this open has moved it, or why its command fails; an open that asked for another file moves it nowhere
+abbrev pub asking_moved : Result Asking ImageFailure → MovedOpen → Result Asking ImageFailure
+asking_moved (Ok asking) m = if is_open_for asking.target m.opening then moved_file asking m.place else Err NoScheme
+asking_moved (Err why) m = Err why
+
+-- after the moves of these opens, one after another
+abbrev pub asking_after : Asking → List MovedOpen → Result Asking ImageFailure
+asking_after asking moved = fold asking_moved (Ok asking) moved
+
+-- where it was moved it is asked for there, with so many opens made
+abbrev pub effect_moved : ℕ → TableLists → Effect → List MovedOpen → Option Asking → Effect
+effect_moved opens table e [] asked = e
+effect_moved opens table e (m ∷ moved) None = e
+effect_moved opens table e (m ∷ moved) (Some asking) = next_effect (next_moved opens table (asking_after asking (m ∷ moved)))
+
+-- what the command of these words comes to once these opens' servers have moved its file; which file that is doesn't depend on the opens made
+abbrev pub comes_after : ℕ → CommandsSoFar → ShownWords → List MovedOpen → Effect
+comes_after opens m shown moved = effect_moved opens m.table (comes_by opens m shown) moved (asking_in (comes_by 0 m shown))
+
 -- WHAT A COMMAND HAS FOUND
 
 -- the address that open k has found for its name, put into the setting that this names
@@ -135,20 +179,31 @@ left_table es table shown =
 
 -- WHAT A COMMAND ON IMAGES HAS COME TO
 
--- the file that the command fetches by this open
-abbrev pub wanted_so_far : ℕ → CommandsSoFar → Opening → Option Wanted
-wanted_so_far opens m o = option_and_then (λ shown. wanted_by (comes_by opens m shown) o) m.shown
+-- the file that the command fetches by this open, once it was moved by these
+abbrev pub wanted_so_far : ℕ → CommandsSoFar → List MovedOpen → Opening → Option Wanted
+wanted_so_far opens m moved o = option_and_then (λ shown. wanted_by (comes_after opens m shown moved) o) m.shown
 
--- what comes of a file whose open has received this
-abbrev pub arrived_so_far : List Received → CommandsSoFar → Opening → Wanted → Option Conclusion
-arrived_so_far received m o wanted =
-    if is_open_of wanted o && is_whole received then Some (conclusion ok wanted.asking (file received) (length m.scripts) m.images) else None
+-- the file that open k has fetched, if it is whole: by TFTP all its blocks, by HTTP a body; a move is none
+abbrev pub body_of : Response → Option (List ℕ)
+body_of r = if is_body r.verdict then Some r.bytes else None
+
+abbrev pub file_of : List Received → Option (List ℕ)
+file_of received = if is_whole received then Some (file received) else None
+
+abbrev pub file_fetched : ℕ → List Event → Opening → Option (List ℕ)
+file_fetched k es o = if opens_connection o then body_of (response_so_far k o es) else file_of (datagrams_of k es)
+
+-- what comes of a file that an open has fetched
+abbrev pub arrived_so_far : Option (List ℕ) → CommandsSoFar → Opening → Wanted → Option Conclusion
+arrived_so_far None m o wanted = None
+arrived_so_far (Some bytes) m o wanted =
+    if is_open_of wanted o then Some (conclusion ok wanted.asking bytes (length m.scripts) m.images) else None
 
 -- and of the last open, if it was made to fetch the command's file
 abbrev pub concluded_by_open : List Event → CommandsSoFar → Option Conclusion
 concluded_by_open es m =
-    option_and_then (λ o. option_and_then (arrived_so_far (datagrams_of (made es - 1) es) m o) (wanted_so_far (made es - 1) m o))
-    (find opens_file (openings (made es - 1) es))
+    option_and_then (λ o. option_and_then (arrived_so_far (file_fetched (made es - 1) es o) m o) (wanted_so_far (made es - 1) m (moves es) o))
+    (find opens_a_file (openings (made es - 1) es))
 
 abbrev pub concluded_in : Effect → Option Conclusion
 concluded_in (concludes_at_once c) = Some c
@@ -241,9 +296,9 @@ so_far_by before m (puts o) = m
 unfoldable pub so_far : List Event → CommandsSoFar
 so_far es = followed so_far_by [] no_commands es
 
--- what the command that began last comes to, where so many opens were made, as it stands after these events
+-- what the command that began last comes to, where so many opens were made, as it stands after these events: also after its file was moved
 abbrev pub ComesTo : List Event → ℕ → Effect → Type 0
-ComesTo es opens e = (shown : ShownWords) × ((so_far es).shown ≡ Some shown) × (comes_by opens (so_far es) shown ≡ e)
+ComesTo es opens e = (shown : ShownWords) × ((so_far es).shown ≡ Some shown) × (comes_after opens (so_far es) shown (moves es) ≡ e)
 
 -- the lines of the script that runs
 abbrev pub script_code : List Event → List Line

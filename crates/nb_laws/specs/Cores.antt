@@ -14,6 +14,7 @@ use Rattle.nb_command.specs.SettingAddresses.{host}
 use Rattle.nb_machine.specs.Findings.{asker_at, query_id}
 use Rattle.nb_laws.specs.Events.{Event}
 use Rattle.nb_laws.specs.Lists.{Hardware, hardware, Opening, datagrams_of}
+use Rattle.nb_laws.specs.Webs.{opens_connection, has_response}
 
 -- the look-up of open k, its query's number by START's key
 abbrev pub lookup_by : Hardware → ℕ → Opening → Lookup
@@ -54,6 +55,6 @@ answers_open h k o ms =
     else if o.kind == 5 then is_some (acknowledgement_in (asker_by h k) (handed_over ms))
     else has_some ms
 
--- what open k asks for has come
+-- what open k asks for has come: by HTTP a whole response, of all others what can be made of their datagrams
 abbrev pub has_its_answer : ℕ → Opening → List Event → Bool
-has_its_answer k o es = answers_open (hardware es) k o (datagrams_of k es)
+has_its_answer k o es = if opens_connection o then has_response k o es else answers_open (hardware es) k o (datagrams_of k es)

@@ -10,13 +10,18 @@ use Rattle.nb_imagecmd.specs.Asking.{target_uri}
 use Rattle.nb_machine.specs.Conclusions.{boots, handoff_records}
 use Rattle.nb_machine.specs.Effects.{ShownWords}
 use Rattle.nb_machine.specs.Errands.{Wanted}
+use Rattle.nb_machine.specs.Findings.{first_word}
 use Rattle.nb_tftp.specs.Cuts.{CarriesFile}
-use Rattle.nb_laws.specs.CommandsSoFar.{so_far, surroundings_in, comes_by, conclusion_so_far}
+use Rattle.nb_tftp.specs.Received.{Received}
+use Rattle.nb_webs.specs.Entries.{StoreEntry, file, elsewhere, ServesEntry}
+use Rattle.nb_laws.specs.CommandsSoFar.{so_far, surroundings_in, comes_after, conclusion_so_far}
 use Rattle.nb_laws.specs.Events.{Event, puts, EachEvent}
 use Rattle.nb_laws.specs.Fetching.{FetchesFile}
-use Rattle.nb_laws.specs.Lists.{Opening, openings, datagrams_of, came_ok, last_end, made}
+use Rattle.nb_laws.specs.Lists.{hardware, Opening, openings, datagrams_of, came_ok, last_end, made}
+use Rattle.nb_laws.specs.Moves.{MovedOpen, moves}
 use Rattle.nb_laws.specs.Silence.{AreSilent}
 use Rattle.nb_laws.specs.Wanting.{wanted_by, is_open_of}
+use Rattle.nb_laws.specs.Webs.{opens_a_file, brought_to, talk_by}
 
 -- the last RESULT is Ok, of a command that boots the image at this place of this list, and no COMMAND stands after it
 pub record HasBooted (es : List Event) : Type 0 where
@@ -39,14 +44,24 @@ pub record HandsOff (es : List Event) (outs rest : List Out) : Type 0 where
   pub none : HaveNoParts before
   pub ends : outs ++ rest ≡ before ++ handoff_records booted.kernel booted.list.images
 
--- what servers hold: by an address, a port and a path, a file
+-- what servers hold: by an address, a port and a target, a path or a whole URI, a file, another place or a refusal
 abbrev pub Store : Type 0
-Store = (address port : ℕ) → (path : List ℕ) → List ℕ
+Store = (address port : ℕ) → (target : List ℕ) → StoreEntry
 
--- What each open of a file has received so far are blocks of the file that its server holds, at its port, under its path.
+-- what an open by TFTP has received are blocks of a file
+pub record ServesBlocks (entry : StoreEntry) (received : List Received) : Type 0 where
+  pub bytes : List ℕ
+  pub holds : entry ≡ file bytes
+  pub carried : CarriesFile bytes received
+
+-- What each open of a file has received so far is what its server holds, at its port, under its target: blocks of a file, or a stream whose
+-- response is that of the entry.
+pub record IsHonestTo (entry : StoreEntry) (es : List Event) (k : ℕ) (o : Opening) : Type 0 where
+  pub blocks : o.kind ≡ 1 → ServesBlocks entry (datagrams_of k es)
+  pub stream : o.kind ≡ 2 → ServesEntry entry (first_word (hardware es).identity k) (talk_by (hardware es) k o (brought_to k es)).calls
+
 abbrev pub AreHonest : Store → List Event → Type 0
-AreHonest store es =
-    (k : ℕ) → AllByRecursion (λ o. o.kind ≡ 1 → CarriesFile (store o.server o.port o.target) (datagrams_of k es)) (openings k es)
+AreHonest store es = (k : ℕ) → AllByRecursion (λ o. IsHonestTo (store o.server o.port o.target) es k o) (openings k es)
 
 -- servers are honest at each record
 abbrev pub StayHonest : Store → List Event → Type 0
@@ -56,13 +71,18 @@ StayHonest store es = EachEvent (λ before e. AreHonest store before) [] es
 pub record FetchesBy (es : List Event) (opening : Opening) (wanted : Wanted) : Type 0 where
   pub shown : ShownWords
   pub is_shown : (so_far es).shown ≡ Some shown
-  pub comes_to : wanted_by (comes_by (made es - 1) (so_far es) shown) opening ≡ Some wanted
+  pub comes_to : wanted_by (comes_after (made es - 1) (so_far es) shown (moves es)) opening ≡ Some wanted
   pub its : is_open_of wanted opening ≡ true
-  pub resolves : FetchesFile (surroundings_in (made es - 1) (so_far es)) shown wanted
+  pub resolves : FetchesFile (surroundings_in (made es - 1) (so_far es)) shown (moves es) wanted
 
--- An image is the file of an open of kind 1 of the output that has ended in Ok, the last one made until then: the file to which the
--- URI of its command resolves has the open's server, port and path; the image has the name that its command gives, and the file's URI; and
--- it is, byte for byte, what the open's server holds, at its port, under that path.
+-- the open's server holds, at its port, under its target, the place to which it has moved the file
+abbrev pub IsMovedBy : Store → MovedOpen → Type 0
+IsMovedBy store m = store m.opening.server m.opening.port m.opening.target ≡ elsewhere m.place
+
+-- An image is the file of an open of the output that has ended in Ok, the last one made until then: the URI of its command resolves to a
+-- target from which servers have moved it, five times at most, each as it holds it, to the one that has the open's kind, server, port and
+-- target; the image has the name that its command gives, and the last URI; and it is, byte for byte, what the open's server holds, at its
+-- port, under that target.
 pub record IsFileOf (store : Store) (es : List Event) (image : Image) : Type 0 where
   pub before : List Event
   pub after : List Event
@@ -73,13 +93,14 @@ pub record IsFileOf (store : Store) (es : List Event) (image : Image) : Type 0 w
   pub others : List Opening
   pub more : List Opening
   pub opened : openings number before ≡ others ++ opening ∷ more
-  pub kind : opening.kind ≡ 1
+  pub kind : opens_a_file opening ≡ true
   pub ended : came_ok (last_end before) ≡ true
   pub wanted : Wanted
   pub asked : FetchesBy before opening wanted
+  pub moved : AllByRecursion (IsMovedBy store) (moves before)
   pub name : image.name ≡ wanted.asking.name
   pub uri : image.uri ≡ target_uri wanted.asking.target
-  pub body : image.body ≡ store opening.server opening.port opening.target
+  pub body : store opening.server opening.port opening.target ≡ file image.body
 
 -- so is each image that the commands have left in the list
 abbrev pub BringTheirs : List Event → Type 0

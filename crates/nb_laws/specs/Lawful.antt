@@ -17,16 +17,16 @@ pub record IsLawful (es : List Event) : Type 0 where
   -- file, and no sleep is over;
   -- START is used first, and each other record while an open lives or a command sleeps, or where the step before had 4,096 COMMANDs
   pub steps : EachEvent StepsSo [] es
-  -- each ENDED has its cause in the records so far, and is Ok exactly where what the open asks for has come: its file is whole, an
-  -- address or a lease was given, or the host has replied
+  -- each ENDED has its cause in the records so far, and is Ok exactly where what the open asks for has come: its file is whole, or was
+  -- moved, an address or a lease was given, or the host has replied
   pub ends : EachEvent EndsSo [] es
-  -- each RESULT has its cause in the records so far, and each COMMAND one RESULT at most, before the next; each FRAME is a reply to
-  -- its step's record, once, a message that a live open may send, or the ARP request for its next hop; no step has more than 4,096
-  -- COMMANDs; no DONE stands before the end
+  -- each RESULT and each OPEN has its cause in the records so far, and each COMMAND one RESULT at most, before the next; each FRAME is
+  -- a reply to its step's record, once, a message that a live open may send, or the ARP request for its next hop, or closes a connection as
+  -- the power is switched off; no step has more than 4,096 COMMANDs; no DONE stands before the end
   pub writes : EachEvent WritesSo [] es
   -- each TRY has its FRAME, or the ARP request for its next hop, directly after it
   pub tries : EachThen TriesSo [] es
-  -- an ADVANCE stands exactly where an open's file has grown by a block, before anything else
+  -- an ADVANCE stands exactly where an open's file has grown by a block, or its stream by bytes, before anything else
   pub advances : EachEvent AdvancesSo [] es
   -- after the last record, too, no ADVANCE is missing
   pub advanced : IsAdvanced es

@@ -4,16 +4,22 @@ use Rattle.nb_defs.specs.Records.{step, advanced}
 use Rattle.nb_machine.specs.Effects.{sleeps}
 use Rattle.nb_laws.specs.CommandsSoFar.{so_far, ComesTo}
 use Rattle.nb_laws.specs.Events.{Event, starts, hears, waits, stops, puts, inputs}
-use Rattle.nb_laws.specs.Lists.{Opening, live, file_blocks, last_place, made, commands_begun}
+use Rattle.nb_laws.specs.Lists.{Opening, live, fetches, file_blocks, last_place, made, commands_begun}
+use Rattle.nb_laws.specs.Webs.{stream_place}
 use Rattle.nb_laws.specs.Cores.{has_its_answer}
 
 -- What no live open asks for has come, and no file is whole: an open ends in the step in which it comes.
 abbrev pub NoneIsAnswered : List Event → Type 0
 NoneIsAnswered es = (k : ℕ) (o : Opening) → live k es ≡ o ∷ [] → has_its_answer k o es ≡ false
 
--- each open's last ADVANCE has the number of its file's last block; an open that fetches none has no ADVANCE
+-- how far open k's file has come: by TFTP the number of its last block, by HTTP the end of what has come of its stream; 0 of an open that
+-- fetches none
+abbrev pub file_place : ℕ → List Event → ℕ
+file_place k es = file_blocks k es + stream_place k es
+
+-- each open's last ADVANCE has the place to which its file has come; an open that fetches none has no ADVANCE
 abbrev pub IsAdvanced : List Event → Type 0
-IsAdvanced es = (k : ℕ) → last_place k es ≡ file_blocks k es
+IsAdvanced es = (k : ℕ) → last_place k es ≡ file_place k es
 
 -- a command that sleeps has its result once its time has come
 abbrev pub NoneOversleeps : List Event → Type 0
@@ -43,9 +49,15 @@ StepsSo before (waits n ms) = IsStep before n × IsResumed before
 StepsSo before (stops n) = IsStep before n × IsResumed before
 StepsSo before (puts o) = Unit {0}
 
--- An ADVANCE stands where its open's file has grown by a block, with that block's number. Before any other record, used or
--- written, each open's last ADVANCE has its file's last block: so none is missing, and none stands late.
+-- further than the last ADVANCE; by TFTP it is the next block
+pub record IsFurther (k : ℕ) (before : List Event) (n : ℕ) : Type 0 where
+  pub grown : last_place k before < n
+  pub next_block : fetches k before ≡ true → n ≡ last_place k before + 1
+
+-- An ADVANCE stands where its open's file has grown by a block, with that block's number, or where its stream has grown, with its end. Before
+-- any other record, used or written, each open's last ADVANCE has the place to which its file has come: so none is missing, and none stands
+-- late.
 abbrev pub AdvancesSo : List Event → Event → Type 0
-AdvancesSo before (puts (advanced k n)) = (n ≡ file_blocks k before) × (n ≡ last_place k before + 1)
+AdvancesSo before (puts (advanced k n)) = (n ≡ file_place k before) × IsFurther k before n
 AdvancesSo before (puts (step number)) = IsAdvanced before
 AdvancesSo before _ = IsAdvanced before

@@ -1,7 +1,11 @@
 -- Which file a command fetches by an open, as what it comes to says.
-use Rattle.std.specs.Prelude.{◌==◌, ◌&&◌, Bool, Option, Some, None}
+use Rattle.std.specs.Prelude.{ℕ, ◌==◌, ◌&&◌, Bool, true, List, Option, Some, None}
+use Rattle.std.specs.Option.{option_map_or}
 use Rattle.std.specs.Str.{bytes_eq}
-use Rattle.nb_imagecmd.specs.Asking.{target_port, target_path}
+use Rattle.nb_imagecmd.specs.Asking.{target_host, target_port, target_text}
+use Rattle.nb_uri.specs.Addresses.{four_decimals}
+use Rattle.nb_uri.specs.declared.target.UriTarget.{UriTarget}
+use Rattle.nb_uri.specs.declared.target.UriTarget.TheVariants.{Tftp, Http, Iscsi}
 use Rattle.nb_machine.specs.Effects.{Effect, says, asks, goes, sleeps, shuts_device, inquires, on_images, concludes_at_once}
 use Rattle.nb_machine.specs.Errands.{Wanted, fetches_then, echoes_then}
 use Rattle.nb_machine.specs.Queries.{Query, for_lease, for_echo, for_host, for_address}
@@ -26,7 +30,24 @@ wanted_by (inquires q) o = wanted_of_host q o
 wanted_by (on_images command) o = None
 wanted_by (concludes_at_once c) o = None
 
--- an open asks for this file: its server, at its port, for its path
+-- the kind of an open for a target: 1 by TFTP, 2 by HTTP; a disk isn't fetched
+abbrev pub target_kind : UriTarget → ℕ
+target_kind (Tftp host port path whole) = 1
+target_kind (Http host port path whole) = 2
+target_kind (Iscsi host port lun name whole) = 1
+
+-- an open asks for this target: by its scheme, at its port, for its path or its whole URI
+abbrev pub is_open_at : UriTarget → Opening → Bool
+is_open_at target o = (o.kind == target_kind target) && ((o.port == target_port target) && bytes_eq o.target (target_text target))
+
+-- an open asks its server for this file
 abbrev pub is_open_of : Wanted → Opening → Bool
-is_open_of wanted o =
-    (o.server == wanted.server) && ((o.port == target_port wanted.asking.target) && bytes_eq o.target (target_path wanted.asking.target))
+is_open_of wanted o = (o.server == wanted.server) && is_open_at wanted.asking.target o
+
+-- a host may have this server: four decimals are its address, and of a name a look-up finds it
+abbrev pub may_serve : (host : List ℕ) → (server : ℕ) → Bool
+may_serve host server = option_map_or (λ address. address == server) (four_decimals host) true
+
+-- an open asks a server of its host for this target
+abbrev pub is_open_for : UriTarget → Opening → Bool
+is_open_for target o = may_serve (target_host target) o.server && is_open_at target o

@@ -1,6 +1,7 @@
 -- What a command comes to that asks for something, or is refused.
 use Rattle.std.proofs.Common.{ℕ, ◌==◌, Bool, true, false, cond, List, Option, Some, None, Result, Ok, Err}
 use Rattle.std.specs.Option.{option_map_or}
+use Rattle.nb_terms.specs.declared.cause.Cause.{Cause}
 use Rattle.nb_defs.specs.Causes.{ok}
 use Rattle.nb_defs.specs.Commands.{CommandOutcome, refused}
 use Rattle.nb_command.specs.Addresses.{address_table}
@@ -25,8 +26,8 @@ use Rattle.nb_imagecmd.specs.Failures.{image_cause}
 use Rattle.nb_uri.specs.declared.target.UriTarget.{UriTarget}
 use Rattle.nb_uri.specs.declared.target.UriTarget.TheVariants.{Tftp, Http, Iscsi}
 use Rattle.nb_machine.specs.Conclusions.{Conclusion, keeps, tells, boots_selected, runs_script}
-use Rattle.nb_machine.specs.Errands.{Wanted, Errand, fetches_then, echoes_then, onward}
-use Rattle.nb_machine.specs.Effects.{Effect, says, asks, inquires, concludes_at_once, Surroundings, asked_effect, taken_effect, image_outcome_effect, image_answer_effect, images_effect, full_opens, unless_full, onward_effect, asked_host, named_host, at_host, asked_name_server, name_effect, unless_refused, looked_up_effect}
+use Rattle.nb_machine.specs.Errands.{Wanted, Errand, fetches_then, echoes_then, Onward, onward}
+use Rattle.nb_machine.specs.Effects.{Effect, says, asks, inquires, concludes_at_once, Surroundings, asked_effect, taken_effect, image_outcome_effect, image_answer_effect, images_effect, full_opens, unless_full, onward_effect, next_open, next_look_up, next_by_name, next_effect, at_host, asked_name_server, name_effect, unless_refused, looked_up_effect}
 use Rattle.nb_machine.specs.Queries.{Query, for_echo, for_address, for_host, bad_name, no_server, dns_in, with_domain}
 
 pub either_of : (P : Effect → Type 0) (b : Bool) (e f : Effect) → P e → P f → P (cond b e f)
@@ -37,27 +38,31 @@ either_of P false e f p q = q
 pub full_either : (P : Effect → Type 0) → ((o : CommandOutcome) → P (says o)) → (opens : ℕ) (wanted : Effect) → P wanted → P (unless_full opens wanted)
 full_either P said opens wanted p = either_of P (opens == 16384) (says (refused full_opens)) wanted (said (refused full_opens)) p
 
+next_either : (P : Effect → Type 0) (b : Bool) (x y : Result Onward Cause) → P (next_effect x) → P (next_effect y) → P (next_effect (cond b x y))
+next_either P true x y p q = p
+next_either P false x y p q = q
+
 -- what is asked of a host is refused, asks of it or looks its name up
-host_either : (P : Effect → Type 0) → ((o : CommandOutcome) → P (says o)) → (opens : ℕ) (table : TableLists) (text : List ℕ) (errand : Errand) → ((name : List ℕ) (by : ℕ) → P (inquires (for_host errand name by))) →
+pub host_either : (P : Effect → Type 0) → ((o : CommandOutcome) → P (says o)) → (opens : ℕ) (table : TableLists) (text : List ℕ) (errand : Errand) → ((name : List ℕ) (by : ℕ) → P (inquires (for_host errand name by))) →
     ((address : ℕ) → P (onward_effect (onward errand address))) → P (at_host opens table text errand)
 host_either P said opens table text errand inquired asked = by (four_decimals text)
   where
-    server : (name : List ℕ) (o : Option Ip4) → P (asked_host errand name o)
+    server : (name : List ℕ) (o : Option Ip4) → P (next_effect (next_look_up errand name o))
     server name None = said (refused no_server)
     server name (Some address) = inquired name address.0
 
-    named : (name : List ℕ) → P (named_host opens table errand name)
-    named name = either_of P (is_lookup_name name) _ _ (full_either P said opens _ (server name (dns_in table))) (said (refused bad_name))
+    named : (name : List ℕ) → P (next_effect (next_by_name opens table errand name))
+    named name = next_either P (is_lookup_name name) _ _ (next_either P (opens == 16384) _ _ (said (refused full_opens)) (server name (dns_in table))) (said (refused bad_name))
 
-    by : (o : Option ℕ) → P (option_map_or (λ address. unless_full opens (onward_effect (onward errand address))) o (named_host opens table errand (with_domain table text)))
+    by : (o : Option ℕ) → P (next_effect (option_map_or (λ address. next_open opens (onward errand address)) o (next_by_name opens table errand (with_domain table text))))
     by None = named (with_domain table text)
-    by (Some address) = full_either P said opens (onward_effect (onward errand address)) (asked address)
+    by (Some address) = next_either P (opens == 16384) _ _ (said (refused full_opens)) (asked address)
 
 -- a file that is asked for is refused, asked for at once, or its server's address is
 pub asked_case : (P : Effect → Type 0) → ((o : CommandOutcome) → P (says o)) → (target : UriTarget) (x : Surroundings) (asking : Asking) → ((server : ℕ) → P (asks (record { server = server; asking = asking }))) →
     ((name : List ℕ) (by : ℕ) → P (inquires (for_host (fetches_then asking) name by))) → P (asked_effect target x asking)
 asked_case P said (Tftp host port path whole) x asking asked inquired = host_either P said x.opens x.table host (fetches_then asking) inquired asked
-asked_case P said (Http host port path whole) x asking asked inquired = said (refused (image_cause NoScheme))
+asked_case P said (Http host port path whole) x asking asked inquired = host_either P said x.opens x.table host (fetches_then asking) inquired asked
 asked_case P said (Iscsi host port lun name whole) x asking asked inquired = said (refused (image_cause NoScheme))
 
 -- a command on images is refused, comes to a conclusion at once, asks for its file, or for its server's address

@@ -1,1 +1,2 @@
 pub mod Eithers
+pub mod Words

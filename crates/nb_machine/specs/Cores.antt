@@ -19,7 +19,7 @@ use Rattle.nb_command.specs.SettingAddresses.{host}
 use Rattle.nb_machine.specs.CommandRecords.{no_route}
 use Rattle.nb_machine.specs.Sendings.{has_route, send_records, acts_records}
 use Rattle.nb_machine.specs.Saying.{datagram_from}
-use Rattle.nb_machine.specs.Lives.{OpenInput, message, time, close, Exchange, exchange, Live}
+use Rattle.nb_machine.specs.Lives.{OpenInput, message, tcp_segment, time, close, Exchange, exchange, Live}
 use Rattle.nb_machine.specs.Transfers.{finds_none, earlier, end_records}
 
 -- what the open looks up, by a query of this number
@@ -64,11 +64,13 @@ pub record KeepsCore {S B C : Type 0} (s : Service S B C) (b : B) (l : Live) : T
 -- the datagram of a name server that came, and what a lease's core was handed
 abbrev pub dns_datagrams_in : ℕ → OpenInput → List DnsDatagram
 dns_datagrams_in server (message rec port body now) = dns_datagram rec (host server) body ∷ []
+dns_datagrams_in server (tcp_segment rec g now) = []
 dns_datagrams_in server (time now) = []
 dns_datagrams_in server (close cause) = []
 
 abbrev pub handed_bodies_in : OpenInput → List Handed
 handed_bodies_in (message rec port body now) = handed_body rec body ∷ []
+handed_bodies_in (tcp_segment rec g now) = []
 handed_bodies_in (time now) = []
 handed_bodies_in (close cause) = []
 

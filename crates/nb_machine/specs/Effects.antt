@@ -29,6 +29,7 @@ use Rattle.nb_imagecmd.specs.declared.error.ImageFailure.TheVariants.{NoScheme}
 use Rattle.nb_imagecmd.specs.declared.outcome.ImageOutcome.{ImageOutcome}
 use Rattle.nb_imagecmd.specs.declared.outcome.ImageOutcome.TheVariants.{Done, Print, Ask, Run, Boot}
 use Rattle.nb_imagecmd.specs.declared.outcome.ScriptImage.{ScriptImage}
+use Rattle.nb_imagecmd.specs.Asking.{target_host}
 use Rattle.nb_imagecmd.specs.CarryingOut.{image_effect}
 use Rattle.nb_imagecmd.specs.Executing.{ImageAnswer, script_taken}
 use Rattle.nb_imagecmd.specs.Failures.{image_cause}
@@ -52,7 +53,7 @@ use Rattle.nb_uri.specs.Addresses.{four_decimals}
 use Rattle.nb_dns.specs.WrittenNames.{is_lookup_name}
 use Rattle.nb_wire.specs.declared.address.Ip4.{Ip4}
 use Rattle.nb_machine.specs.Conclusions.{Conclusion, keeps, tells, boots_selected, runs_script}
-use Rattle.nb_machine.specs.Errands.{Wanted, Errand, fetches_then, echoes_then, Onward, fetches_now, echoes_now, onward}
+use Rattle.nb_machine.specs.Errands.{Wanted, Errand, fetches_then, echoes_then, Onward, fetches_now, echoes_now, looks_up_now, onward}
 use Rattle.nb_machine.specs.Queries.{Query, for_lease, for_echo, for_address, for_host, bad_name, no_server, dns_in, with_domain}
 
 -- 16,384 opens were made
@@ -77,26 +78,37 @@ pub data Effect : Type 0 where
 abbrev pub unless_full : ℕ → Effect → Effect
 unless_full opens wanted = if opens == 16384 then says (refused full_opens) else wanted
 
--- what is asked of a server whose address is known
+-- what is asked next, where one more open may be made
+abbrev pub next_open : ℕ → Onward → Result Onward Cause
+next_open opens next = if opens == 16384 then Err full_opens else Ok next
+
+-- a name server is asked for the server's address, where one is known
+abbrev pub next_look_up : Errand → List ℕ → Option Ip4 → Result Onward Cause
+next_look_up errand name None = Err no_server
+next_look_up errand name (Some by) = Ok (looks_up_now errand name by.0)
+
+-- a server by its name: the refusals in their order
+abbrev pub next_by_name : ℕ → TableLists → Errand → List ℕ → Result Onward Cause
+next_by_name opens table errand name =
+    if is_lookup_name name then (if opens == 16384 then Err full_opens else next_look_up errand name (dns_in table)) else Err bad_name
+
+-- what is asked of a host, or why nothing is: four decimals are its address, and a name is looked up
+abbrev pub next_at_host : ℕ → TableLists → List ℕ → Errand → Result Onward Cause
+next_at_host opens table text errand =
+    option_map_or (λ address. next_open opens (onward errand address)) (four_decimals text) (next_by_name opens table errand (with_domain table text))
+
 abbrev pub onward_effect : Onward → Effect
 onward_effect (fetches_now wanted) = asks wanted
 onward_effect (echoes_now server) = inquires (for_echo server)
+onward_effect (looks_up_now errand name by) = inquires (for_host errand name by)
 
--- a name server is asked for the server's address, where one is known
-abbrev pub asked_host : Errand → List ℕ → Option Ip4 → Effect
-asked_host errand name None = says (refused no_server)
-asked_host errand name (Some by) = inquires (for_host errand name by.0)
+abbrev pub next_effect : Result Onward Cause → Effect
+next_effect (Ok next) = onward_effect next
+next_effect (Err cause) = says (refused cause)
 
--- a server by its name: the refusals in their order
-abbrev pub named_host : ℕ → TableLists → Errand → List ℕ → Effect
-named_host opens table errand name =
-    if is_lookup_name name then unless_full opens (asked_host errand name (dns_in table)) else says (refused bad_name)
-
--- what is asked of a host: four decimals are its address, and a name is looked up
+-- what a command comes to that asks this of a host
 abbrev pub at_host : ℕ → TableLists → List ℕ → Errand → Effect
-at_host opens table text errand =
-    option_map_or (λ address. unless_full opens (onward_effect (onward errand address))) (four_decimals text)
-    (named_host opens table errand (with_domain table text))
+at_host opens table text errand = next_effect (next_at_host opens table text errand)
 
 -- a name server is asked, where one is known
 abbrev pub asked_name_server : List ℕ → List ℕ → Option Ip4 → Effect
@@ -276,11 +288,16 @@ pub record Surroundings : Type 0 where
 abbrev pub fails_for : ImageFailure → Effect
 fails_for why = says (refused (image_cause why))
 
--- a file is asked for: of all servers only those of TFTP are asked yet
+-- a file is asked for, by TFTP or by HTTP; a disk is none
 abbrev pub asked_effect : UriTarget → Surroundings → Asking → Effect
 asked_effect (Tftp host port path whole) x asking = at_host x.opens x.table host (fetches_then asking)
-asked_effect (Http host port path whole) x asking = fails_for NoScheme
+asked_effect (Http host port path whole) x asking = at_host x.opens x.table host (fetches_then asking)
 asked_effect (Iscsi host port lun name whole) x asking = fails_for NoScheme
+
+-- what is asked next of a file whose server has moved it, or why the command fails
+abbrev pub next_moved : ℕ → TableLists → Result Asking ImageFailure → Result Onward Cause
+next_moved opens table (Ok asking) = next_at_host opens table (target_host asking.target) (fetches_then asking)
+next_moved opens table (Err why) = Err (image_cause why)
 
 -- a script leaves the list to run, unless too many are within one another
 abbrev pub taken_effect : Bool → Result (ScriptImage × ImageList) ImageFailure → Effect

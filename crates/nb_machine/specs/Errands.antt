@@ -1,5 +1,5 @@
 -- What a command fetches or asks once its server's address is known: a file, and what its image is to become, or an echo.
-use Rattle.std.specs.Prelude.{ℕ}
+use Rattle.std.specs.Prelude.{ℕ, List}
 use Rattle.nb_imagecmd.specs.declared.asking.Asking.{Asking}
 
 -- a file that is asked for, of the server that has this address
@@ -14,10 +14,11 @@ pub data Errand : Type 0 where
   -- it is asked for an echo
   echoes_then : Errand
 
--- the same, once it is
+-- what a command asks next: the same, once it is known; or for the address of the server to which its file was moved
 pub data Onward : Type 0 where
   fetches_now : Wanted → Onward
   echoes_now : (server : ℕ) → Onward
+  looks_up_now : Errand → (name : List ℕ) (by : ℕ) → Onward
 
 -- what is asked of the server that has this address
 abbrev pub onward : Errand → ℕ → Onward

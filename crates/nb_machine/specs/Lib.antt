@@ -1,6 +1,7 @@
 pub mod Closings
 pub mod CommandRecords
 pub mod Conclusions
+pub mod Connections
 pub mod Cores
 pub mod Courses
 pub mod Effects
@@ -21,3 +22,4 @@ pub mod Starting
 pub mod States
 pub mod Takings
 pub mod Transfers
+pub mod Webs

@@ -4,11 +4,14 @@ use Rattle.nb_terms.specs.declared.cause.Cause.{Cause}
 use Rattle.nb_defs.specs.Records.{Out, opened, ended}
 use Rattle.nb_stack.specs.Client.{Client}
 use Rattle.nb_dhcp.specs.declared.asker.Asker.{Asker}
+use Rattle.nb_tcpseg.specs.SegmentText.{SegmentParts}
 
 -- what is opened
 pub data OpenKind : Type 0 where
   -- a file by TFTP (RFC 1350)
   tftp : OpenKind
+  -- a file by HTTP (RFC 9112), over a connection whose SYN has this number
+  http : (isn : ℕ) → OpenKind
   -- the address of a name by DNS (RFC 1035), by a query of this number
   dns : (id : ℕ) → OpenKind
   -- a lease by DHCP (RFC 2131), for this client
@@ -19,14 +22,16 @@ pub data OpenKind : Type 0 where
 -- the number of a kind in an OPEN record
 abbrev pub kind_number : OpenKind → ℕ
 kind_number tftp = 1
+kind_number (http isn) = 2
 kind_number (dns id) = 4
 kind_number (dhcp a) = 5
 kind_number ping = 6
 
--- what comes to an open: a message in the record of this number, from this port, or of an echo with this identifier; a time; a
--- close from above
+-- what comes to an open: a message in the record of this number, from this port, or of an echo with this identifier; a segment; a time;
+-- a close from above
 pub data OpenInput : Type 0 where
   message : (rec port : ℕ) (body : List ℕ) (now : ℕ) → OpenInput
+  tcp_segment : (rec : ℕ) → SegmentParts → (now : ℕ) → OpenInput
   time : (now : ℕ) → OpenInput
   close : (cause : Cause) → OpenInput
 

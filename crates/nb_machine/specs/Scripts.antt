@@ -1,5 +1,5 @@
 -- Scripts: what a command does to the state, and what comes of one that waited. No word of frames.
-use Rattle.std.specs.Prelude.{ℕ, ◌+◌, ◌*◌, ◌==◌, nat_le, Bool, List, [], ◌∷◌, Option, Some, None, Ok, find, option_map, if◌then◌else◌}
+use Rattle.std.specs.Prelude.{ℕ, ◌+◌, ◌*◌, ◌==◌, nat_le, Bool, List, [], ◌∷◌, Option, Some, None, Result, Ok, Err, find, option_map, if◌then◌else◌}
 use Rattle.std.specs.Option.{option_map_or}
 use Rattle.nb_terms.specs.declared.cause.Cause.{Cause}
 use Rattle.nb_wire.specs.declared.address.Mac.{Mac}
@@ -7,19 +7,22 @@ use Rattle.nb_defs.specs.Causes.{is_ok_cause}
 use Rattle.nb_defs.specs.Commands.{CommandOutcome}
 use Rattle.nb_defs.specs.Records.{In, Out, result}
 use Rattle.nb_stack.specs.Client.{Client}
-use Rattle.nb_imagecmd.specs.Asking.{target_port, target_path}
+use Rattle.nb_imagecmd.specs.Asking.{target_port, target_text}
+use Rattle.nb_imagecmd.specs.Moving.{moved_file}
+use Rattle.nb_uri.specs.declared.target.UriTarget.{UriTarget}
+use Rattle.nb_uri.specs.declared.target.UriTarget.TheVariants.{Tftp, Http, Iscsi}
 use Rattle.nb_settings.specs.Tables.{TableLists}
 use Rattle.nb_command.specs.Settings.{Change}
 use Rattle.nb_command.specs.Addresses.{address_table}
-use Rattle.nb_machine.specs.Errands.{Wanted, Errand, Onward, fetches_now, echoes_now, onward}
-use Rattle.nb_machine.specs.Effects.{Effect, says, asks, goes, sleeps, shuts_device, inquires, on_images, concludes_at_once, Surroundings, effect_in, table_after, up_after}
+use Rattle.nb_machine.specs.Errands.{Wanted, Errand, Onward, fetches_now, echoes_now, looks_up_now, onward}
+use Rattle.nb_machine.specs.Effects.{Effect, says, asks, goes, sleeps, shuts_device, inquires, on_images, concludes_at_once, Surroundings, effect_in, next_moved, table_after, up_after}
 use Rattle.nb_machine.specs.Queries.{Query, for_lease, for_echo, for_host, for_address}
-use Rattle.nb_machine.specs.Findings.{asker_at, query_id, lease_change, Settlement, settled_by}
-use Rattle.nb_machine.specs.Conclusions.{Conclusion, keeps, conclusion, conclusion_records}
+use Rattle.nb_machine.specs.Findings.{first_word, asker_at, query_id, lease_change, Settlement, settled_by}
+use Rattle.nb_machine.specs.Conclusions.{Conclusion, keeps, fails, conclusion, conclusion_records}
 use Rattle.nb_machine.specs.Starting.{own_port}
 use Rattle.nb_machine.specs.Running.{Running, anew}
-use Rattle.nb_machine.specs.Lives.{tftp, dns, dhcp, ping, Live}
-use Rattle.nb_machine.specs.Kinds.{fetched, resolved, granted}
+use Rattle.nb_machine.specs.Lives.{OpenKind, tftp, http, dns, dhcp, ping, Live}
+use Rattle.nb_machine.specs.Kinds.{fetched, moved, resolved, granted}
 use Rattle.nb_machine.specs.States.{State, net0, with_settings}
 use Rattle.nb_machine.specs.Takings.{Over}
 
@@ -49,16 +52,22 @@ pub data Doing : Type 0 where
   shuts : State → Doing
   concludes_now : Conclusion → Doing
 
+-- the kind of the next open for a target: by HTTP its SYN has the open's first word as its number; a disk is no file, and isn't fetched
+abbrev pub transfer_kind : State → UriTarget → OpenKind
+transfer_kind s (Tftp host port path whole) = tftp
+transfer_kind s (Http host port path whole) = http (first_word s.machine s.opens)
+transfer_kind s (Iscsi host port lun name whole) = tftp
+
 -- the next open, on a device, for a file: from the client's next port to the file's port of the server
 abbrev pub transfer_for : State → Wanted → Live
 transfer_for s wanted = record {
   number = s.opens;
-  kind = tftp;
+  kind = transfer_kind s wanted.asking.target;
   device = net0;
   server = wanted.server;
   port = target_port wanted.asking.target;
   own = own_port s.w s.opens;
-  target = target_path wanted.asking.target;
+  target = target_text wanted.asking.target;
   since = s.now;
   exchanges = [];
 }
@@ -123,14 +132,16 @@ job_for (for_echo server) = hears_echo
 job_for (for_host errand name by) = asks_on errand
 job_for (for_address setting name by) = keeps_address setting
 
--- what is opened of a server that was looked up, and what is done with what comes of it
+-- what is opened of a server that was looked up, or for the address of another, and what is done with what comes of it
 abbrev pub live_onward : State → Onward → Live
 live_onward s (fetches_now wanted) = transfer_for s wanted
 live_onward s (echoes_now server) = echo_for s server
+live_onward s (looks_up_now errand name by) = look_up_for s name by
 
 abbrev pub job_onward : Onward → Job
 job_onward (fetches_now wanted) = fetch wanted
 job_onward (echoes_now server) = hears_echo
+job_onward (looks_up_now errand name by) = asks_on errand
 
 -- by its effect, and the settings that it leaves and whether the device is up then
 abbrev pub doing_by : State → TableLists → Bool → Effect → Doing
@@ -208,10 +219,24 @@ resolved_change setting l table = option_map_or (λ address. address_table setti
 abbrev pub next_of : Errand → Over → Option Onward
 next_of errand o = if is_ok_cause o.cause then option_map (λ address. onward errand address.0) (resolved o.live) else None
 
+-- the place to which a file's server has moved it, by an open that has ended well
+abbrev pub place_moved_to : Over → Option (List ℕ)
+place_moved_to o = if is_ok_cause o.cause then moved o.live else None
+
+-- a file that was moved is asked for at its new place, unless its command fails
+abbrev pub upshot_moved : Result Onward Cause → Upshot
+upshot_moved (Ok next) = goes_onward next
+upshot_moved (Err cause) = concludes (fails cause)
+
+-- an open of a file has ended: it was moved to a place, or this comes of the file
+abbrev pub upshot_fetched : State → ℕ → Wanted → Over → Option (List ℕ) → Upshot
+upshot_fetched s depth wanted o None = concludes (conclusion o.cause wanted.asking (fetched o.live) depth s.images)
+upshot_fetched s depth wanted o (Some place) = upshot_moved (next_moved s.opens s.table (moved_file wanted.asking place))
+
 -- What a job comes to by its answer, in this state and within so many scripts. A command that waits for a time goes on with
 -- its images; one that waits for an open gets no time for an answer.
 abbrev pub concluded_by : State → ℕ → Job → Answer → Upshot
-concluded_by s depth (fetch wanted) (by_end o) = concludes (conclusion o.cause wanted.asking (fetched o.live) depth s.images)
+concluded_by s depth (fetch wanted) (by_end o) = upshot_fetched s depth wanted o (place_moved_to o)
 concluded_by s depth takes_lease (by_end o) = settles (settled_with o.cause (leased_change o.live s.table) s.table)
 concluded_by s depth hears_echo (by_end o) = settles (settled_with o.cause (Ok s.table) s.table)
 concluded_by s depth (keeps_address setting) (by_end o) = settles (settled_with o.cause (resolved_change setting o.live s.table) s.table)

@@ -1,9 +1,8 @@
--- What is said of leases and of the newest objects goes on where something comes to one open.
-use Rattle.std.proofs.Common.{◌≡◌, ◌⊎◌, inl, inr, ℕ, ◌≤◌, ◌==◌, Bool, true, false, cond, List, [], ◌∷◌, ◌++◌, Option, Some, None, refl, sym, ◌∙◌, ap, subst, arith}
+-- What is said of the opens that are tied and of the newest objects goes on where something comes to one open.
+use Rattle.std.proofs.Common.{◌≡◌, ◌⊎◌, inl, inr, ℕ, ◌≤◌, ◌==◌, Bool, true, false, cond, List, [], ◌∷◌, ◌++◌, Option, Some, None, refl, sym, ◌∙◌, subst}
 use Rattle.std.specs.Option.{option_or}
-use Rattle.std.specs.List.{AllByRecursion, sum_by}
+use Rattle.std.specs.List.{AllByRecursion}
 use Rattle.std.proofs.lemmas.Bool.{eqb-true}
-use Rattle.std.proofs.lemmas.List.Sums.{sum_by-append, sum_by-cons}
 use Rattle.nb_frames.specs.Frames.{is_one_of}
 use Rattle.nb_graph.specs.Whole.{Objects}
 use Rattle.nb_ledger.specs.Ledger.{object_lives, run_state}
@@ -12,20 +11,21 @@ use Rattle.nb_nodes.specs.declared.obj.Obj.{Obj}
 use Rattle.nb_defs.specs.Records.{Out}
 use Rattle.nb_teller.specs.Spelling.{Spelling}
 use Rattle.nb_chains.specs.declared.chain.Chain.{Chain}
-use Rattle.nb_chains.specs.Chains.{AreChained, chain_ids}
+use Rattle.nb_chains.specs.Chains.{AreChained}
 use Rattle.nb_traced.specs.Outputs.{own_serials}
 use Rattle.nb_traced.specs.Pieces.{IsCallOn}
 use Rattle.nb_traced.proofs.StateLemmas.{run_leaves}
 use Rattle.nb_open.specs.declared.ended.Ended.{Ended}
 use Rattle.nb_open.specs.declared.open.Open.{Open}
+use Rattle.nb_open.specs.Objects.{objects_ids}
 use Rattle.nb_open.specs.Open.{kin_of}
 use Rattle.nb_network.specs.declared.over.HasEnded.{HasEnded}
-use Rattle.nb_network.specs.Many.{HasLeaseOnlyOf, HasNoLease, IsNewestBut, IsNoLeaseBut, IsOfNumber, Many, lease_count}
+use Rattle.nb_network.specs.Many.{HasTiedOnlyOf, HasNoneTied, IsNewestBut, IsUntied, IsUntiedBut, IsOfNumber, Many}
 use Rattle.nb_network.specs.Steps.{GoesOnSo, answer_for}
 use Rattle.nb_network.specs.Takes.{still_awaited}
-use Rattle.nb_network.proofs.Lists.{HasOtherNumber, all_but}
+use Rattle.nb_network.proofs.Lists.{HasOtherNumber, all_both, all_but}
 use Rattle.nb_network.proofs.Ports.{either_test}
-use Rattle.nb_network.proofs.Traces.{serials_are}
+use Rattle.nb_network.proofs.Traces.{own_are}
 
 -- one after another
 pub so_both : (says : Option ℕ → Many → Type 0) (awaited : Option ℕ) (a b : Option HasEnded) (m m1 m2 : Many) → GoesOnSo says awaited a m m1 → GoesOnSo says awaited b m1 m2 → GoesOnSo says awaited (option_or a b) m m2
@@ -37,11 +37,11 @@ pub so_same : (says : Option ℕ → Many → Type 0) (awaited : Option ℕ) (m 
 so_same says awaited m m' f = (f None, f awaited)
 
 -- an object that lives after a call lived before it
-pub lived : (o : Open) (by : Option Way) (records : List Out) (x : ℕ) (g h : Objects Obj) → IsCallOn o.speaker.number (own_serials (kin_of o)) x by records (run_state g.book []) (run_state h.book []) → AreChained g (chain_ids o.chain) → (y : ℕ) → object_lives h.book y ≡ true → object_lives g.book y ≡ true
+pub lived : (o : Open) (by : Option Way) (records : List Out) (x : ℕ) (g h : Objects Obj) → IsCallOn o.speaker.number (own_serials (kin_of o)) x by records (run_state g.book []) (run_state h.book []) → AreChained g (objects_ids o.objects) → (y : ℕ) → object_lives h.book y ≡ true → object_lives g.book y ≡ true
 lived o by records x g h call chained y live =
     either_test (is_one_of (own_serials (kin_of o)) y)
-    (λ t. chained.lives y (subst (λ z. is_one_of z y ≡ true) (serials_are o.kind o.chain) t))
-    (λ f. sym ((run_leaves (is_one_of (own_serials (kin_of o))) (call.front ++ call.back) (run_state g.book []) (run_state h.book []) call.within call.run).live y f) ∙ live)
+    (λ t. chained.lives y (subst (λ z. is_one_of z y ≡ true) (own_are o) t))
+    (λ f. sym ((run_leaves (is_one_of (own_serials (kin_of o))) call.events (run_state g.book []) (run_state h.book []) call.within call.run).live y f) ∙ live)
 
 -- IT GOES ON
 
@@ -50,25 +50,25 @@ module _ (g h : Objects Obj) (list list' : List Open) (same : list' ≡ list) (b
   newest_on c None n = λ y live. n y (back y live)
   newest_on c (Some k) n = λ y live. subst (λ os. IsOfNumber k y os ⊎ (y ≤ c.top.0)) (sym same) (n y (back y live))
 
-  leases_on : (k : Option ℕ) → HasLeaseOnlyOf k (record { graph = g; list = list }) → HasLeaseOnlyOf k (record { graph = h; list = list' })
-  leases_on None n = ap (λ os. sum_by (λ (o : Open). lease_count o.kind) os) same ∙ n
-  leases_on (Some k) n = subst (AllByRecursion (IsNoLeaseBut k)) (sym same) n
+  tied_on : (k : Option ℕ) → HasTiedOnlyOf k (record { graph = g; list = list }) → HasTiedOnlyOf k (record { graph = h; list = list' })
+  tied_on None n = subst (AllByRecursion IsUntied) (sym same) n
+  tied_on (Some k) n = subst (AllByRecursion (IsUntiedBut k)) (sym same) n
 
   pub newest_stays : (awaited : Option ℕ) (c : Chain) → GoesOnSo (λ k z. IsNewestBut k c z) awaited None (record { graph = g; list = list }) (record { graph = h; list = list' })
   newest_stays awaited c = (newest_on c None, newest_on c awaited)
 
-  pub leases_stay : (awaited : Option ℕ) → GoesOnSo HasLeaseOnlyOf awaited None (record { graph = g; list = list }) (record { graph = h; list = list' })
-  leases_stay awaited = (leases_on None, leases_on awaited)
+  pub tied_stay : (awaited : Option ℕ) → GoesOnSo HasTiedOnlyOf awaited None (record { graph = g; list = list }) (record { graph = h; list = list' })
+  tied_stay awaited = (tied_on None, tied_on awaited)
 
 -- IT ENDS
 
-of_number_parts : (k y : ℕ) (before : List Open) (o : Open) (behind : List Open) → IsOfNumber k y (before ++ o ∷ behind) → IsOfNumber k y (before ++ behind) ⊎ ((o.speaker.number ≡ k) × (is_one_of (chain_ids o.chain) y ≡ true))
+of_number_parts : (k y : ℕ) (before : List Open) (o : Open) (behind : List Open) → IsOfNumber k y (before ++ o ∷ behind) → IsOfNumber k y (before ++ behind) ⊎ ((o.speaker.number ≡ k) × (is_one_of (objects_ids o.objects) y ≡ true))
 of_number_parts k y [] o behind (inl i) = inr i
 of_number_parts k y [] o behind (inr i) = inl i
 of_number_parts k y (p ∷ before) o behind (inl i) = inl (inl i)
 of_number_parts k y (p ∷ before) o behind (inr i) = by (of_number_parts k y before o behind i)
   where
-    by : IsOfNumber k y (before ++ behind) ⊎ ((o.speaker.number ≡ k) × (is_one_of (chain_ids o.chain) y ≡ true)) → IsOfNumber k y ((p ∷ before) ++ behind) ⊎ ((o.speaker.number ≡ k) × (is_one_of (chain_ids o.chain) y ≡ true))
+    by : IsOfNumber k y (before ++ behind) ⊎ ((o.speaker.number ≡ k) × (is_one_of (objects_ids o.objects) y ≡ true)) → IsOfNumber k y ((p ∷ before) ++ behind) ⊎ ((o.speaker.number ≡ k) × (is_one_of (objects_ids o.objects) y ≡ true))
     by (inl j) = inl (inr j)
     by (inr j) = inr j
 
@@ -77,25 +77,15 @@ not_of_number k y [] a i = i
 not_of_number k y (o ∷ os) a (inl i) = a.0 i.0
 not_of_number k y (o ∷ os) a (inr i) = not_of_number k y os a.1 i
 
--- none of others is a lease where that one alone may be
-no_leases : (k : ℕ) (os : List Open) → AllByRecursion (λ o. o.speaker.number ≡ k → ⊥) os → AllByRecursion (IsNoLeaseBut k) os → sum_by (λ (o : Open). lease_count o.kind) os ≡ 0
-no_leases k [] a h = refl
-no_leases k (o ∷ os) a h = let s = sum_by-cons (λ (o : Open). lease_count o.kind) o os in let i = no_leases k os a.1 h.1 in let j = h.0 a.0 in omega (arith, s, i, j)
-
-fewer_leases : (before : List Open) (o : Open) (behind : List Open) → sum_by (λ (o : Open). lease_count o.kind) (before ++ o ∷ behind) ≡ 0 → sum_by (λ (o : Open). lease_count o.kind) (before ++ behind) ≡ 0
-fewer_leases before o behind e =
-    let f = λ (o : Open). lease_count o.kind in
-    let a = sum_by-append f before behind in let b = sum_by-append f before (o ∷ behind) in let d = sum_by-cons f o behind in omega (arith, a, b, d, e)
-
 module _ (g h : Objects Obj) (list list' : List Open) (before : List Open) (o : Open) (behind : List Open) (is : list ≡ before ++ o ∷ behind) (new : list' ≡ before ++ behind) (back : (y : ℕ) → object_lives h.book y ≡ true → object_lives g.book y ≡ true)
-    (gone : (y : ℕ) → is_one_of (chain_ids o.chain) y ≡ true → object_lives h.book y ≡ false) (differ : AllByRecursion (HasOtherNumber o) (before ++ behind)) where
+    (gone : (y : ℕ) → is_one_of (objects_ids o.objects) y ≡ true → object_lives h.book y ≡ false) (differ : AllByRecursion (HasOtherNumber o) (before ++ behind)) where
   others_differ : (k : ℕ) → o.speaker.number ≡ k → AllByRecursion (λ p. p.speaker.number ≡ k → ⊥) (before ++ behind)
   others_differ k e = subst (λ z. AllByRecursion (λ p. p.speaker.number ≡ z → ⊥) (before ++ behind)) e differ
 
   parts : (k y : ℕ) (c : Chain) → object_lives h.book y ≡ true → IsNewestBut (Some k) c (record { graph = g; list = list }) → IsOfNumber k y (before ++ behind) ⊎ (y ≤ c.top.0)
   parts k y c live n = by (n y (back y live))
     where
-      from : IsOfNumber k y (before ++ behind) ⊎ ((o.speaker.number ≡ k) × (is_one_of (chain_ids o.chain) y ≡ true)) → IsOfNumber k y (before ++ behind) ⊎ (y ≤ c.top.0)
+      from : IsOfNumber k y (before ++ behind) ⊎ ((o.speaker.number ≡ k) × (is_one_of (objects_ids o.objects) y ≡ true)) → IsOfNumber k y (before ++ behind) ⊎ (y ≤ c.top.0)
       from (inl i) = inl i
       from (inr i) = absurd (let no : true ≡ false = sym live ∙ gone y i.1 in cc)
 
@@ -104,7 +94,7 @@ module _ (g h : Objects Obj) (list list' : List Open) (before : List Open) (o : 
       by (inr i) = inr i
 
   newest_by : (k : ℕ) (c : Chain) (e : Ended) (s : Spelling) (b : Bool) → (o.speaker.number == k) ≡ b → IsNewestBut (Some k) c (record { graph = g; list = list }) →
-      IsNewestBut (still_awaited (Some k) (cond b (Some (record { number = o.speaker.number; cause = e.cause; body = e.body; bytes = s.bytes; address = s.address })) None)) c (record { graph = h; list = list' })
+      IsNewestBut (still_awaited (Some k) (cond b (Some (record { number = o.speaker.number; cause = e.cause; body = e.body; moved = e.moved; bytes = s.bytes; address = s.address })) None)) c (record { graph = h; list = list' })
   newest_by k c e s true t n = λ y live. by y (parts k y c live n)
     where
       by : (y : ℕ) → IsOfNumber k y (before ++ behind) ⊎ (y ≤ c.top.0) → y ≤ c.top.0
@@ -112,22 +102,22 @@ module _ (g h : Objects Obj) (list list' : List Open) (before : List Open) (o : 
       by y (inr i) = i
   newest_by k c e s false f n = λ y live. subst (λ os. IsOfNumber k y os ⊎ (y ≤ c.top.0)) (sym new) (parts k y c live n)
 
-  leases_by : (k : ℕ) (e : Ended) (s : Spelling) (b : Bool) → (o.speaker.number == k) ≡ b → HasLeaseOnlyOf (Some k) (record { graph = g; list = list }) →
-      HasLeaseOnlyOf (still_awaited (Some k) (cond b (Some (record { number = o.speaker.number; cause = e.cause; body = e.body; bytes = s.bytes; address = s.address })) None)) (record { graph = h; list = list' })
-  leases_by k e s true t n =
-      ap (λ os. sum_by (λ (o : Open). lease_count o.kind) os) new ∙ no_leases k (before ++ behind) (others_differ k (eqb-true o.speaker.number k t)) (all_but (IsNoLeaseBut k) before o behind (subst (AllByRecursion (IsNoLeaseBut k)) is n))
-  leases_by k e s false f n = subst (AllByRecursion (IsNoLeaseBut k)) (sym new) (all_but (IsNoLeaseBut k) before o behind (subst (AllByRecursion (IsNoLeaseBut k)) is n))
+  tied_by : (k : ℕ) (e : Ended) (s : Spelling) (b : Bool) → (o.speaker.number == k) ≡ b → HasTiedOnlyOf (Some k) (record { graph = g; list = list }) →
+      HasTiedOnlyOf (still_awaited (Some k) (cond b (Some (record { number = o.speaker.number; cause = e.cause; body = e.body; moved = e.moved; bytes = s.bytes; address = s.address })) None)) (record { graph = h; list = list' })
+  tied_by k e s true t n = subst (AllByRecursion IsUntied) (sym new)
+      (all_both (λ p. p.speaker.number ≡ k → ⊥) (IsUntiedBut k) IsUntied (before ++ behind) (λ p d f. f d) (others_differ k (eqb-true o.speaker.number k t)) (all_but (IsUntiedBut k) before o behind (subst (AllByRecursion (IsUntiedBut k)) is n)))
+  tied_by k e s false f n = subst (AllByRecursion (IsUntiedBut k)) (sym new) (all_but (IsUntiedBut k) before o behind (subst (AllByRecursion (IsUntiedBut k)) is n))
 
   newest_none : (c : Chain) → IsNewestBut None c (record { graph = g; list = list }) → IsNewestBut None c (record { graph = h; list = list' })
   newest_none c n = λ y live. n y (back y live)
 
-  leases_none : HasNoLease (record { graph = g; list = list }) → HasNoLease (record { graph = h; list = list' })
-  leases_none n = ap (λ os. sum_by (λ (o : Open). lease_count o.kind) os) new ∙ fewer_leases before o behind (ap (λ os. sum_by (λ (o : Open). lease_count o.kind) os) (sym is) ∙ n)
+  tied_none : HasNoneTied (record { graph = g; list = list }) → HasNoneTied (record { graph = h; list = list' })
+  tied_none n = subst (AllByRecursion IsUntied) (sym new) (all_but IsUntied before o behind (subst (AllByRecursion IsUntied) is n))
 
   pub newest_ends : (awaited : Option ℕ) (c : Chain) (e : Ended) (s : Spelling) → GoesOnSo (λ k z. IsNewestBut k c z) awaited (answer_for awaited o.speaker.number e s) (record { graph = g; list = list }) (record { graph = h; list = list' })
   newest_ends None c e s = (newest_none c, newest_none c)
   newest_ends (Some k) c e s = (newest_none c, newest_by k c e s (o.speaker.number == k) refl)
 
-  pub leases_end : (awaited : Option ℕ) (e : Ended) (s : Spelling) → GoesOnSo HasLeaseOnlyOf awaited (answer_for awaited o.speaker.number e s) (record { graph = g; list = list }) (record { graph = h; list = list' })
-  leases_end None e s = (leases_none, leases_none)
-  leases_end (Some k) e s = (leases_none, leases_by k e s (o.speaker.number == k) refl)
+  pub tied_ends : (awaited : Option ℕ) (e : Ended) (s : Spelling) → GoesOnSo HasTiedOnlyOf awaited (answer_for awaited o.speaker.number e s) (record { graph = g; list = list }) (record { graph = h; list = list' })
+  tied_ends None e s = (tied_none, tied_none)
+  tied_ends (Some k) e s = (tied_none, tied_by k e s (o.speaker.number == k) refl)

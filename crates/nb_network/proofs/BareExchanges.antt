@@ -19,18 +19,28 @@ use Rattle.nb_tftp.specs.History.{Entry, entry, got}
 use Rattle.nb_dns.specs.LookupReplies.{address_found}
 use Rattle.nb_dhcp.specs.History.{acknowledgement_in}
 use Rattle.nb_machine.specs.Cores.{CoreExchanged, at_first, takes_message, takes_time, closes, KeepsCore, core_records, look_up_of, ping_of, dns_datagrams_in, handed_bodies_in}
-use Rattle.nb_machine.specs.Kinds.{Keeps, KeepsBy, fetched_by, granted_of, resolved_of}
-use Rattle.nb_machine.specs.Lives.{OpenInput, message, time, OpenKind, tftp, dns, dhcp, ping, Exchange, exchange, Live, continued}
+use Rattle.nb_machine.specs.Kinds.{Keeps, KeepsBy, fetched_by, granted_of, moved_by, resolved_of}
+use Rattle.nb_machine.specs.Lives.{OpenInput, message, time, OpenKind, tftp, http, dns, dhcp, ping, Exchange, exchange, Live, continued}
+use Rattle.nb_machine.specs.Connections.{Connection, connection_of, came_on, talk_of, KeepsAt, EachExchange}
+use Rattle.nb_machine.specs.Webs.{web_at}
+use Rattle.nb_streams.specs.Talking.{Talk, Talker, talk_after}
+use Rattle.nb_readings.specs.Ends.{text_of}
+use Rattle.nb_webs.specs.Webs.{NoTask, response_come}
 use Rattle.nb_machine.specs.States.{bare}
 use Rattle.nb_machine.specs.Transfers as transfers
-use Rattle.nb_machine.specs.Transfers.{Exchanged, KeepsTransfer, arrival_of, transfer_records, datagram_in}
+use Rattle.nb_machine.specs.Transfers.{Exchanged, arrival_of, transfer_records, datagram_in}
 use Rattle.nb_teller.specs.Spelling.{Spelling}
 use Rattle.nb_chains.specs.declared.chain.Chain.{Chain}
+use Rattle.nb_webchains.specs.declared.web_chain.WebChain.{WebChain}
+use Rattle.nb_webtalks.specs.TalkStands.{StandsForTalk}
+use Rattle.nb_wire.specs.declared.address.Ip4.{Ip4}
 use Rattle.nb_open.specs.declared.ended.Ended.{Ended}
 use Rattle.nb_open.specs.declared.open.Open.{Open}
-use Rattle.nb_open.specs.Open.{IsAskingCore, IsOpenOf, IsUnderWay}
+use Rattle.nb_open.specs.declared.objects.OpenObjects.{OpenObjects}
+use Rattle.nb_open.specs.declared.objects.OpenObjects.TheVariants as objects
+use Rattle.nb_open.specs.Open.{AreOfKind, AreUnderWay, IsAskingCore, IsOpenOf, IsUnderWay, IsWebUnderWay, ask_of}
 use Rattle.nb_open.specs.Exchanges.{Exchanges, ExchangesBy, HandsOut, last_put}
-use Rattle.nb_network.proofs.Bares.{bare_core, bare_transfer}
+use Rattle.nb_network.proofs.Bares.{bare_core, bare_transfer, put_bare}
 
 -- THE LAST EXCHANGE
 
@@ -84,6 +94,70 @@ bare_core_exchanged s k server cs ys (closes cs0 xs0 link cause h) xs x e =
     (subst (λ z. CoreExchanged s k server cs (xs0 ++ bared z ∷ [])) r.1
     (closes cs0 xs0 (bare link) cause h))
 
+-- WHAT IT HAS KEPT
+
+core_keeps_bare : {S B C : Type 0} (s : Service S B C) (b : B) (l : Live) (x : Exchange) → KeepsCore s b (continued l x) → KeepsCore s b (continued l (bared x))
+core_keeps_bare s b l x k = record { calls = k.calls; exchanged = bare_core_exchanged s l.number l.server k.calls (l.exchanges ++ x ∷ []) k.exchanged l.exchanges x refl; meets = k.meets }
+
+each_bare : {T : Type 0} (t : Talker T) (c : Connection) (before xs : List Exchange) (x : Exchange) → EachExchange (KeepsAt t c) before (xs ++ x ∷ []) → EachExchange (KeepsAt t c) before (xs ++ bared x ∷ [])
+each_bare t c before [] x h = (record { put = h.0.put; puts = h.0.puts; records = h.0.records ∙ sym (put_bare c x.link h.0.put) }, tt)
+each_bare t c before (y ∷ xs) x h = (h.0, each_bare t c (before ++ y ∷ []) xs x h.1)
+
+keeps_by_bare : (k : OpenKind) (l : Live) (x : Exchange) → KeepsBy k (continued l x) → KeepsBy k (continued l (bared x))
+keeps_by_bare tftp l x k = record { entries = k.entries; exchanged = bare_exchanged l.number l.server k.entries (l.exchanges ++ x ∷ []) k.exchanged l.exchanges x refl; meets = k.meets }
+keeps_by_bare (http isn) l x k = each_bare (web_at l.target) (connection_of isn l) [] l.exchanges x k
+keeps_by_bare (dns id) l x k = core_keeps_bare lookup_service (look_up_of id l) l x k
+keeps_by_bare (dhcp a) l x k = core_keeps_bare lease_service a l x k
+keeps_by_bare ping l x k = core_keeps_bare ping_service (ping_of l) l x k
+
+pub keeps_bare : (l : Live) (x : Exchange) → Keeps (continued l x) → Keeps (continued l (bared x))
+keeps_bare l x k = keeps_by_bare l.kind l x k
+
+-- WHAT IT HAS FOUND
+
+same_found : {A : Type 0} (f : Exchange → List A) (xs : List Exchange) (x y : Exchange) → f x ≡ f y → flat_map f (xs ++ x ∷ []) ≡ flat_map f (xs ++ y ∷ [])
+same_found f xs x y e = flat_map-append f xs (x ∷ []) ∙ ap (λ z. flat_map f xs ++ (z ++ [])) e ∙ sym (flat_map-append f xs (y ∷ []))
+
+-- what came is the same
+talk_bare : (isn : ℕ) (l : Live) (x : Exchange) → talk_of (web_at l.target) (connection_of isn l) (l.exchanges ++ bared x ∷ []) ≡ talk_of (web_at l.target) (connection_of isn l) (l.exchanges ++ x ∷ [])
+talk_bare isn l x = ap (talk_after (web_at l.target) isn l.since) (same_found (λ y. came_on y.came) l.exchanges (bared x) x refl)
+
+fetched_bare : (k : OpenKind) (l : Live) (x : Exchange) → fetched_by k (continued l (bared x)) ≡ fetched_by k (continued l x)
+fetched_bare tftp l x = ap file (same_found (λ y. datagram_in y.came) l.exchanges (bared x) x refl)
+fetched_bare (http isn) l x = ap (λ d. (response_come isn d.calls).bytes) (talk_bare isn l x)
+fetched_bare (dns id) l x = refl
+fetched_bare (dhcp a) l x = refl
+fetched_bare ping l x = refl
+
+moved_bare : (k : OpenKind) (l : Live) (x : Exchange) → moved_by k (continued l (bared x)) ≡ moved_by k (continued l x)
+moved_bare tftp l x = refl
+moved_bare (http isn) l x = ap (λ d. text_of (response_come isn d.calls).verdict) (talk_bare isn l x)
+moved_bare (dns id) l x = refl
+moved_bare (dhcp a) l x = refl
+moved_bare ping l x = refl
+
+granted_bare : (k : OpenKind) (xs : List Exchange) (x : Exchange) → granted_of k (xs ++ bared x ∷ []) ≡ granted_of k (xs ++ x ∷ [])
+granted_bare tftp xs x = refl
+granted_bare (http isn) xs x = refl
+granted_bare (dns id) xs x = refl
+granted_bare (dhcp a) xs x = ap (acknowledgement_in a) (same_found (λ y. handed_bodies_in y.came) xs (bared x) x refl)
+granted_bare ping xs x = refl
+
+resolved_bare : (k : OpenKind) (l : Live) (x : Exchange) → resolved_of k (continued l (bared x)) ≡ resolved_of k (continued l x)
+resolved_bare tftp l x = refl
+resolved_bare (http isn) l x = refl
+resolved_bare (dns id) l x = ap (address_found (look_up_of id l)) (same_found (λ y. dns_datagrams_in l.server y.came) l.exchanges (bared x) x refl)
+resolved_bare (dhcp a) l x = refl
+resolved_bare ping l x = refl
+
+pub hands_bare : (l : Live) (x : Exchange) (e : Ended) (s : Spelling) → HandsOut (continued l x) e s → HandsOut (continued l (bared x)) e s
+hands_bare l x e s h = record {
+  body = λ still. fetched_bare l.kind l x ∙ h.body still;
+  moved = moved_bare l.kind l x ∙ h.moved;
+  bytes = granted_bare l.kind l.exchanges x ∙ h.bytes;
+  address = resolved_bare l.kind l x ∙ h.address;
+}
+
 -- THE OPEN
 
 asking_bare : {S B C : Type 0} (s : Service S B C) (kind : ℕ) (b : B) (c : Chain) (g : Objects Obj) (l : Live) (x : Exchange) → IsAskingCore s kind b c g (continued l x) → IsAskingCore s kind b c g (continued l (bared x))
@@ -103,57 +177,39 @@ under_way_bare tftp c g l x i = record {
   exchanged = bare_exchanged l.number l.server i.entries (l.exchanges ++ x ∷ []) i.exchanged l.exchanges x refl;
   short = i.short;
 }
+under_way_bare (http isn) c g l x i = absurd i
 under_way_bare (dns id) c g l x i = asking_bare lookup_service (top_mark chain.Name) (look_up_of id l) c g l x i
 under_way_bare (dhcp a) c g l x i = asking_bare lease_service (top_mark chain.Lease) a c g l x i
 under_way_bare ping c g l x i = asking_bare ping_service (top_mark chain.Echo) (ping_of l) c g l x i
 
+-- as it has talked so far
+web_under_way_bare : (k : OpenKind) (own : Ip4) (c : WebChain) (g : Objects Obj) (l : Live) (x : Exchange) → IsWebUnderWay k own c g (continued l x) → IsWebUnderWay k own c g (continued l (bared x))
+web_under_way_bare (http isn) own c g l x i = record {
+  opened = i.opened;
+  kinds = i.kinds;
+  hosted = i.hosted;
+  stands = subst (λ (d : Talk NoTask). StandsForTalk (ask_of isn own l) l.since d.calls c g) (sym (talk_bare isn l x)) i.stands;
+  keeps = each_bare (web_at l.target) (connection_of isn l) [] l.exchanges x i.keeps;
+  asked = i.asked;
+}
+web_under_way_bare tftp own c g l x i = absurd i
+web_under_way_bare (dns id) own c g l x i = absurd i
+web_under_way_bare (dhcp a) own c g l x i = absurd i
+web_under_way_bare ping own c g l x i = absurd i
+
+objects_bare : (os : OpenObjects) (g : Objects Obj) (l : Live) (x : Exchange) → AreUnderWay os g (continued l x) → AreUnderWay os g (continued l (bared x))
+objects_bare (objects.Chain kind chain) g l x i = under_way_bare l.kind chain g l x i
+objects_bare (objects.Web port own chain) g l x i = web_under_way_bare l.kind own chain g l x i
+
+kind_bare : (os : OpenObjects) (l : Live) (x : Exchange) → AreOfKind os (continued l x) → AreOfKind os (continued l (bared x))
+kind_bare (objects.Chain kind chain) l x i = i
+kind_bare (objects.Web port own chain) l x i = i
+
 pub open_bare : (g : Objects Obj) (o : Open) (l : Live) (x : Exchange) → IsOpenOf g o (continued l x) → IsOpenOf g o (continued l (bared x))
 open_bare g o l x i = record {
   chained = i.chained;
-  called = record { number = i.called.number; server = i.called.server; own = i.called.own; device = i.called.device; kind = i.called.kind; carrier = i.called.carrier; asks = i.called.asks };
-  under_way = under_way_bare l.kind o.chain g l x i.under_way;
-}
-
-core_keeps_bare : {S B C : Type 0} (s : Service S B C) (b : B) (l : Live) (x : Exchange) → KeepsCore s b (continued l x) → KeepsCore s b (continued l (bared x))
-core_keeps_bare s b l x k = record { calls = k.calls; exchanged = bare_core_exchanged s l.number l.server k.calls (l.exchanges ++ x ∷ []) k.exchanged l.exchanges x refl; meets = k.meets }
-
-keeps_by_bare : (k : OpenKind) (l : Live) (x : Exchange) → KeepsBy k (continued l x) → KeepsBy k (continued l (bared x))
-keeps_by_bare tftp l x k = record { entries = k.entries; exchanged = bare_exchanged l.number l.server k.entries (l.exchanges ++ x ∷ []) k.exchanged l.exchanges x refl; meets = k.meets }
-keeps_by_bare (dns id) l x k = core_keeps_bare lookup_service (look_up_of id l) l x k
-keeps_by_bare (dhcp a) l x k = core_keeps_bare lease_service a l x k
-keeps_by_bare ping l x k = core_keeps_bare ping_service (ping_of l) l x k
-
-pub keeps_bare : (l : Live) (x : Exchange) → Keeps (continued l x) → Keeps (continued l (bared x))
-keeps_bare l x k = keeps_by_bare l.kind l x k
-
--- WHAT IT HAS FOUND
-
-same_found : {A : Type 0} (f : Exchange → List A) (xs : List Exchange) (x y : Exchange) → f x ≡ f y → flat_map f (xs ++ x ∷ []) ≡ flat_map f (xs ++ y ∷ [])
-same_found f xs x y e = flat_map-append f xs (x ∷ []) ∙ ap (λ z. flat_map f xs ++ (z ++ [])) e ∙ sym (flat_map-append f xs (y ∷ []))
-
-fetched_bare : (k : OpenKind) (xs : List Exchange) (x : Exchange) → fetched_by k (xs ++ bared x ∷ []) ≡ fetched_by k (xs ++ x ∷ [])
-fetched_bare tftp xs x = ap file (same_found (λ y. datagram_in y.came) xs (bared x) x refl)
-fetched_bare (dns id) xs x = refl
-fetched_bare (dhcp a) xs x = refl
-fetched_bare ping xs x = refl
-
-granted_bare : (k : OpenKind) (xs : List Exchange) (x : Exchange) → granted_of k (xs ++ bared x ∷ []) ≡ granted_of k (xs ++ x ∷ [])
-granted_bare tftp xs x = refl
-granted_bare (dns id) xs x = refl
-granted_bare (dhcp a) xs x = ap (acknowledgement_in a) (same_found (λ y. handed_bodies_in y.came) xs (bared x) x refl)
-granted_bare ping xs x = refl
-
-resolved_bare : (k : OpenKind) (l : Live) (x : Exchange) → resolved_of k (continued l (bared x)) ≡ resolved_of k (continued l x)
-resolved_bare tftp l x = refl
-resolved_bare (dns id) l x = ap (address_found (look_up_of id l)) (same_found (λ y. dns_datagrams_in l.server y.came) l.exchanges (bared x) x refl)
-resolved_bare (dhcp a) l x = refl
-resolved_bare ping l x = refl
-
-pub hands_bare : (l : Live) (x : Exchange) (e : Ended) (s : Spelling) → HandsOut (continued l x) e s → HandsOut (continued l (bared x)) e s
-hands_bare l x e s h = record {
-  body = fetched_bare l.kind l.exchanges x ∙ h.body;
-  bytes = granted_bare l.kind l.exchanges x ∙ h.bytes;
-  address = resolved_bare l.kind l x ∙ h.address;
+  called = record { number = i.called.number; server = i.called.server; own = i.called.own; device = i.called.device; kind = kind_bare o.objects l x i.called.kind; carrier = i.called.carrier; asks = i.called.asks };
+  under_way = objects_bare o.objects g l x i.under_way;
 }
 
 -- THE EXCHANGE

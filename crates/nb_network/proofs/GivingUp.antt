@@ -43,6 +43,7 @@ module _ (kind : ChainKind) (c : Chain) (g h : Objects Obj) (list : List Open) (
     rising = s.rising;
     own = s.own;
     one_lease = s.one_lease;
+    addressed = s.addressed;
     lives = all_live list apart s.lives;
     apart = s.apart;
     room = x.released.same_room ∙ s.room;

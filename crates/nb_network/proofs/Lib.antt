@@ -7,11 +7,17 @@ pub mod Matching
 pub mod Traces
 pub mod Awaiting
 pub mod Stepping
+pub mod Sound
+pub mod Handed
+pub mod Inputs
+pub mod Keys
 pub mod Taking
 pub mod Passing
+pub mod Short
 pub mod Results
 pub mod Places
 pub mod Begun
+pub mod BegunSound
 pub mod Newest
 pub mod Beginning
 pub mod Timing

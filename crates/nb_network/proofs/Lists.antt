@@ -5,8 +5,9 @@ use Rattle.std.proofs.lemmas.List.Sums.{sum_by-append, sum_by-cons, sum_by_push}
 use Rattle.nb_graph.specs.Whole.{Objects}
 use Rattle.nb_nodes.specs.declared.obj.Obj.{Obj}
 use Rattle.nb_frames.specs.Frames.{is_one_of}
-use Rattle.nb_chains.specs.Chains.{AreOthers, chain_ids}
+use Rattle.nb_chains.specs.Chains.{AreOthers}
 use Rattle.nb_machine.specs.Lives.{Live}
+use Rattle.nb_open.specs.Objects.{objects_ids}
 use Rattle.nb_open.specs.declared.open.Open.{Open}
 use Rattle.nb_open.specs.Open.{IsOpenOf}
 use Rattle.nb_network.specs.Many.{AreApart, AreOpensOf, AreRising, IsApartFrom}
@@ -97,26 +98,26 @@ other_way xs ys h x o = by (is_one_of ys x) refl
     by true e = absurd (let no : true ≡ false = sym o ∙ h x e in cc)
 
 pub record AreAround (before : List Open) (o : Open) (behind : List Open) : Type 0 where
-  pub front : AllByRecursion (IsApartFrom (chain_ids o.chain)) before
-  pub back : AllByRecursion (IsApartFrom (chain_ids o.chain)) behind
+  pub front : AllByRecursion (IsApartFrom (objects_ids o.objects)) before
+  pub back : AllByRecursion (IsApartFrom (objects_ids o.objects)) behind
   pub rest : AreApart (before ++ behind)
 
 pub apart_around : (before : List Open) (o : Open) (behind : List Open) → AreApart (before ++ o ∷ behind) → AreAround before o behind
 apart_around [] o behind h = record { front = tt; back = h.0; rest = h.1 }
 apart_around (p ∷ before) o behind h =
     let r = apart_around before o behind h.1 in
-    let far = all_at (IsApartFrom (chain_ids p.chain)) before o behind h.0 in
+    let far = all_at (IsApartFrom (objects_ids p.objects)) before o behind h.0 in
     record {
-      front = (other_way (chain_ids p.chain) (chain_ids o.chain) far, r.front);
+      front = (other_way (objects_ids p.objects) (objects_ids o.objects) far, r.front);
       back = r.back;
-      rest = (all_but (IsApartFrom (chain_ids p.chain)) before o behind h.0, r.rest);
+      rest = (all_but (IsApartFrom (objects_ids p.objects)) before o behind h.0, r.rest);
     }
 
 -- one more at the end, which is apart from all
-pub apart_more : (os : List Open) (o : Open) → AreApart os → AllByRecursion (IsApartFrom (chain_ids o.chain)) os → AreApart (os ++ o ∷ [])
+pub apart_more : (os : List Open) (o : Open) → AreApart os → AllByRecursion (IsApartFrom (objects_ids o.objects)) os → AreApart (os ++ o ∷ [])
 apart_more [] o h k = (tt, tt)
 apart_more (p ∷ os) o h k =
-    (all_append (IsApartFrom (chain_ids p.chain)) os (o ∷ []) h.0 (other_way (chain_ids o.chain) (chain_ids p.chain) k.0, tt), apart_more os o h.1 k.1)
+    (all_append (IsApartFrom (objects_ids p.objects)) os (o ∷ []) h.0 (other_way (objects_ids o.objects) (objects_ids p.objects) k.0, tt), apart_more os o h.1 k.1)
 
 -- RISING
 

@@ -6,12 +6,12 @@ use Rattle.std.proofs.lemmas.List.Sums.{sum_by-append, sum_by-cons}
 use Rattle.nb_stack.specs.Bound.{is_port, owner_of, without}
 use Rattle.nb_stack.specs.declared.ports.Port.{Port}
 use Rattle.nb_teller.specs.Speakers.{carrier_number}
-use Rattle.nb_teller.specs.declared.speaker.Carrier.{Carrier}
-use Rattle.nb_teller.specs.declared.speaker.Carrier.TheVariants.{Udp, Icmp}
 use Rattle.nb_chains.specs.declared.kind.ChainKind.{ChainKind}
 use Rattle.nb_chains.specs.declared.kind.ChainKind.TheVariants.{File, Name, Lease, Echo}
+use Rattle.nb_open.specs.declared.objects.OpenObjects.{OpenObjects}
+use Rattle.nb_open.specs.declared.objects.OpenObjects.TheVariants.{Chain, Web}
 use Rattle.nb_open.specs.declared.open.Open.{Open}
-use Rattle.nb_network.specs.Many.{AreRising, HasOwnPort, bound_port, lease_count, port_for, protocol_for}
+use Rattle.nb_network.specs.Many.{AreRising, HasOwnPort, bound_port, lease_count, lease_count_of, leases_in, own_port_for, own_protocol_for, port_for, protocol_for}
 use Rattle.nb_network.proofs.Lists.{HasOtherNumber, all_at, all_back, all_both, all_front, all_map, rising_differ, rising_within}
 
 -- TESTS
@@ -65,15 +65,6 @@ owned_by_none proto port (o ∷ os) h =
     either_test (is_port proto port (bound_port o))
     (λ e. absurd (let some : Some o.speaker.number ≡ None = sym (owner_first proto port o os e) ∙ h in cc))
     (λ e. (elsewhere proto port o e, owned_by_none proto port os (sym (owner_next proto port o os e) ∙ h)))
-
--- no TCP port is bound
-not_tcp : (c : Carrier) → (carrier_number c == 6) ≡ false
-not_tcp Udp = refl
-not_tcp Icmp = refl
-
-pub no_tcp : (port : ℕ) (os : List Open) → owner_of 6 port (map bound_port os) ≡ None
-no_tcp port [] = refl
-no_tcp port (o ∷ os) = owner_next 6 port o os (ap (λ b. b && (o.speaker.own_port == port)) (not_tcp o.speaker.carrier)) ∙ no_tcp port os
 
 -- none of them has that number
 owned_by_other : (proto port to : ℕ) (os : List Open) → AllByRecursion (λ o. o.speaker.number ≡ to → ⊥) os → owner_of proto port (map bound_port os) ≡ Some to → ⊥
@@ -131,7 +122,7 @@ own_differ : (w n m : ℕ) → n < 16384 → m < 16384 → (m ≡ n → ⊥) →
 own_differ w n m i j d e = d (same_number w n m i j (omega (arith, e)))
 
 -- no two kinds of different numbers have the same port, but for two leases
-pub kinds_differ : (w : ℕ) (j k : ChainKind) (n m : ℕ) → n < 16384 → m < 16384 → (m ≡ n → ⊥) → lease_count j + lease_count k ≤ 1 → protocol_for j ≡ protocol_for k → port_for j w n ≡ port_for k w m → ⊥
+kinds_differ : (w : ℕ) (j k : ChainKind) (n m : ℕ) → n < 16384 → m < 16384 → (m ≡ n → ⊥) → lease_count j + lease_count k ≤ 1 → protocol_for j ≡ protocol_for k → port_for j w n ≡ port_for k w m → ⊥
 kinds_differ w File File n m i j d l p e = own_differ w n m i j d e
 kinds_differ w File Name n m i j d l p e = own_differ w n m i j d e
 kinds_differ w File Lease n m i j d l p e = omega (arith, e)
@@ -149,6 +140,19 @@ kinds_differ w Echo Name n m i j d l p e = omega (arith, p)
 kinds_differ w Echo Lease n m i j d l p e = omega (arith, p)
 kinds_differ w Echo Echo n m i j d l p e = d (sym e)
 
+-- no chain speaks by TCP
+not_by_tcp : (k : ChainKind) → protocol_for k ≡ 6 → ⊥
+not_by_tcp File p = omega (arith, p)
+not_by_tcp Name p = omega (arith, p)
+not_by_tcp Lease p = omega (arith, p)
+not_by_tcp Echo p = omega (arith, p)
+
+objects_differ : (w : ℕ) (x y : OpenObjects) (n m : ℕ) → n < 16384 → m < 16384 → (m ≡ n → ⊥) → leases_in x + leases_in y ≤ 1 → own_protocol_for x ≡ own_protocol_for y → own_port_for x w n ≡ own_port_for y w m → ⊥
+objects_differ w (Chain j c) (Chain k d) n m a b f l p e = kinds_differ w j k n m a b f l p e
+objects_differ w (Chain j c) (Web port own d) n m a b f l p e = not_by_tcp j p
+objects_differ w (Web port own c) (Chain k d) n m a b f l p e = not_by_tcp k (sym p)
+objects_differ w (Web port own c) (Web port' own' d) n m a b f l p e = own_differ w n m a b f e
+
 -- how many of them count at most
 each_count : {A : Type 0} (f : A → ℕ) (xs : List A) (most : ℕ) → sum_by f xs ≤ most → AllByRecursion (λ x. f x ≤ most) xs
 each_count f [] most i = tt
@@ -165,9 +169,9 @@ below_most least most (o ∷ os) h = (h.1, below_most (o.speaker.number + 1) mos
 abbrev pub IsElsewhereOf : Open → Open → Type 0
 IsElsewhereOf o p = IsElsewhere (carrier_number o.speaker.carrier) o.speaker.own_port p
 
-one_elsewhere : (w : ℕ) (o p : Open) → HasOwnPort w o → HasOwnPort w p → o.speaker.number < 16384 → p.speaker.number < 16384 → HasOtherNumber o p → lease_count o.kind + lease_count p.kind ≤ 1 → IsElsewhereOf o p
+one_elsewhere : (w : ℕ) (o p : Open) → HasOwnPort w o → HasOwnPort w p → o.speaker.number < 16384 → p.speaker.number < 16384 → HasOtherNumber o p → lease_count_of o + lease_count_of p ≤ 1 → IsElsewhereOf o p
 one_elsewhere w o p a b i j d l e f =
-    kinds_differ w o.kind p.kind o.speaker.number p.speaker.number i j d l (sym a.protocol ∙ sym e ∙ b.protocol) (sym a.port ∙ sym f ∙ b.port)
+    objects_differ w o.objects p.objects o.speaker.number p.speaker.number i j d l (sym a.protocol ∙ sym e ∙ b.protocol) (sym a.port ∙ sym f ∙ b.port)
 
 pub record StandsAlone (before : List Open) (o : Open) (behind : List Open) : Type 0 where
   pub front : AllByRecursion (IsElsewhereOf o) before
@@ -179,28 +183,28 @@ abbrev pub IsFitting : ℕ → ℕ → Open → Type 0
 IsFitting w most o = HasOwnPort w o × (o.speaker.number < most)
 
 module _ (w most : ℕ) (o : Open) (i : o.speaker.number < 16384) (few : most ≤ 16384) (a : HasOwnPort w o) where
-  each_elsewhere : (os : List Open) → AllByRecursion (IsFitting w most) os → AllByRecursion (HasOtherNumber o) os → AllByRecursion (λ p. lease_count o.kind + lease_count p.kind ≤ 1) os → AllByRecursion (IsElsewhereOf o) os
+  each_elsewhere : (os : List Open) → AllByRecursion (IsFitting w most) os → AllByRecursion (HasOtherNumber o) os → AllByRecursion (λ p. lease_count_of o + lease_count_of p ≤ 1) os → AllByRecursion (IsElsewhereOf o) os
   each_elsewhere os fit other count =
-      all_both (IsFitting w most) (λ p. HasOtherNumber o p × (lease_count o.kind + lease_count p.kind ≤ 1)) (IsElsewhereOf o) os
+      all_both (IsFitting w most) (λ p. HasOtherNumber o p × (lease_count_of o + lease_count_of p ≤ 1)) (IsElsewhereOf o) os
       (λ p f c. one_elsewhere w o p a f.0 i (let j = f.1 in omega (arith, j, few)) c.0 c.1) fit
-      (all_both (HasOtherNumber o) (λ p. lease_count o.kind + lease_count p.kind ≤ 1) (λ p. HasOtherNumber o p × (lease_count o.kind + lease_count p.kind ≤ 1)) os (λ p x y. (x, y)) other count)
+      (all_both (HasOtherNumber o) (λ p. lease_count_of o + lease_count_of p ≤ 1) (λ p. HasOtherNumber o p × (lease_count_of o + lease_count_of p ≤ 1)) os (λ p x y. (x, y)) other count)
 
 pub stands_alone : (w opens : ℕ) (before : List Open) (o : Open) (behind : List Open) → opens ≤ 16384 → AreRising 0 opens (before ++ o ∷ behind) → AllByRecursion (HasOwnPort w) (before ++ o ∷ behind) →
-    sum_by (λ o. lease_count o.kind) (before ++ o ∷ behind) ≤ 1 → StandsAlone before o behind
+    sum_by lease_count_of (before ++ o ∷ behind) ≤ 1 → StandsAlone before o behind
 stands_alone w opens before o behind few rising own one =
     let differ = rising_differ 0 opens before o behind rising in
     let below = below_most 0 opens (before ++ o ∷ behind) rising in
     let fit = all_both (HasOwnPort w) (λ p. p.speaker.number < opens) (IsFitting w opens) (before ++ o ∷ behind) (λ p x y. (x, y)) own below in
     let i : o.speaker.number < 16384 = let r = (rising_within 0 opens before o behind rising).1 in omega (arith, r, few) in
     let a = all_at (HasOwnPort w) before o behind own in
-    let c = counts_around (λ (p : Open). lease_count p.kind) before o behind one in
-    let count : (most : ℕ) → lease_count o.kind + most ≤ 1 → (os : List Open) → AllByRecursion (λ p. lease_count p.kind ≤ most) os → AllByRecursion (λ p. lease_count o.kind + lease_count p.kind ≤ 1) os =
-    λ most k os h. all_map (λ p. lease_count p.kind ≤ most) (λ p. lease_count o.kind + lease_count p.kind ≤ 1) os (λ p x. omega (arith, x, k)) h in
+    let c = counts_around lease_count_of before o behind one in
+    let count : (most : ℕ) → lease_count_of o + most ≤ 1 → (os : List Open) → AllByRecursion (λ p. lease_count_of p ≤ most) os → AllByRecursion (λ p. lease_count_of o + lease_count_of p ≤ 1) os =
+    λ most k os h. all_map (λ p. lease_count_of p ≤ most) (λ p. lease_count_of o + lease_count_of p ≤ 1) os (λ p x. omega (arith, x, k)) h in
     record {
       front = each_elsewhere w opens o i few a before (all_front (IsFitting w opens) before (o ∷ behind) fit) differ.0
-          (count (sum_by (λ (p : Open). lease_count p.kind) before) (let x = c.0 in omega (arith, x)) before (each_count (λ (p : Open). lease_count p.kind) before (sum_by (λ (p : Open). lease_count p.kind) before) (omega arith)));
+          (count (sum_by lease_count_of before) (let x = c.0 in omega (arith, x)) before (each_count lease_count_of before (sum_by lease_count_of before) (omega arith)));
       back = each_elsewhere w opens o i few a behind (all_back (IsFitting w opens) before (o ∷ behind) fit).1 differ.1
-          (count (sum_by (λ (p : Open). lease_count p.kind) behind) c.1 behind (each_count (λ (p : Open). lease_count p.kind) behind (sum_by (λ (p : Open). lease_count p.kind) behind) (omega arith)));
+          (count (sum_by lease_count_of behind) c.1 behind (each_count lease_count_of behind (sum_by lease_count_of behind) (omega arith)));
       fronts = differ.0;
       backs = differ.1;
     }

@@ -30,13 +30,14 @@ use Rattle.nb_traced.specs.Holdings.{lowest_of}
 use Rattle.nb_traced.specs.Outputs.{own_serials}
 use Rattle.nb_open.specs.declared.ended.Ended.{Ended}
 use Rattle.nb_open.specs.declared.open.Open.{Open}
+use Rattle.nb_open.specs.Objects.{objects_ids}
 use Rattle.nb_open.specs.Exchanges.{Exchanges, HandsOut, IsLeaseMessage, last_put, with_exchange}
 use Rattle.nb_open.specs.Open.{IsOpenOf, LivesSome, kin_of}
 use Rattle.nb_network.specs.declared.over.HasEnded.{HasEnded}
-use Rattle.nb_network.specs.Many.{AreApart, AreOpensOf, AreRising, AreSound, HasLeaseOnlyOf, HasOwnPort, IsApartFrom, IsNewestBut, Many, WaitsBeside, bound_port, lease_count}
+use Rattle.nb_network.specs.Many.{AreApart, AreOpensOf, AreRising, AreSound, HasAddress, HasTiedOnlyOf, HasOwnPort, IsApartFrom, IsNewestBut, Many, WaitsBeside, bound_port, lease_count_of}
 use Rattle.nb_network.specs.Steps.{ComesAt, GoesOnSo, EndIsSettled, TracesAt, answer_for, freed_of, left_by, step_records}
 use Rattle.nb_network.specs.Takes.{AnswersBy, BeginsWithEntry, IsEndOf, KeepsWaiting, awaited_over}
-use Rattle.nb_network.proofs.Awaiting.{leases_end, leases_stay, lived, newest_ends, newest_stays}
+use Rattle.nb_network.proofs.Awaiting.{tied_ends, tied_stay, lived, newest_ends, newest_stays}
 use Rattle.nb_network.proofs.BareExchanges.{exchanges_bare}
 use Rattle.nb_network.proofs.Lists.{HasOtherNumber, all_append, all_at, all_back, all_but, all_front, AreAround, apart_around, count_without, opens_move, rising_without}
 use Rattle.nb_network.proofs.Ports.{either_test, freed_port, stands_alone}
@@ -66,11 +67,12 @@ pub answers_none : (awaited : Option ℕ) (answer : Option HasEnded) → answer 
 answers_none awaited answer e = subst (λ z. AnswersBy z (awaited_over awaited [])) (sym e) (subst (AnswersBy None) (sym (answer_none awaited)) tt)
 
 pub is_end : (number : ℕ) (l : Live) (e : Ended) (s : Spelling) → l.number ≡ number → (is_ok_cause e.cause ≡ true → HandsOut l e s) → IsLeaseMessage s.bytes →
-    IsEndOf (record { number = number; cause = e.cause; body = e.body; bytes = s.bytes; address = s.address }) (record { live = l; cause = e.cause })
+    IsEndOf (record { number = number; cause = e.cause; body = e.body; moved = e.moved; bytes = s.bytes; address = s.address }) (record { live = l; cause = e.cause })
 is_end number l e s same hands message = record {
   number = same;
   cause = refl;
   body = λ ok. (hands ok).body;
+  moved = λ ok. (hands ok).moved;
   bytes = λ ok. (hands ok).bytes;
   address = λ ok. (hands ok).address;
   message = message;
@@ -81,7 +83,7 @@ answers_one : (awaited : Option ℕ) (number : ℕ) (l : Live) (e : Ended) (s : 
 answers_one None number l e s same hands message = tt
 answers_one (Some k) number l e s same hands message =
     let over : Over = record { live = l; cause = e.cause } in
-    let found : HasEnded = record { number = number; cause = e.cause; body = e.body; bytes = s.bytes; address = s.address } in
+    let found : HasEnded = record { number = number; cause = e.cause; body = e.body; moved = e.moved; bytes = s.bytes; address = s.address } in
     subst (λ b. AnswersBy (answer_for (Some k) number e s) (cond b (Some over) None)) (sym (ap (λ z. z == k) same))
     (either_test {P = AnswersBy (cond (number == k) (Some found) None) (cond (number == k) (Some over) None)} (number == k)
     (λ t. subst (λ b. AnswersBy (cond b (Some found) None) (cond b (Some over) None)) (sym t) (is_end number l e s same hands message))
@@ -151,24 +153,24 @@ module _ (suits : Live → Type 0) (came : OpenInput) (way : Way) (begun : Optio
 pub record LeavesAll (m : Many) (net : Client) (w opens : ℕ) (o : Open) (m' : Many) (net' : Client) : Type 0 where
   pub sound : AreSound w opens net' m'
   pub waiting : KeepsWaiting m m'
-  pub others : (os : List Open) (ls : List Live) → AllByRecursion (IsApartFrom (chain_ids o.chain)) os → AreOpensOf m.graph os ls → AreOpensOf m'.graph os ls
+  pub others : (os : List Open) (ls : List Live) → AllByRecursion (IsApartFrom (objects_ids o.objects)) os → AreOpensOf m.graph os ls → AreOpensOf m'.graph os ls
   pub same_net : net' ≡ record net { ports = net'.ports }
 
 pub top_first : (c : Chain) → is_one_of (chain_ids c) c.top.0 ≡ true
 top_first c = ap (λ b. b || is_one_of (below_ids c.below) c.top.0) (eq-eqb c.top.0 c.top.0 refl)
 
-pub top_apart : (c : Chain) (o : Open) → IsApartFrom (chain_ids c) o → is_one_of (chain_ids o.chain) c.top.0 ≡ false
+pub top_apart : (c : Chain) (o : Open) → IsApartFrom (chain_ids c) o → is_one_of (objects_ids o.objects) c.top.0 ≡ false
 top_apart c o far =
-    either_test (is_one_of (chain_ids o.chain) c.top.0) (λ t. absurd (let no : true ≡ false = sym (top_first c) ∙ far c.top.0 t in cc)) (λ f. f)
+    either_test (is_one_of (objects_ids o.objects) c.top.0) (λ t. absurd (let no : true ≡ false = sym (top_first c) ∙ far c.top.0 t in cc)) (λ f. f)
 
-module _ (g h : Objects Obj) (o : Open) (noded : AreNoded rank_of_obj h) (kept : KeepsOthers (is_one_of (chain_ids o.chain)) g h) where
-  pub other_open : (p : Open) (l : Live) → IsApartFrom (chain_ids o.chain) p → IsOpenOf g p l → IsOpenOf h p l
+module _ (g h : Objects Obj) (o : Open) (noded : AreNoded rank_of_obj h) (kept : KeepsOthers (is_one_of (objects_ids o.objects)) g h) where
+  pub other_open : (p : Open) (l : Live) → IsApartFrom (objects_ids o.objects) p → IsOpenOf g p l → IsOpenOf h p l
   other_open p l far i = open_stays g h p l noded (λ x own. kept.others x (i.chained.given x own) (far x own)) (let e = kept.same_made in omega (arith, e)) i
 
-  pub other_opens : (os : List Open) (ls : List Live) → AllByRecursion (IsApartFrom (chain_ids o.chain)) os → AreOpensOf g os ls → AreOpensOf h os ls
-  other_opens os ls far i = opens_move g h (IsApartFrom (chain_ids o.chain)) other_open os ls far i
+  pub other_opens : (os : List Open) (ls : List Live) → AllByRecursion (IsApartFrom (objects_ids o.objects)) os → AreOpensOf g os ls → AreOpensOf h os ls
+  other_opens os ls far i = opens_move g h (IsApartFrom (objects_ids o.objects)) other_open os ls far i
 
-  pub other_lives : (os : List Open) → AllByRecursion (IsApartFrom (chain_ids o.chain)) os → AllByRecursion (LivesSome g) os → AllByRecursion (LivesSome h) os
+  pub other_lives : (os : List Open) → AllByRecursion (IsApartFrom (objects_ids o.objects)) os → AllByRecursion (LivesSome g) os → AllByRecursion (LivesSome h) os
   other_lives [] far i = tt
   other_lives (p ∷ os) far i = ((i.0.0, other_open p i.0.0 far.0 i.0.1), other_lives os far.1 i.1)
 
@@ -183,7 +185,7 @@ module _ (g h : Objects Obj) (o : Open) (noded : AreNoded rank_of_obj h) (kept :
 pub same_ports : (net net' : Client) (ports : List Port) → net' ≡ record net { ports = ports } → net' ≡ record net { ports = net'.ports }
 same_ports net net' ports e = e ∙ ap (λ z. record net { ports = z }) (sym (ap (λ (c : Client). c.ports) e))
 
-module _ (m : Many) (net : Client) (w opens : ℕ) (before : List Open) (o : Open) (behind : List Open) (m' : Many) (net' : Client) (is : m.list ≡ before ++ o ∷ behind) (noded : AreNoded rank_of_obj m'.graph) (kept : KeepsOthers (is_one_of (chain_ids o.chain)) m.graph m'.graph) (room : m'.graph.book.room ≡ m.graph.book.room) (sound : AreSound w opens net m) where
+module _ (m : Many) (net : Client) (w opens : ℕ) (before : List Open) (o : Open) (behind : List Open) (m' : Many) (net' : Client) (is : m.list ≡ before ++ o ∷ behind) (noded : AreNoded rank_of_obj m'.graph) (kept : KeepsOthers (is_one_of (objects_ids o.objects)) m.graph m'.graph) (room : m'.graph.book.room ≡ m.graph.book.room) (sound : AreSound w opens net m) where
   around : AreAround before o behind
   around = apart_around before o behind (subst AreApart is sound.apart)
 
@@ -192,7 +194,7 @@ module _ (m : Many) (net : Client) (w opens : ℕ) (before : List Open) (o : Ope
 
   pub leaves_on : m'.list ≡ before ++ o ∷ behind → net' ≡ net → LivesSome m'.graph o → LeavesAll m net w opens o m' net'
   leaves_on new same lives =
-      let stays = is ∙ sym new in
+      let stays : m.list ≡ m'.list = is ∙ sym new in
       record {
         sound = record {
           w_fits = sound.w_fits;
@@ -200,7 +202,8 @@ module _ (m : Many) (net : Client) (w opens : ℕ) (before : List Open) (o : Ope
           ports = ap (λ (c : Client). c.ports) same ∙ sound.ports ∙ ap (map bound_port) stays;
           rising = subst (AreRising 0 opens) stays sound.rising;
           own = subst (AllByRecursion (HasOwnPort w)) stays sound.own;
-          one_lease = subst (λ os. sum_by (λ (p : Open). lease_count p.kind) os ≤ 1) stays sound.one_lease;
+          one_lease = subst (λ os. sum_by lease_count_of os ≤ 1) stays sound.one_lease;
+          addressed = subst (λ (c : Client). AllByRecursion (HasAddress c.address) m'.list) (sym same) (subst (AllByRecursion (HasAddress net.address)) stays sound.addressed);
           lives = subst (AllByRecursion (LivesSome m'.graph)) (sym new) (all_append (LivesSome m'.graph) before (o ∷ behind)
               (other_lives m.graph m'.graph o noded kept before around.front (all_front (LivesSome m.graph) before (o ∷ behind) lives_as))
               (lives, other_lives m.graph m'.graph o noded kept behind around.back (all_back (LivesSome m.graph) before (o ∷ behind) lives_as).1));
@@ -217,7 +220,7 @@ module _ (m : Many) (net : Client) (w opens : ℕ) (before : List Open) (o : Ope
   leaves_last new freed =
       let rising = subst (AreRising 0 opens) is sound.rising in
       let own = subst (AllByRecursion (HasOwnPort w)) is sound.own in
-      let one = subst (λ os. sum_by (λ (p : Open). lease_count p.kind) os ≤ 1) is sound.one_lease in
+      let one = subst (λ os. sum_by lease_count_of os ≤ 1) is sound.one_lease in
       let alone = stands_alone w opens before o behind sound.opens_fit rising own one in
       record {
         sound = record {
@@ -227,7 +230,9 @@ module _ (m : Many) (net : Client) (w opens : ℕ) (before : List Open) (o : Ope
               ∙ freed_port before o behind alone.front alone.back ∙ ap (map bound_port) (sym new);
           rising = subst (AreRising 0 opens) (sym new) (rising_without 0 opens before o behind rising);
           own = subst (AllByRecursion (HasOwnPort w)) (sym new) (all_but (HasOwnPort w) before o behind own);
-          one_lease = subst (λ os. sum_by (λ (p : Open). lease_count p.kind) os ≤ 1) (sym new) (count_without (λ (p : Open). lease_count p.kind) before o behind 1 one);
+          one_lease = subst (λ os. sum_by lease_count_of os ≤ 1) (sym new) (count_without lease_count_of before o behind 1 one);
+          addressed = subst (λ (c : Client). AllByRecursion (HasAddress c.address) m'.list) (sym freed)
+              (subst (AllByRecursion (HasAddress net.address)) (sym new) (all_but (HasAddress net.address) before o behind (subst (AllByRecursion (HasAddress net.address)) is sound.addressed)));
           lives = subst (AllByRecursion (LivesSome m'.graph)) (sym new) (all_append (LivesSome m'.graph) before behind
               (other_lives m.graph m'.graph o noded kept before around.front (all_front (LivesSome m.graph) before (o ∷ behind) lives_as))
               (other_lives m.graph m'.graph o noded kept behind around.back (all_back (LivesSome m.graph) before (o ∷ behind) lives_as).1));
@@ -255,7 +260,7 @@ module _ (suits : Live → Type 0) (came : OpenInput) (way : Way) (begun : Optio
 
 pub record AwaitsOn (m : Many) (awaited : Option ℕ) (answer : Option HasEnded) (m' : Many) : Type 0 where
   pub same_made : m'.graph.book.made ≡ m.graph.book.made
-  pub leases : GoesOnSo HasLeaseOnlyOf awaited answer m m'
+  pub tied : GoesOnSo HasTiedOnlyOf awaited answer m m'
   pub newest : (c : Chain) → GoesOnSo (λ k z. IsNewestBut k c z) awaited answer m m'
 
 module _ (suits : Live → Type 0) (came : OpenInput) (way : Way) (begun : Option ℕ) (m : Many) (net : Client) (w opens : ℕ) (before : List Open) (o : Open) (behind : List Open) (awaited : Option ℕ) (m' : Many) (net' : Client) (old new : Logged) (is : m.list ≡ before ++ o ∷ behind) (sound : AreSound w opens net m) where
@@ -265,16 +270,16 @@ module _ (suits : Live → Type 0) (came : OpenInput) (way : Way) (begun : Optio
       let back = lived o (Some way) x.records (lowest_of (own_serials (kin_of o))) m.graph m'.graph x.does.call i.chained in
       record {
         same_made = x.does.others.others.same_made;
-        leases = subst (λ z. GoesOnSo HasLeaseOnlyOf awaited z m m') (sym s.2) (leases_stay m.graph m'.graph m.list m'.list (s.0 ∙ sym is) back awaited);
+        tied = subst (λ z. GoesOnSo HasTiedOnlyOf awaited z m m') (sym s.2) (tied_stay m.graph m'.graph m.list m'.list (s.0 ∙ sym is) back awaited);
         newest = λ c. subst (λ z. GoesOnSo (λ k y. IsNewestBut k c y) awaited z m m') (sym s.2) (newest_stays m.graph m'.graph m.list m'.list (s.0 ∙ sym is) back awaited c);
       }
   awaits_by (Some e) told answer s l i x =
       let back = lived o (Some way) x.records (lowest_of (own_serials (kin_of o))) m.graph m'.graph x.does.call i.chained in
-      let alone = stands_alone w opens before o behind sound.opens_fit (subst (AreRising 0 opens) is sound.rising) (subst (AllByRecursion (HasOwnPort w)) is sound.own) (subst (λ os. sum_by (λ (p : Open). lease_count p.kind) os ≤ 1) is sound.one_lease) in
+      let alone = stands_alone w opens before o behind sound.opens_fit (subst (AreRising 0 opens) is sound.rising) (subst (AllByRecursion (HasOwnPort w)) is sound.own) (subst (λ os. sum_by lease_count_of os ≤ 1) is sound.one_lease) in
       let differ = all_append (HasOtherNumber o) before behind alone.fronts alone.backs in
       record {
         same_made = x.does.released.others.same_made;
-        leases = subst (λ z. GoesOnSo HasLeaseOnlyOf awaited z m m') (sym s.2) (leases_end m.graph m'.graph m.list m'.list before o behind is s.0 back x.does.released.gone differ awaited e told);
+        tied = subst (λ z. GoesOnSo HasTiedOnlyOf awaited z m m') (sym s.2) (tied_ends m.graph m'.graph m.list m'.list before o behind is s.0 back x.does.released.gone differ awaited e told);
         newest = λ c. subst (λ z. GoesOnSo (λ k y. IsNewestBut k c y) awaited z m m') (sym s.2) (newest_ends m.graph m'.graph m.list m'.list before o behind is s.0 back x.does.released.gone differ awaited c e told);
       }
 

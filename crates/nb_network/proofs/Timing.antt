@@ -16,11 +16,11 @@ use Rattle.nb_machine.specs.Network.{passes_time}
 use Rattle.nb_machine.specs.Scripts.{is_number}
 use Rattle.nb_machine.specs.States.{State, bare, later_by, with_live}
 use Rattle.nb_machine.specs.Takings.{Over, AllTake, all_have, lives_on, is_over}
-use Rattle.nb_chains.specs.Chains.{chain_ids}
+use Rattle.nb_open.specs.Objects.{objects_ids}
 use Rattle.nb_open.specs.declared.ended.Ended.{Ended}
 use Rattle.nb_open.specs.declared.open.Open.{Open}
 use Rattle.nb_network.specs.declared.over.HasEnded.{HasEnded}
-use Rattle.nb_network.specs.Many.{AreApart, AreOpensOf, AreSound, HasLeaseOnlyOf, IsApartFrom, IsNewestBut, IsStateOf, Many}
+use Rattle.nb_network.specs.Many.{AreApart, AreOpensOf, AreSound, HasTiedOnlyOf, IsApartFrom, IsNewestBut, IsStateOf, Many}
 use Rattle.nb_network.specs.Steps.{ComesAt, IsOpenAt, StaysOn, TimesCome, TimesGive, TracesAt, left_by, place_after}
 use Rattle.nb_network.specs.Takes.{AnswersBy, at_all, TakesRecord, arrival, awaited_over}
 use Rattle.nb_network.proofs.Awaiting.{so_both}
@@ -67,7 +67,7 @@ times_none m net opens now done awaited log is = record {
   waiting = λ kind c wait. wait;
   sound = λ w s. s;
   same_made = refl;
-  leases = ((λ n. n), (λ n. n));
+  tied = ((λ n. n), (λ n. n));
   newest = λ c. ((λ n. n), (λ n. n));
 }
   where
@@ -105,7 +105,7 @@ module _ (m : Many) (net : Client) (w opens now : ℕ) (done : List Open) (o : O
   around : AreAround done o rest
   around = apart_around done o rest (subst AreApart is sound.apart)
 
-  front_stays : (os : List Open) → AllByRecursion (IsApartFrom (chain_ids o.chain)) os → AllByRecursion (StaysOn m.graph m1.graph) os
+  front_stays : (os : List Open) → AllByRecursion (IsApartFrom (objects_ids o.objects)) os → AllByRecursion (StaysOn m.graph m1.graph) os
   front_stays [] far = tt
   front_stays (p ∷ os) far = ((λ l i. (leaves.others (p ∷ []) (l ∷ []) (far.0, tt) (i, tt)).0), front_stays os far.1)
 
@@ -142,7 +142,7 @@ module _ (m : Many) (net : Client) (w opens now : ℕ) (done : List Open) (o : O
       waiting = λ kind d wait. t.waiting kind d (leaves.waiting kind d wait);
       sound = λ v s. t.sound v (sound_again v s);
       same_made = t.same_made ∙ known.same_made;
-      leases = so_both HasLeaseOnlyOf awaited found later m m1 m2 known.leases t.leases;
+      tied = so_both HasTiedOnlyOf awaited found later m m1 m2 known.tied t.tied;
       newest = λ d. so_both (λ k z. IsNewestBut k d z) awaited found later m m1 m2 (known.newest d) (t.newest d);
     }
       where
@@ -180,7 +180,7 @@ times_record m net before w opens n ms now awaited answer m' net' none gathered 
       first = g.first n;
       waiting = t.waiting;
       same_made = t.same_made;
-      leases = t.leases.1;
+      tied = t.tied.1;
       newest = λ c. (t.newest c).1;
     }
 

@@ -5,7 +5,6 @@ use Rattle.std.proofs.lemmas.List.{map-append}
 use Rattle.std.proofs.lemmas.List.Sums.{fold-append}
 use Rattle.nb_defs.specs.Records.{Out, step, sent, ended, graph}
 use Rattle.nb_terms.specs.declared.cause.Cause.{Cause}
-use Rattle.nb_ledger.specs.declared.event.GraphEvent.{GraphEvent}
 use Rattle.nb_ledger.specs.declared.event.Way.{Way}
 use Rattle.nb_ledger.specs.declared.event.GraphEvent.TheVariants.{Entered}
 use Rattle.nb_ledger.specs.declared.port.ObjId.{ObjId}
@@ -19,9 +18,13 @@ use Rattle.nb_chains.specs.declared.kind.ChainKind.{ChainKind}
 use Rattle.nb_chains.specs.Chains.{below_ids, chain_ids}
 use Rattle.nb_traced.specs.Holdings.{Holdings, GraphObject, lowest_of, serials}
 use Rattle.nb_traced.specs.Outputs.{Arrived, CallsOpen, Traced, arrived, last_step, own_serials, step_by, apart, calls, ends}
-use Rattle.nb_traced.specs.Pieces.{IsCallOn, IsOfOpen, event_records, first_close_of}
+use Rattle.nb_traced.specs.Pieces.{IsCallOn, IsOfOpen, first_close_of}
+use Rattle.nb_traced.proofs.OnEntries.{begins_with, each_on_entries}
+use Rattle.nb_open.specs.declared.objects.OpenObjects.{OpenObjects}
+use Rattle.nb_open.specs.declared.objects.OpenObjects.TheVariants as objects
 use Rattle.nb_open.specs.declared.open.Open.{Open}
-use Rattle.nb_open.specs.Open.{kin_of, pieces_below, pieces_of}
+use Rattle.nb_open.specs.Objects.{objects_ids}
+use Rattle.nb_open.specs.Open.{kin_of, objects_pieces, pieces_below, pieces_of}
 use Rattle.nb_network.specs.Many.{FitsHoldings, Many}
 use Rattle.nb_network.specs.Steps.{TracesAt}
 use Rattle.nb_network.specs.Takes.{TracesOn, arrival}
@@ -35,35 +38,24 @@ last_more outs added = fold-append step_by 0 outs added
 pub last_is_step : (outs : List Out) (n : ℕ) → last_step (outs ++ step n ∷ []) ≡ n
 last_is_step outs n = last_more outs (step n ∷ [])
 
-events_no_step : (n : ℕ) (es : List GraphEvent) → fold step_by n (event_records es) ≡ n
-events_no_step n [] = refl
-events_no_step n (e ∷ es) = events_no_step n es
-
 put_no_step : (n k : ℕ) (o : Out) → IsOfOpen k o → step_by n o ≡ n
 put_no_step n k (step number) h = absurd h
 put_no_step n k (sent bytes) h = refl
 put_no_step n k o h = refl
 
-puts_no_step : (n k : ℕ) (os : List Out) → AllByRecursion (IsOfOpen k) os → fold step_by n os ≡ n
-puts_no_step n k [] h = refl
-puts_no_step n k (o ∷ os) h = ap (λ z. fold step_by z os) (put_no_step n k o h.0) ∙ puts_no_step n k os h.1
+all_no_step : (n : ℕ) (os : List Out) → AllByRecursion (λ o. step_by n o ≡ n) os → fold step_by n os ≡ n
+all_no_step n [] h = refl
+all_no_step n (o ∷ os) h = ap (λ z. fold step_by z os) h.0 ∙ all_no_step n os h.1
 
 -- a call puts no step
 pub call_no_step : (n k : ℕ) (ids : List ℕ) (x : ℕ) (by : Option Way) (records : List Out) (s t : GraphState) → IsCallOn k ids x by records s t → fold step_by n records ≡ n
-call_no_step n k ids x by records s t c =
-    ap (fold step_by n) c.all
-    ∙ fold-append step_by n (event_records c.front) (c.puts ++ event_records c.back)
-    ∙ ap (λ z. fold step_by z (c.puts ++ event_records c.back)) (events_no_step n c.front)
-    ∙ fold-append step_by n c.puts (event_records c.back)
-    ∙ ap (λ z. fold step_by z (event_records c.back)) (puts_no_step n k c.puts c.of_open)
-    ∙ events_no_step n c.back
+call_no_step n k ids x by records s t c = all_no_step n records (each_on_entries (λ o. step_by n o ≡ n) k x (λ e. refl) (put_no_step n k) false records c.events c.stand)
 
 -- a call by an entry from outside begins with that
 pub begins_entry : (k : ℕ) (ids : List ℕ) (x : ℕ) (way : Way) (records : List Out) (s t : GraphState) → IsCallOn k ids x (Some way) records s t → (more : List Out) →
     (p : Port) × (rest : List Out) × (records ++ more ≡ graph (flat (Entered p way)) ∷ rest)
 begins_entry k ids x way records s t c more =
-    let rest = c.puts ++ event_records c.back in
-    (c.begins.0, rest ++ more, ap (λ z. z ++ more) (c.all ∙ ap (λ es. event_records es ++ rest) c.begins.1))
+    let b = begins_with k x records c.events (Entered c.begins.port way) c.begins.rest c.stand c.begins.first in (c.begins.port, b.behind ++ more, ap (λ z. z ++ more) b.first)
 
 -- WHOSE OBJECTS
 
@@ -73,6 +65,13 @@ below_serials (Some x) = refl
 
 pub serials_are : (kind : ChainKind) (c : Chain) → serials (pieces_of kind c) ≡ chain_ids c
 serials_are kind c = ap (λ z. c.top.0 ∷ z) (below_serials c.below)
+
+objects_are : (os : OpenObjects) → serials (objects_pieces os) ≡ objects_ids os
+objects_are (objects.Chain kind chain) = serials_are kind chain
+objects_are (objects.Web port own chain) = refl
+
+pub own_are : (o : Open) → own_serials (kin_of o) ≡ objects_ids o.objects
+own_are o = objects_are o.objects
 
 pub kins_around : (before : List Open) (o : Open) (behind : List Open) → map kin_of (before ++ o ∷ behind) ≡ map kin_of before ++ kin_of o ∷ map kin_of behind
 kins_around before o behind = map-append kin_of before (o ∷ behind)
@@ -107,7 +106,7 @@ traces_on n m opens before o behind way records m' is new call none = λ waits o
 -- an open ends
 pub traces_end : (n : ℕ) (m : Many) (opens : ℕ) (before : List Open) (o : Open) (behind : List Open) (way : Option Way) (records : List Out) (cause : Cause) (m' : Many) →
     m.list ≡ before ++ o ∷ behind → m'.list ≡ before ++ behind → CallsOpen (kin_of o) way records (run_state m.graph.book []) (run_state m'.graph.book []) →
-    first_close_of (own_serials (kin_of o)) records ≡ Some cause → ((x : ℕ) → is_one_of (chain_ids o.chain) x ≡ true → object_lives m'.graph.book x ≡ false) →
+    first_close_of (own_serials (kin_of o)) records ≡ Some cause → ((x : ℕ) → is_one_of (objects_ids o.objects) x ≡ true → object_lives m'.graph.book x ≡ false) →
     TracesAt n m opens (records ++ ended o.speaker.number cause ∷ []) (came_by n o.speaker.number way) m' opens
 traces_end n m opens before o behind way records cause m' is new call some gone = λ waits outs h so_far last traced fits.
     let living : h.living ≡ map kin_of before ++ kin_of o ∷ map kin_of behind = fits.living ∙ ap (map kin_of) is ∙ kins_around before o behind in
@@ -118,7 +117,7 @@ traces_end n m opens before o behind way records cause m' is new call some gone 
         traced = subst (λ z. Traced (outs ++ (records ++ ended k cause ∷ [])) (record h { state = t; living = map kin_of before ++ map kin_of behind }) (so_far ++ z)) (arrived_is outs n k way last)
             (ends outs records h so_far (map kin_of before) (map kin_of behind) (kin_of o) way t cause traced living
             (subst (λ z. CallsOpen (kin_of o) way records z t) (sym fits.state) call) some
-            (λ x own. gone x (subst (λ z. is_one_of z x ≡ true) (serials_are o.kind o.chain) own)));
+            (λ x own. gone x (subst (λ z. is_one_of z x ≡ true) (own_are o) own)));
         fits = record { state = refl; living = sym (map-append kin_of before behind) ∙ ap (map kin_of) (sym new); waiting = fits.waiting; numbered = fits.numbered };
       },
       last_more outs (records ++ ended k cause ∷ []) ∙ ap (λ z. fold step_by z (records ++ ended k cause ∷ [])) last ∙ fold-append step_by n records (ended k cause ∷ [])

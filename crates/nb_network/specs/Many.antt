@@ -7,6 +7,7 @@ use Rattle.nb_frames.specs.Frames.{is_one_of}
 use Rattle.nb_graph.specs.Whole.{Objects}
 use Rattle.nb_nodes.specs.declared.obj.Obj.{Obj}
 use Rattle.nb_stack.specs.Client.{Client}
+use Rattle.nb_stack.specs.declared.address.Addr.{Addr}
 use Rattle.nb_stack.specs.declared.ports.Port.{Port}
 use Rattle.nb_machine.specs.Lives.{Live}
 use Rattle.nb_machine.specs.Starting.{own_port}
@@ -18,6 +19,9 @@ use Rattle.nb_chains.specs.Chains.{AreOthers, Awaits, chain_ids}
 use Rattle.nb_traced.specs.Holdings.{Holdings, GraphObject}
 use Rattle.nb_teller.specs.Speakers.{carrier_number}
 use Rattle.nb_open.specs.Begins.{IsLatest}
+use Rattle.nb_open.specs.declared.objects.OpenObjects.{OpenObjects}
+use Rattle.nb_open.specs.declared.objects.OpenObjects.TheVariants as objects
+use Rattle.nb_open.specs.Objects.{objects_ids}
 use Rattle.nb_open.specs.declared.open.Open.{Open}
 use Rattle.nb_open.specs.Open.{IsOpenOf, LivesSome, kin_of}
 
@@ -43,7 +47,7 @@ pub record IsStateOf (m : Many) (net : Client) (now : ℕ) (s : State) : Type 0 
 abbrev pub bound_port : Open → Port
 bound_port o = record { proto = carrier_number o.speaker.carrier; number = o.speaker.own_port; to = o.speaker.number }
 
--- the client's port of an open: RFC 2131 gives a lease's, an echo has its number as identifier
+-- the client's port of a chain: RFC 2131 gives a lease's, an echo has its number as identifier
 abbrev pub port_for : ChainKind → ℕ → ℕ → ℕ
 port_for chain.File w number = own_port w number
 port_for chain.Name w number = own_port w number
@@ -57,9 +61,18 @@ protocol_for chain.Name = 17
 protocol_for chain.Lease = 17
 protocol_for chain.Echo = 1
 
+-- those of an open by its objects; a connection's protocol is TCP
+abbrev pub own_port_for : OpenObjects → ℕ → ℕ → ℕ
+own_port_for (objects.Chain kind chain) w number = port_for kind w number
+own_port_for (objects.Web port own chain) w number = own_port w number
+
+abbrev pub own_protocol_for : OpenObjects → ℕ
+own_protocol_for (objects.Chain kind chain) = protocol_for kind
+own_protocol_for (objects.Web port own chain) = 6
+
 pub record HasOwnPort (w : ℕ) (o : Open) : Type 0 where
-  pub port : o.speaker.own_port ≡ port_for o.kind w o.speaker.number
-  pub protocol : carrier_number o.speaker.carrier ≡ protocol_for o.kind
+  pub port : o.speaker.own_port ≡ own_port_for o.objects w o.speaker.number
+  pub protocol : carrier_number o.speaker.carrier ≡ own_protocol_for o.objects
 
 -- their numbers rise, and are below this
 abbrev pub AreRising : ℕ → ℕ → List Open → Type 0
@@ -73,13 +86,28 @@ lease_count chain.Name = 0
 lease_count chain.Lease = 1
 lease_count chain.Echo = 0
 
+abbrev pub leases_in : OpenObjects → ℕ
+leases_in (objects.Chain kind chain) = lease_count kind
+leases_in (objects.Web port own chain) = 0
+
+abbrev pub lease_count_of : Open → ℕ
+lease_count_of o = leases_in o.objects
+
+-- a connection has the client's address, as long as it has one
+abbrev pub HaveAddress : Option Addr → OpenObjects → Type 0
+HaveAddress address (objects.Chain kind chain) = Unit {0}
+HaveAddress address (objects.Web port own chain) = (a : Addr) → address ≡ Some a → a.ip ≡ own
+
+abbrev pub HasAddress : Option Addr → Open → Type 0
+HasAddress address o = HaveAddress address o.objects
+
 -- no object of one is another's
 abbrev pub IsApartFrom : List ℕ → Open → Type 0
-IsApartFrom ids o = AreOthers ids (chain_ids o.chain)
+IsApartFrom ids o = AreOthers ids (objects_ids o.objects)
 
 abbrev pub AreApart : List Open → Type 0
 AreApart [] = Unit {0}
-AreApart (o ∷ os) = AllByRecursion (IsApartFrom (chain_ids o.chain)) os × AreApart os
+AreApart (o ∷ os) = AllByRecursion (IsApartFrom (objects_ids o.objects)) os × AreApart os
 
 -- the most objects that live at a time
 abbrev pub most_objects : ℕ
@@ -92,14 +120,23 @@ pub record AreSound (w opens : ℕ) (net : Client) (m : Many) : Type 0 where
   pub ports : net.ports ≡ map bound_port m.list
   pub rising : AreRising 0 opens m.list
   pub own : AllByRecursion (HasOwnPort w) m.list
-  pub one_lease : sum_by (λ o. lease_count o.kind) m.list ≤ 1
+  pub one_lease : sum_by lease_count_of m.list ≤ 1
+  pub addressed : AllByRecursion (HasAddress net.address) m.list
   pub lives : AllByRecursion (LivesSome m.graph) m.list
   pub apart : AreApart m.list
   pub room : m.graph.book.room ≡ most_objects
 
--- no lease lives
-abbrev pub HasNoLease : Many → Type 0
-HasNoLease m = sum_by (λ o. lease_count o.kind) m.list ≡ 0
+-- tied to the client's address are a lease, which may change it, and a connection, which has it; others are not
+abbrev pub AreUntied : OpenObjects → Type 0
+AreUntied (objects.Chain kind chain) = lease_count kind ≡ 0
+AreUntied (objects.Web port own chain) = ⊥
+
+abbrev pub IsUntied : Open → Type 0
+IsUntied o = AreUntied o.objects
+
+-- no open that is tied lives
+abbrev pub HasNoneTied : Many → Type 0
+HasNoneTied m = AllByRecursion IsUntied m.list
 
 -- an object waits for an open of this kind, beside those that live
 pub record WaitsBeside (kind : ChainKind) (c : Chain) (m : Many) : Type 0 where
@@ -113,19 +150,19 @@ pub record FitsHoldings (m : Many) (opens : ℕ) (waits : List GraphObject) (h :
   pub waiting : h.waits ≡ waits
   pub numbered : h.begun ≤ opens
 
--- a lease is no other open's than that of this number
-abbrev pub IsNoLeaseBut : ℕ → Open → Type 0
-IsNoLeaseBut k o = (o.speaker.number ≡ k → ⊥) → lease_count o.kind ≡ 0
+-- none but the open of this number is tied
+abbrev pub IsUntiedBut : ℕ → Open → Type 0
+IsUntiedBut k o = (o.speaker.number ≡ k → ⊥) → IsUntied o
 
--- no lease lives, but for the open that is awaited
-abbrev pub HasLeaseOnlyOf : Option ℕ → Many → Type 0
-HasLeaseOnlyOf None m = HasNoLease m
-HasLeaseOnlyOf (Some k) m = AllByRecursion (IsNoLeaseBut k) m.list
+-- none that is tied lives, but for the open that is awaited
+abbrev pub HasTiedOnlyOf : Option ℕ → Many → Type 0
+HasTiedOnlyOf None m = HasNoneTied m
+HasTiedOnlyOf (Some k) m = AllByRecursion (IsUntiedBut k) m.list
 
 -- an object is one of the open of this number
 abbrev pub IsOfNumber : ℕ → ℕ → List Open → Type 0
 IsOfNumber k y [] = ⊥
-IsOfNumber k y (o ∷ os) = ((o.speaker.number ≡ k) × (is_one_of (chain_ids o.chain) y ≡ true)) ⊎ IsOfNumber k y os
+IsOfNumber k y (o ∷ os) = ((o.speaker.number ≡ k) × (is_one_of (objects_ids o.objects) y ≡ true)) ⊎ IsOfNumber k y os
 
 -- no object that lives was made after what waits, but for those of the open that is awaited
 abbrev pub IsNewestBut : Option ℕ → Chain → Many → Type 0

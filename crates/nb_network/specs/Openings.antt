@@ -13,16 +13,26 @@ use Rattle.nb_traced.specs.Holdings.{Holdings, GraphObject}
 use Rattle.nb_traced.specs.Outputs.{Arrived, Traced}
 use Rattle.nb_traced.specs.Pieces.{event_records}
 use Rattle.nb_stack.specs.Bound.{with_port}
+use Rattle.nb_stack.specs.declared.address.Addr.{Addr}
 use Rattle.nb_teller.specs.Speakers.{carrier_number}
 use Rattle.nb_open.specs.declared.open.Open.{Open}
 use Rattle.nb_open.specs.declared.opening.Opening.{Opening}
+use Rattle.nb_open.specs.declared.opening.Opening.TheVariants.{File, Web, Name, Lease, Echo}
 use Rattle.nb_open.specs.Opening.{live_by}
-use Rattle.nb_network.specs.Many.{FitsHoldings, HasLeaseOnlyOf, HasNoLease, IsStateOf, Many}
+use Rattle.nb_network.specs.Many.{FitsHoldings, HasTiedOnlyOf, HasNoneTied, IsStateOf, Many}
 use Rattle.nb_network.specs.Takes.{TracesOn}
 
 -- with the port of this open bound for it
 abbrev pub bound_for : Client → Open → Client
 bound_for net o = record net { ports = with_port (carrier_number o.speaker.carrier) o.speaker.own_port o.speaker.number net.ports }
+
+-- a connection is asked for from the client's address, where it has one
+abbrev pub AsksFrom : Option Addr → Opening → Type 0
+AsksFrom address (File a) = Unit {0}
+AsksFrom address (Web w) = (a : Addr) → address ≡ Some a → a.ip ≡ w.ask.conn.own
+AsksFrom address (Name a) = Unit {0}
+AsksFrom address (Lease a) = Unit {0}
+AsksFrom address (Echo a) = Unit {0}
 
 -- it lives from now on, with its port, unless it has ended
 abbrev pub EntersBy : Option Cause → Open → List Open → Client → List Open → Client → Type 0
@@ -63,6 +73,6 @@ pub record OpensOne (m : Many) (net : Client) (now opens : ℕ) (a : Opening) (f
   pub told_is : told_text ≡ out_texts told
   pub first_put : FirstBy ended (live_by a opens now) net (without_graph told)
   pub state : (s : State) → IsStateOf m net now s → BegunBy ended m' net' now (live_by a opens now) (without_graph told) s
-  pub leases : HasNoLease m → HasLeaseOnlyOf (number_by ended opens) m'
+  pub tied : HasNoneTied m → HasTiedOnlyOf (number_by ended opens) m'
   pub traces : (outs : List Out) (h : Holdings) (so_far : List Arrived) → Traced outs h so_far → FitsHoldings m opens first h →
       TracesOn m opens first (begun_records made (live_by a opens now) told ended) [] m' (opens + 1) left outs h so_far

@@ -7,12 +7,12 @@ use Rattle.nb_chains.specs.declared.arrival.Arrival.{Arrival}
 use Rattle.nb_record.specs.Logged.{Logged}
 use Rattle.nb_stack.specs.Client.{Client}
 use Rattle.nb_stack.specs.Takes.{Outcome, handed}
-use Rattle.nb_machine.specs.Lives.{message}
+use Rattle.nb_machine.specs.Lives.{OpenInput}
 use Rattle.nb_teller.specs.declared.speaker.Carrier.{Carrier}
-use Rattle.nb_teller.specs.declared.speaker.Carrier.TheVariants.{Udp, Icmp}
+use Rattle.nb_teller.specs.declared.speaker.Carrier.TheVariants.{Udp, Icmp, Tcp}
 use Rattle.nb_open.specs.declared.ended.Ended.{Ended}
 use Rattle.nb_open.specs.declared.open.Open.{Open}
-use Rattle.nb_open.specs.Exchanges.{SuitsBy}
+use Rattle.nb_open.specs.Exchanges.{IsInput}
 use Rattle.nb_network.specs.Many.{Many}
 use Rattle.nb_network.specs.Steps.{ComesAt, IsOpenAt, counts_by}
 use Rattle.nb_network.specs.declared.over.HasEnded.{HasEnded}
@@ -21,6 +21,7 @@ use Rattle.nb_network.specs.declared.over.HasEnded.{HasEnded}
 abbrev pub port_by_carrier : Carrier → ℕ → ℕ → ℕ
 port_by_carrier Udp own port = port
 port_by_carrier Icmp own port = own
+port_by_carrier Tcp own port = port
 
 abbrev pub port_from : Open → ℕ → ℕ
 port_from o port = port_by_carrier o.speaker.carrier o.speaker.own_port port
@@ -33,7 +34,7 @@ pub record GoesTo (list : List Open) (out : Outcome) (place : ℕ) (a : Arrival)
   pub proto : ℕ
   pub port : ℕ
   pub handed_on : out ≡ handed taker.speaker.number a.source dst proto port a.body.now
-  pub counts : counts_by taker.kind taker.speaker.server a.source port ≡ true
+  pub counts : counts_by taker.objects taker.speaker.server a.source port ≡ true
   pub port_is : a.port ≡ port_from taker port
 
 -- no open has the number that it was handed on to, or one has, for which it doesn't count
@@ -42,7 +43,7 @@ pub record DoesNotCount (list : List Open) (to : ℕ) (source : Ip4) (port : ℕ
   pub place : ℕ
   pub at : IsOpenAt list place taker
   pub number : taker.speaker.number ≡ to
-  pub counts : counts_by taker.kind taker.speaker.server source port ≡ false
+  pub counts : counts_by taker.objects taker.speaker.server source port ≡ false
 
 abbrev pub NoneTakes : List Open → Outcome → Type 0
 NoneTakes list out = (to : ℕ) (source dst : Ip4) (proto port : ℕ) (body : List ℕ) → out ≡ handed to source dst proto port body →
@@ -51,4 +52,4 @@ NoneTakes list out = (to : ℕ) (source dst : Ip4) (proto port : ℕ) (body : Li
 -- it comes to that open
 abbrev pub ReceivesAt : Many → Client → List Open → Open → List Open → ℕ → Arrival → ℕ → Option ℕ → Option HasEnded → Many → Client → Logged → Logged → Type 0
 ReceivesAt m net before o behind rec a now awaited answer m' net' old new =
-    (ended : Option Ended) × ComesAt (λ l. SuitsBy l.kind l a) (message rec a.port a.body.now now) Up (Some rec) m net before o behind awaited ended answer m' net' old new
+    (ended : Option Ended) × ((came : OpenInput) → ComesAt (λ l. IsInput o l rec a now came) came Up (Some rec) m net before o behind awaited ended answer m' net' old new)

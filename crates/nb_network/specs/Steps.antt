@@ -21,12 +21,14 @@ use Rattle.nb_teller.specs.Speakers.{carrier_number}
 use Rattle.nb_teller.specs.Spelling.{Spelling}
 use Rattle.nb_traced.specs.Holdings.{Holdings, GraphObject}
 use Rattle.nb_traced.specs.Outputs.{Arrived, Traced, last_step}
+use Rattle.nb_open.specs.declared.objects.OpenObjects.{OpenObjects}
+use Rattle.nb_open.specs.declared.objects.OpenObjects.TheVariants as objects
 use Rattle.nb_open.specs.declared.open.Open.{Open}
 use Rattle.nb_open.specs.declared.ended.Ended.{Ended}
 use Rattle.nb_open.specs.Ends.{ClosesOpen}
 use Rattle.nb_open.specs.Exchanges.{Exchanges}
 use Rattle.nb_open.specs.Open.{IsOpenOf}
-use Rattle.nb_network.specs.Many.{AreOpensOf, AreSound, FitsHoldings, HasLeaseOnlyOf, IsNewestBut, Many}
+use Rattle.nb_network.specs.Many.{AreOpensOf, AreSound, FitsHoldings, HasTiedOnlyOf, IsNewestBut, Many}
 use Rattle.nb_network.specs.Takes.{AnswersBy, BeginsWithEntry, KeepsWaiting, TracesOn, arrival, awaited_over, still_awaited}
 use Rattle.nb_graph.specs.Noded.{AreNoded}
 use Rattle.nb_nodes.specs.Objects.{rank_of_obj}
@@ -51,7 +53,7 @@ abbrev pub answer_for : Option ℕ → ℕ → Ended → Spelling → Option Has
 answer_for None number e s = None
 answer_for (Some k) number e s =
     if number == k
-    then Some (record { number = number; cause = e.cause; body = e.body; bytes = s.bytes; address = s.address })
+    then Some (record { number = number; cause = e.cause; body = e.body; moved = e.moved; bytes = s.bytes; address = s.address })
     else None
 
 -- the STEP, where one begins
@@ -117,7 +119,7 @@ pub record TimesCome (m : Many) (net : Client) (opens now : ℕ) (done rest : Li
   pub waiting : KeepsWaiting m m'
   pub sound : (w : ℕ) → AreSound w opens net m → AreSound w opens net' m'
   pub same_made : m'.graph.book.made ≡ m.graph.book.made
-  pub leases : GoesOnSo HasLeaseOnlyOf awaited answer m m'
+  pub tied : GoesOnSo HasTiedOnlyOf awaited answer m m'
   pub newest : (c : Chain) → GoesOnSo (λ k z. IsNewestBut k c z) awaited answer m m'
 
 -- The user closes the first of them, and frees its port.
@@ -129,9 +131,15 @@ pub record FirstCloses (m : Many) (net : Client) (o : Open) (rest : List Open) (
   pub puts : Puts old new (told.text ++ out_texts (ended o.speaker.number cause ∷ []))
   pub noded : AreNoded rank_of_obj m'.graph
 
--- which messages count for an open of this kind: of its server, or for a lease of any host; from the port that its kind has
-abbrev pub counts_by : ChainKind → Ip4 → Ip4 → ℕ → Bool
-counts_by chain.File server source port = source.0 == server.0
-counts_by chain.Name server source port = (source.0 == server.0) && (port == 53)
-counts_by chain.Lease server source port = port == 67
-counts_by chain.Echo server source port = source.0 == server.0
+-- which messages count for a chain of this kind, which come from its server or not: those, or for a lease all; from the port that its
+-- kind has
+abbrev pub counts_by_kind : ChainKind → Bool → ℕ → Bool
+counts_by_kind chain.File is_server port = is_server
+counts_by_kind chain.Name is_server port = is_server && (port == 53)
+counts_by_kind chain.Lease is_server port = port == 67
+counts_by_kind chain.Echo is_server port = is_server
+
+-- which count for an open: those of a connection come from the server's port that is asked
+abbrev pub counts_by : OpenObjects → Ip4 → Ip4 → ℕ → Bool
+counts_by (objects.Chain kind chain) server source port = counts_by_kind kind (source.0 == server.0) port
+counts_by (objects.Web asked own chain) server source port = (source.0 == server.0) && (port == asked)

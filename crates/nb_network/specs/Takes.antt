@@ -12,11 +12,13 @@ use Rattle.nb_ledger.specs.declared.event.Way.TheVariants.{Up, Time}
 use Rattle.nb_ipv4.specs.PacketText.{PacketParts}
 use Rattle.nb_ipv4.specs.UdpText.{UdpParts}
 use Rattle.nb_ipv4.specs.EchoText.{EchoParts}
+use Rattle.nb_tcpseg.specs.SegmentText.{SegmentParts}
+use Rattle.nb_wire.specs.declared.address.Mac.{Mac}
 use Rattle.nb_traced.specs.Plain.{without_graph}
 use Rattle.nb_stack.specs.Client.{Client}
-use Rattle.nb_stack.specs.Brings.{Brought, datagram, echo_reply, Brings}
+use Rattle.nb_stack.specs.Brings.{Brought, datagram, echo_reply, segment, Brings}
 use Rattle.nb_machine.specs.Lives.{Live}
-use Rattle.nb_machine.specs.Kinds.{fetched, granted, is_for, is_reply_for, resolved}
+use Rattle.nb_machine.specs.Kinds.{fetched, granted, is_for, is_reply_for, is_segment_for, moved, resolved}
 use Rattle.nb_machine.specs.Network.{IsFrameOn, Network, is_for_one}
 use Rattle.nb_machine.specs.Scripts.{is_number}
 use Rattle.nb_machine.specs.States.{State}
@@ -26,7 +28,7 @@ use Rattle.nb_chains.specs.declared.kind.ChainKind.{ChainKind}
 use Rattle.nb_traced.specs.Holdings.{Holdings, GraphObject}
 use Rattle.nb_traced.specs.Outputs.{Arrived, Traced}
 use Rattle.nb_open.specs.Exchanges.{IsLeaseMessage}
-use Rattle.nb_network.specs.Many.{FitsHoldings, HasLeaseOnlyOf, IsNewestBut, IsStateOf, Many, WaitsBeside}
+use Rattle.nb_network.specs.Many.{FitsHoldings, HasTiedOnlyOf, IsNewestBut, IsStateOf, Many, WaitsBeside}
 use Rattle.nb_network.specs.declared.over.HasEnded.{HasEnded}
 
 -- of what ended, the open of the number that is awaited
@@ -38,7 +40,8 @@ awaited_over (Some k) overs = find (is_number k) overs
 pub record IsEndOf (e : HasEnded) (o : Over) : Type 0 where
   pub number : o.live.number ≡ e.number
   pub cause : o.cause ≡ e.cause
-  pub body : is_ok_cause e.cause ≡ true → fetched o.live ≡ unwrap_or e.body []
+  pub body : is_ok_cause e.cause ≡ true → e.moved ≡ None → fetched o.live ≡ unwrap_or e.body []
+  pub moved : is_ok_cause e.cause ≡ true → moved o.live ≡ e.moved
   pub bytes : is_ok_cause e.cause ≡ true → granted o.live ≡ e.bytes
   pub address : is_ok_cause e.cause ≡ true → resolved o.live ≡ e.address
   pub message : IsLeaseMessage e.bytes
@@ -60,6 +63,8 @@ pub data ArrivesAt (s : State) (n : ℕ) : In → List Arrived → Type 0 where
       Brings link.up link.mac link.address bytes (datagram p d) → s.live ≡ before ++ l ∷ behind → is_for device p d l ≡ true → ArrivesAt s n r (arrival l.number Up n ∷ [])
   at_echo : (r : In) (device : ℕ) (bytes : List ℕ) (link : Client) (p : PacketParts) (e : EchoParts) (before behind : List Live) (l : Live) → IsFrameOn r device bytes → slice_get s.devices device ≡ Some link →
       Brings link.up link.mac link.address bytes (echo_reply p e) → s.live ≡ before ++ l ∷ behind → is_reply_for device p e l ≡ true → ArrivesAt s n r (arrival l.number Up n ∷ [])
+  at_connection : (r : In) (device : ℕ) (bytes : List ℕ) (link : Client) (from : Mac) (p : PacketParts) (g : SegmentParts) (before behind : List Live) (l : Live) → IsFrameOn r device bytes → slice_get s.devices device ≡ Some link →
+      Brings link.up link.mac link.address bytes (segment from p g) → s.live ≡ before ++ l ∷ behind → is_segment_for device p g l ≡ true → ArrivesAt s n r (arrival l.number Up n ∷ [])
   at_all : (ms : ℕ) → ArrivesAt s n (tick ms) (map (λ l. arrival l.number Time n) s.live)
 
 -- the machine's network does this, whatever state these opens are
@@ -110,5 +115,5 @@ pub record TakesRecord (m : Many) (net : Client) (now opens : ℕ) (n : ℕ) (r 
   pub first : BeginsWithEntry came records
   pub waiting : KeepsWaiting m m'
   pub same_made : m'.graph.book.made ≡ m.graph.book.made
-  pub leases : HasLeaseOnlyOf awaited m → HasLeaseOnlyOf (still_awaited awaited answer) m'
+  pub tied : HasTiedOnlyOf awaited m → HasTiedOnlyOf (still_awaited awaited answer) m'
   pub newest : (c : Chain) → IsNewestBut awaited c m → IsNewestBut (still_awaited awaited answer) c m'

@@ -3,9 +3,9 @@ ghost use Rattle.nb_chains.specs.declared.chain.Chain.{Chain as TheChain};
 ghost use Rattle.nb_chains.specs.declared.kind.ChainKind.TheVariants as chain;
 ghost use Rattle.nb_defs.specs.Records.{Out, out_texts};
 ghost use Rattle.nb_ledger.specs.declared.event.GraphEvent.{GraphEvent};
-ghost use Rattle.nb_network.specs.Many.{AreSound, HasNoLease, IsNewestBut, WaitsBeside, port_for};
+ghost use Rattle.nb_network.specs.Many.{AreSound, HasNoneTied, IsNewestBut, WaitsBeside, port_for};
 ghost use Rattle.nb_machine.specs.Lives.{open_record};
-ghost use Rattle.nb_network.specs.Openings.{EntersBy, OpensOne, begun_records, bound_for, number_by};
+ghost use Rattle.nb_network.specs.Openings.{AsksFrom, EntersBy, OpensOne, begun_records, bound_for, number_by};
 ghost use Rattle.nb_network.specs.Takes.{KeepsWaiting};
 ghost use Rattle.nb_open.specs.Begins.{IsLatest, AwaitsFor, waiting_pieces};
 ghost use Rattle.nb_open.specs.Open.{pieces_of};
@@ -25,6 +25,8 @@ use std::alloc::Global;
 
 /// The kinds of opens, as OPEN has them.
 const TFTP: u8 = 1;
+
+const HTTP: u8 = 2;
 
 const DNS: u8 = 4;
 
@@ -48,6 +50,7 @@ impl Opens {
         desk: Desk,
     ) -> Result<(Option<Cause>, Desk), NoMemory>
         requires can { CanOpen opening.now }
+        requires address { AsksFrom net.old.address opening.now }
         requires sound { (w : ℕ) × AreSound w number net.old self.old }
         requires serials { self.old.graph.book.made < 2 ^ 63 }
         requires waits { AwaitsFor (chain_kind opening.now) waits self.old.graph }
@@ -58,8 +61,8 @@ impl Opens {
             net.new r.0 r.1.made.value.text r.1.told.value.text) }
         ensures sound { OnOk result ((w : ℕ) → AreSound w number net.old self.old → number < 16384
             → own_by opening.now ≡ port_for (chain_kind opening.now) w number
-            → (chain_kind opening.now ≡ chain.Lease → HasNoLease self.old) → AreSound w (number + 1) net.new self.new) }
-        ensures serials { OnOk result (self.new.graph.book.made ≤ self.old.graph.book.made + 2) }
+            → (chain_kind opening.now ≡ chain.Lease → HasNoneTied self.old) → AreSound w (number + 1) net.new self.new) }
+        ensures serials { OnOk result (self.new.graph.book.made ≤ self.old.graph.book.made + 3) }
         ensures mac { net.new.mac ≡ net.old.mac }
         ensures address { net.new.address ≡ net.old.address }
         ensures up { net.new.up ≡ net.old.up }
@@ -94,6 +97,7 @@ impl Opens {
         desk: Desk,
     ) -> Result<(Chain, Option<Cause>, Desk), NoMemory>
         requires can { CanOpen opening.now }
+        requires address { AsksFrom net.old.address opening.now }
         requires sound { (w : ℕ) × AreSound w number net.old self.old }
         requires serials { self.old.graph.book.made < 2 ^ 63 }
         ensures opens { IfOk result (λ b. (w : ℕ) → AreSound w number net.old self.old
@@ -103,8 +107,8 @@ impl Opens {
         ensures newest { IfOk result (λ b. IsNewestBut (number_by b.1 number) b.0 self.new) }
         ensures sound { OnOk result ((w : ℕ) → AreSound w number net.old self.old → number < 16384
             → own_by opening.now ≡ port_for (chain_kind opening.now) w number
-            → (chain_kind opening.now ≡ chain.Lease → HasNoLease self.old) → AreSound w (number + 1) net.new self.new) }
-        ensures serials { OnOk result (self.new.graph.book.made ≤ self.old.graph.book.made + 3) }
+            → (chain_kind opening.now ≡ chain.Lease → HasNoneTied self.old) → AreSound w (number + 1) net.new self.new) }
+        ensures serials { OnOk result (self.new.graph.book.made ≤ self.old.graph.book.made + 4) }
         ensures mac { net.new.mac ≡ net.old.mac }
         ensures address { net.new.address ≡ net.old.address }
         ensures up { net.new.up ≡ net.old.up }
@@ -196,6 +200,7 @@ fn put_opened(opening: &Opening<'_>, number: u16, log: &mut Log)
     let who = opening.speaker(number);
     let (kind, port, target): (u8, u16, &[u8]) = match opening {
         Opening::File(ask) => (TFTP, ask.port, ask.path),
+        Opening::Web(web) => (HTTP, web.ask.conn.peer_port, web.url),
         Opening::Name(ask) => (DNS, 53, ask.name),
         Opening::Lease(_) => (DHCP, 67, b""),
         Opening::Echo(_) => (ECHO, 0, b""),

@@ -1,8 +1,8 @@
-ghost use Rattle.std.specs.Prelude.{◌≡◌, ◌∷◌, ℕ, List, [], IfOk, OnOk, Some, length, ◌<◌};
+ghost use Rattle.std.specs.Prelude.{◌≡◌, ◌==◌, ◌∷◌, ℕ, List, [], IfOk, OnOk, Some, length, ◌<◌};
 ghost use Rattle.nb_chains.specs.declared.chain.Chain.{Chain as TheChain};
 ghost use Rattle.nb_network.specs.Closings.{ClosesMany, GivesUpWaiting};
 ghost use Rattle.nb_network.specs.Many.{AreSound, WaitsBeside};
-ghost use Rattle.nb_network.specs.Shutting.{LetsWaitingGo, ShutsFirst, parted_by};
+ghost use Rattle.nb_network.specs.Shutting.{LetsWaitingGo, ShutsFirst, ends_beside, parted_by};
 ghost use Rattle.nb_network.specs.Steps.{FirstCloses};
 ghost use Rattle.nb_network.specs.Takes.{KeepsWaiting};
 ghost use Rattle.nb_open.specs.Begins.{waiting_pieces};
@@ -10,7 +10,7 @@ ghost use Rattle.nb_open.specs.declared.open.Open.{Open as TheOpen};
 
 use crate::Opens;
 use nb_chains::{Chain, ChainKind};
-use nb_open::{closed_opens_keep, give_up, opens_keep};
+use nb_open::{Open, OpenObjects, give_up};
 use nb_record::Log;
 use nb_stack::Stack;
 use nb_teller::{Desk, put_over, put_told};
@@ -37,8 +37,6 @@ impl Opens {
             return Ok(desk);
         }
         let desk = self.close_first(net, cause, now, desk, gathered)?;
-        opens_keep();
-        closed_opens_keep();
         self.close_all(net, cause, now, desk, gathered)
     }
 
@@ -90,8 +88,6 @@ impl Opens {
             return self.let_go(net, waits, kind, desk, gathered);
         }
         let (left, desk) = self.shut_first(net, waits, kind, beside, cause, now, desk, gathered)?;
-        opens_keep();
-        closed_opens_keep();
         self.shut_all(net, left, kind, beside, cause, now, desk, gathered)
     }
 
@@ -115,7 +111,7 @@ impl Opens {
             → ShutsFirst kind self.old net.old o rest cause.now waits r.0 self.new net.new gathered.old gathered.new) }
     {
         let open = self.list.remove(0);
-        let (with, left) = parted(open.speaker.number == beside, waits);
+        let (with, left) = parted(ends_with(&open, beside), waits);
         let desk = open.shut_down(&mut self.graph, net, with, kind, cause, now, desk)?;
         self.graph.has_nodes();
         net.unbind(open.speaker.carrier.number(), open.speaker.own_port);
@@ -166,6 +162,16 @@ impl Opens {
         let desk = give_up(&mut self.graph, net, waits, kind, desk)?;
         self.graph.has_nodes();
         Ok(desk)
+    }
+}
+
+/// Whether what waits beside the open of that number ends with this one. Nothing waits beside a connection.
+fn ends_with(first: &Open, beside: u16) -> bool
+    ensures { result ≡ ends_beside first.now.objects (first.now.speaker.number == beside) }
+{
+    match first.objects {
+        OpenObjects::Chain { .. } => first.speaker.number == beside,
+        OpenObjects::Web { .. } => false,
     }
 }
 

@@ -6,7 +6,7 @@ ghost use Rattle.nb_machine.specs.CommandRecords.{reply_records};
 ghost use Rattle.nb_machine.specs.States.{State};
 ghost use Rattle.nb_network.specs.Many.{AreSound, IsStateOf};
 ghost use Rattle.nb_network.specs.Receiving.{GoesTo, NoneTakes, ReceivesAt, port_from};
-ghost use Rattle.nb_network.specs.Steps.{IsOpenAt, counts_by};
+ghost use Rattle.nb_network.specs.Steps.{IsOpenAt, counts_by, counts_by_kind};
 ghost use Rattle.nb_network.specs.Takes.{TakesRecord};
 ghost use Rattle.nb_open.specs.declared.open.Open.{Open as TheOpen};
 ghost use Rattle.nb_record.specs.Logged.{Puts};
@@ -15,7 +15,7 @@ ghost use Rattle.nb_teller.specs.Put.{IsFrameOrNothing};
 
 use crate::{HasEnded, Opens};
 use nb_chains::{Arrival, ChainKind};
-use nb_open::Open;
+use nb_open::{Open, OpenObjects};
 use nb_record::Log;
 use nb_stack::{Stack, Taken};
 use nb_teller::{Carrier, Desk, put_reply, put_step};
@@ -127,7 +127,7 @@ impl Opens {
     ) -> Result<(Option<HasEnded>, Desk), NoMemory>
         requires sound { (w : ℕ) × (opens : ℕ) × AreSound w opens net.old self.old }
         requires place { place < length self.old.list }
-        requires short { length arrival.now.body.now ≤ 1480 }
+        requires short { length arrival.now.body.now ≤ 65535 }
         ensures receives { IfOk result (λ r. (o : TheOpen) → (at : IsOpenAt self.old.list place o) → ReceivesAt self.old net.old at.before o
             at.behind rec arrival.now now awaited r.0 self.new net.new log.old log.new) }
         ensures nothing { OnErr result (log.new ≡ log.old) }
@@ -136,7 +136,7 @@ impl Opens {
         ensures up { net.new.up ≡ net.old.up }
     {
         let open = self.list[place];
-        let (ended, desk) = open.receive(&mut self.graph, net, rec, arrival, now, desk)?;
+        let (ended, desk) = open.receive(alloc, &mut self.graph, net, rec, arrival, now, desk)?;
         self.graph.has_nodes();
         let found = self.settle(alloc, net, place, Some(rec), ended, awaited, &desk, log)?;
         Ok((found, desk))
@@ -156,10 +156,21 @@ fn put_passed(rec: u32, reply: &[u8], log: &mut Log)
 /// Whether a message from this host and port counts for this open.
 #[inline(always)]
 fn counts_for(taker: &Open, source: Ip4, port: u16) -> bool
-    ensures { result ≡ counts_by taker.now.kind taker.now.speaker.server source port }
+    ensures { result ≡ counts_by taker.now.objects taker.now.speaker.server source port }
 {
     let is_server = source.0 == taker.speaker.server.0;
-    match taker.kind {
+    match taker.objects {
+        OpenObjects::Chain { kind, .. } => counts_by_kind(kind, is_server, port),
+        OpenObjects::Web { port: asked, .. } => is_server && port == asked,
+    }
+}
+
+/// The same for a chain, by its kind.
+#[inline(always)]
+fn counts_by_kind(kind: ChainKind, is_server: bool, port: u16) -> bool
+    ensures { result ≡ counts_by_kind kind is_server port }
+{
+    match kind {
         ChainKind::File | ChainKind::Echo => is_server,
         ChainKind::Name => is_server && port == DNS_SERVER,
         ChainKind::Lease => port == DHCP_SERVER,
@@ -172,7 +183,7 @@ fn arrival_port(taker: &Open, port: u16) -> u16
     ensures { result ≡ port_from taker.now port }
 {
     match taker.speaker.carrier {
-        Carrier::Udp => port,
+        Carrier::Udp | Carrier::Tcp => port,
         Carrier::Icmp => taker.speaker.own_port,
     }
 }

@@ -9,8 +9,10 @@ pub struct HasEnded {
     pub number: u16,
     /// Why.
     pub cause: Cause,
-    /// The file that it fetched, of one that fetches (RFC 1350).
+    /// The file that it fetched, of one that fetches (RFC 1350, RFC 9110).
     pub body: Option<Body>,
+    /// The URI where that is instead, of one that was moved (RFC 9110, section 15.4).
+    pub moved: Option<Text>,
     /// The acknowledgement of a lease (RFC 2131).
     pub bytes: Option<Text>,
     /// The address of a name (RFC 1035).

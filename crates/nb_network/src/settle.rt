@@ -105,13 +105,14 @@ fn found_by(
     let number = open.speaker.number;
     match awaited {
         Some(k) if number == k => {
-            let Ended { cause, body } = ended;
+            let Ended { cause, body, moved } = ended;
             let bytes = copied(alloc, told.bytes())?;
             let address = told.address();
             Ok(Some(HasEnded {
                 number,
                 cause,
                 body,
+                moved,
                 bytes,
                 address,
             }))

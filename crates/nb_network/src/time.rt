@@ -106,7 +106,7 @@ impl Opens {
         ensures up { net.new.up ≡ net.old.up }
     {
         let open = self.list[place];
-        let (ended, desk) = open.pass_time(&mut self.graph, net, now, desk)?;
+        let (ended, desk) = open.pass_time(alloc, &mut self.graph, net, now, desk)?;
         self.graph.has_nodes();
         let next = next_place(&ended, place);
         let found = self.settle(alloc, net, place, None, ended, awaited, &desk, gathered)?;

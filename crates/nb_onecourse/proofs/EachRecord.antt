@@ -5,14 +5,14 @@ use Rattle.std.specs.List.{list_any, AllByRecursion}
 use Rattle.nb_defs.specs.Records.{In, frame, tick, off, Out}
 use Rattle.nb_stack.specs.Client.{Client}
 use Rattle.nb_stack.specs.Brings.{Brought, nothing, arp_message, datagram, echo_request, echo_reply, segment, Brings}
-use Rattle.nb_stack.specs.Takes.{client_after, reply_of}
+use Rattle.nb_stack.specs.Takes.{client_after}
 use Rattle.nb_stack.proofs.MessageLaws.{message_one}
 use Rattle.nb_machine.specs.CommandRecords.{reply_records}
-use Rattle.nb_machine.specs.Lives.{OpenInput, message, time, Live}
-use Rattle.nb_machine.specs.Kinds.{is_for, is_reply_for}
+use Rattle.nb_machine.specs.Lives.{OpenInput, message, tcp_segment, time, Live}
+use Rattle.nb_machine.specs.Kinds.{is_for, is_reply_for, is_segment_for, reply_beside}
 use Rattle.nb_machine.specs.States.{State, net0, with_device, with_live, later_by}
 use Rattle.nb_machine.specs.Takings.{Over, AllTake}
-use Rattle.nb_machine.specs.Network.{on_net0, Network, passes_by, brings, brings_reply, passes_time, is_for_one}
+use Rattle.nb_machine.specs.Network.{on_net0, Network, passes_by, brings, brings_reply, brings_segment, passes_time, is_for_one}
 use Rattle.nb_onecourse.specs.Answers.{IsUnended}
 use Rattle.nb_onecourse.proofs.EachTakes.{one_link, all_take_one, all_take_unended}
 
@@ -23,7 +23,7 @@ takes_it (echo_reply p e) l = is_reply_for net0 p e l
 takes_it nothing l = false
 takes_it (arp_message from arp) l = false
 takes_it (echo_request from p e) l = false
-takes_it (segment from p parts) l = false
+takes_it (segment from p g) l = is_segment_for net0 p g l
 
 -- what comes to it then, in this record, at this time
 input_of : ℕ → ℕ → Brought → OpenInput
@@ -32,11 +32,11 @@ input_of n now (echo_reply p e) = message n e.ident e.body now
 input_of n now nothing = time now
 input_of n now (arp_message from arp) = time now
 input_of n now (echo_request from p e) = time now
-input_of n now (segment from p parts) = time now
+input_of n now (segment from p g) = tcp_segment n g now
 
 -- what a frame does that brought this
 data DidWith (s : State) (n : ℕ) (link : Client) (m : Brought) (put : List Out) (after : State) (over : List Over) : Type 0 where
-  was_passed : is_for_one net0 m s.live ≡ false → put ≡ reply_records (reply_of link m) → after ≡ with_device s net0 (client_after link m) → over ≡ [] → DidWith s n link m put after over
+  was_passed : is_for_one net0 m s.live ≡ false → put ≡ reply_records (reply_beside net0 s.live link m) → after ≡ with_device s net0 (client_after link m) → over ≡ [] → DidWith s n link m put after over
   was_taken : (before behind rest : List Live) (l : Live) → s.live ≡ before ++ l ∷ behind → takes_it m l ≡ true → list_any (takes_it m) before ≡ false →
       AllTake s.devices (input_of n s.now m) (l ∷ []) put rest over → after ≡ with_live s (before ++ rest ++ behind) → DidWith s n link m put after over
 
@@ -52,6 +52,8 @@ did s n r put after over (brings _ _ _ link p d before behind rest l _ _ (on_net
     by_frame bytes link (datagram p d) refl got is (was_taken before behind rest l lives takes none all refl)
 did s n r put after over (brings_reply _ _ _ link p e before behind rest l _ _ (on_net0 bytes) got is lives takes none others all) =
     by_frame bytes link (echo_reply p e) refl got is (was_taken before behind rest l lives takes none all refl)
+did s n r put after over (brings_segment _ _ _ link from p g before behind rest l _ _ (on_net0 bytes) got is lives takes none others all) =
+    by_frame bytes link (segment from p g) refl got is (was_taken before behind rest l lives takes none all refl)
 did s n r put after over (passes_time ms rest _ _ all) = by_time ms rest refl all refl
 
 -- of a list, the one that takes it is one: the first of its kind stands at one place
@@ -98,7 +100,7 @@ not_both (echo_reply p e) live before behind l none lives t = no_other (is_reply
 not_both nothing live before behind l none lives t = cc
 not_both (arp_message from arp) live before behind l none lives t = cc
 not_both (echo_request from p e) live before behind l none lives t = cc
-not_both (segment from p parts) live before behind l none lives t = cc
+not_both (segment from p g) live before behind l none lives t = no_other (is_segment_for net0 p g) live before behind l none lives t
 
 -- the same records, the same state, and the same opens that ended
 pub record SameStep (put put' : List Out) (s s' : State) (over over' : List Over) : Type 0 where

@@ -29,17 +29,19 @@ use Rattle.nb_imagecmd.specs.declared.outcome.ImageOutcome.{ImageOutcome}
 use Rattle.nb_imagecmd.specs.declared.outcome.ImageOutcome.TheVariants.{Done, Print, Ask, Run, Boot}
 use Rattle.nb_imagecmd.specs.Arriving.{arrived, arrived_image, taken_unless, arrives_as, runs_kind, script_gone}
 use Rattle.nb_imagecmd.specs.Asking.{target_uri}
+use Rattle.nb_imagecmd.specs.Moving.{moved_file}
 use Rattle.nb_imagecmd.specs.CarryingOut.{image_effect}
 use Rattle.nb_imagecmd.specs.Executing.{ImageAnswer, script_of, taken_from, script_taken}
 use Rattle.nb_machine.specs.Conclusions.{Conclusion, keeps, tells, fails, boots, runs_script, file_conclusion, conclusion}
-use Rattle.nb_machine.specs.Effects.{Effect, says, asks, goes, sleeps, shuts_device, inquires, on_images, concludes_at_once, Surroundings, taken_effect, image_outcome_effect, image_answer_effect, settled_effect, effect_in, effect, expanded_effect, expansion, words_effect, planned_effect, plan_effect, device_effect, unless_full, table_after, up_after}
+use Rattle.nb_machine.specs.Effects.{Effect, says, asks, goes, sleeps, shuts_device, inquires, on_images, concludes_at_once, Surroundings, taken_effect, image_outcome_effect, image_answer_effect, settled_effect, effect_in, next_moved, effect, expanded_effect, expansion, words_effect, planned_effect, plan_effect, device_effect, unless_full, table_after, up_after}
 use Rattle.nb_machine.specs.Queries.{for_lease}
-use Rattle.nb_machine.specs.Errands.{Onward}
+use Rattle.nb_machine.specs.Errands.{Wanted, Onward}
 use Rattle.nb_machine.specs.Findings.{Settlement}
 use Rattle.nb_machine.specs.Kinds.{fetched}
 use Rattle.nb_machine.specs.Running.{Running}
 use Rattle.nb_machine.specs.States.{State}
-use Rattle.nb_machine.specs.Scripts.{Doing, ends, opens, goes_to, waits_until, shuts, concludes_now, surroundings, doing, doing_by, Job, fetch, takes_lease, hears_echo, keeps_address, asks_on, sleep, Answer, by_end, by_time, Upshot, concludes, settles, goes_onward, next_of, concluded_by}
+use Rattle.nb_machine.specs.Takings.{Over}
+use Rattle.nb_machine.specs.Scripts.{Doing, ends, opens, goes_to, waits_until, shuts, concludes_now, surroundings, doing, doing_by, Job, fetch, takes_lease, hears_echo, keeps_address, asks_on, sleep, Answer, by_end, by_time, Upshot, concludes, settles, goes_onward, next_of, place_moved_to, upshot_moved, upshot_fetched, concluded_by}
 use Rattle.nb_machine.proofs.Eithers.{either_of, full_either, asked_case, pinged_either, looked_up_either}
 
 -- a script that runs within others has fewer than eight there
@@ -211,8 +213,16 @@ next_fits : (depth : ℕ) (o : Option Onward) (x : Settlement) → UpshotFits de
 next_fits depth None x = tt
 next_fits depth (Some next) x = tt
 
+moved_fits : (depth : ℕ) (r : Result Onward Cause) → UpshotFits depth (upshot_moved r)
+moved_fits depth (Ok next) = tt
+moved_fits depth (Err cause) = tt
+
+fetched_fits : (s : State) (depth : ℕ) (wanted : Wanted) (o : Over) (place : Option (List ℕ)) → UpshotFits depth (upshot_fetched s depth wanted o place)
+fetched_fits s depth wanted o None = conclusion_fits o.cause wanted.asking (fetched o.live) depth s.images
+fetched_fits s depth wanted o (Some place) = moved_fits depth (next_moved s.opens s.table (moved_file wanted.asking place))
+
 pub upshot_fits : (s : State) (depth : ℕ) (job : Job) (a : Answer) → UpshotFits depth (concluded_by s depth job a)
-upshot_fits s depth (fetch wanted) (by_end o) = conclusion_fits o.cause wanted.asking (fetched o.live) depth s.images
+upshot_fits s depth (fetch wanted) (by_end o) = fetched_fits s depth wanted o (place_moved_to o)
 upshot_fits s depth takes_lease (by_end o) = tt
 upshot_fits s depth hears_echo (by_end o) = tt
 upshot_fits s depth (keeps_address setting) (by_end o) = tt

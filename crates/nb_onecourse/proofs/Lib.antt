@@ -1,6 +1,7 @@
 pub mod Ends
 pub mod Dues
 pub mod CoreAnswers
+pub mod Talks
 pub mod Transfers
 pub mod Asked
 pub mod EachKind

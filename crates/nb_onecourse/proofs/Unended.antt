@@ -9,7 +9,7 @@ use Rattle.nb_imagecmd.specs.declared.outcome.ScriptImage.{ScriptImage}
 use Rattle.nb_terms.specs.declared.cause.Cause.{Cause}
 use Rattle.nb_defs.specs.ScriptLines.{script_reading}
 use Rattle.nb_machine.specs.Effects.{Effect, says, asks, goes, sleeps, shuts_device, inquires, on_images, concludes_at_once, effect_in, table_after, up_after}
-use Rattle.nb_machine.specs.Errands.{Onward, fetches_now, echoes_now}
+use Rattle.nb_machine.specs.Errands.{Onward, fetches_now, echoes_now, looks_up_now}
 use Rattle.nb_machine.specs.Queries.{Query, for_lease, for_echo, for_host, for_address}
 use Rattle.nb_machine.specs.Running.{Running, anew, entered}
 use Rattle.nb_machine.specs.Lives.{Live}
@@ -38,6 +38,7 @@ asked_fresh s (for_address setting name by) = refl
 onward_fresh : (s : State) (next : Onward) → (live_onward s next).exchanges ≡ []
 onward_fresh s (fetches_now wanted) = refl
 onward_fresh s (echoes_now server) = refl
+onward_fresh s (looks_up_now errand name by) = refl
 
 leaves_by : (s : State) (table : TableLists) (up : Bool) (e : Effect) → Leaves s.live (doing_by s table up e)
 leaves_by s table up (says o) = refl

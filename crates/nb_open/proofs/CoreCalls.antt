@@ -19,20 +19,23 @@ use Rattle.nb_opens.specs.Notices.{first_close, sent_from, tells}
 use Rattle.nb_stack.specs.Client.{Client}
 use Rattle.nb_machine.specs.CommandRecords.{no_route}
 use Rattle.nb_machine.specs.Cores.{CoreExchanged, KeepsCore, core_end, core_records}
-use Rattle.nb_machine.specs.Kinds.{Keeps, fetched, granted, resolved}
+use Rattle.nb_machine.specs.Kinds.{Keeps, fetched, granted, moved as place_moved, resolved}
 use Rattle.nb_machine.specs.Lives.{Live, OpenInput, exchange}
 use Rattle.nb_machine.specs.Sendings.{acts_records}
 use Rattle.nb_machine.specs.Transfers.{earlier, end_records, finds_none}
-use Rattle.nb_chains.specs.Calls.{IsOpenBy}
+use Rattle.nb_chains.specs.declared.chain.Chain.{Chain}
+use Rattle.nb_chains.specs.declared.kind.ChainKind.{ChainKind}
+use Rattle.nb_chains.specs.Calls.{IsOpenBy, IsOpenChain}
 use Rattle.nb_chains.specs.Chains.{IsShutBy, own_graph}
 use Rattle.nb_chains.specs.Shapes.{IsTagUp}
+use Rattle.nb_teller.specs.declared.speaker.Speaker.{Speaker}
 use Rattle.nb_teller.specs.Deliveries.{delivered_bytes, delivered_address}
 use Rattle.nb_teller.specs.Tellings.{any_lacks_route}
 use Rattle.nb_open.specs.declared.open.Open.{Open}
 use Rattle.nb_open.specs.Exchanges.{IsLeaseMessage, with_exchange}
 use Rattle.nb_open.specs.Open.{IsAskingCore, IsSpeakerOf, IsUnderWay}
 use Rattle.nb_open.proofs.Delivering.{no_bytes_echoed}
-use Rattle.nb_open.proofs.Doings.{Did, fails, goes, last_by, overs, put_by}
+use Rattle.nb_open.proofs.Doings.{Did, chain_hushed, fails, goes, last_by, on_chain, overs, put_by}
 use Rattle.nb_open.proofs.Downs.{AreSendsBy, downs_lack, downs_others}
 use Rattle.nb_open.proofs.Quiet.{AreQuiet, lacks_within, others_within, quiet_append, quiet_ups}
 
@@ -95,41 +98,46 @@ GivesUser {S} {B} {C} s = (rec : ℕ) (b : B) (calls : List C) (given : List Sai
 -- what was found by such an open is what was delivered
 pub record Finds (l : Live) (ns : List Notice) : Type 0 where
   pub body : fetched l ≡ []
+  pub moved : place_moved l ≡ None
   pub bytes : granted l ≡ delivered_bytes ns
   pub address : resolved l ≡ delivered_address ns
   pub message : IsLeaseMessage (delivered_bytes ns)
 
-module _ {S B C : Type 0} (s : Service S B C) (kind : ℕ) (b : B) (o : Open) (l : Live) (came : OpenInput) (link : Client) (new : Objects Obj) (calls : List C) (call : Acts → C) (p : Port) (by : Way) (rec : ℕ) where
+module _ {S B C : Type 0} (s : Service S B C) (mark : ℕ) (b : B) (who : Speaker) (kind : ChainKind) (own : Chain) (l : Live) (came : OpenInput) (link : Client) (new : Objects Obj) (calls : List C) (call : Acts → C) (p : Port) (by : Way) (rec : ℕ) where
+  abbrev o : Open
+  o = on_chain who kind own
+
   -- what is known of an open whose core this is
   pub record CoreCall : Type 0 where
-    pub alone : o.chain.below ≡ None
+    pub alone : own.below ≡ None
     pub called : IsSpeakerOf o l
     pub more : (put : List Out) (acts : Acts) → put ≡ core_records l.number l.server link acts → CoreExchanged s l.number l.server (calls ++ call acts ∷ []) (l.exchanges ++ exchange came link put ∷ [])
-    pub sends : (acts : Acts) → s.meets b l.since (calls ++ call acts ∷ []) → AreSendsBy o.speaker acts.sends.items
+    pub sends : (acts : Acts) → s.meets b l.since (calls ++ call acts ∷ []) → AreSendsBy who acts.sends.items
     pub gives : GivesUser s
-    pub under_way : (put : List Out) → IsAskingCore s kind b o.chain new (with_exchange l came link put) → IsUnderWay l.kind o.chain new (with_exchange l came link put)
+    pub under_way : (put : List Out) → IsAskingCore s mark b own new (with_exchange l came link put) → IsUnderWay l.kind own new (with_exchange l came link put)
     pub keeps : (put : List Out) → KeepsCore s b (with_exchange l came link put) → Keeps (with_exchange l came link put)
     pub finds : (put : List Out) (acts : Acts) (given : List Said) → CoreExchanged s l.number l.server (calls ++ call acts ∷ []) (l.exchanges ++ exchange came link put ∷ []) → s.gives rec b (calls ++ call acts ∷ []) given →
-        Finds (with_exchange l came link put) (alone_call o.chain.top.0 p by rec acts given)
+        Finds (with_exchange l came link put) (alone_call own.top.0 p by rec acts given)
 
   module _ (k : CoreCall) (ns : List Notice) where
-    put_is : (acts : Acts) (given : List Said) → AllByRecursion (λ (m : Said). IsTagUp m.tag) given → s.meets b l.since (calls ++ call acts ∷ []) → ns ≡ alone_call o.chain.top.0 p by rec acts given → put_by o link ns ≡ acts_records link l.number acts
+    put_is : (acts : Acts) (given : List Said) → AllByRecursion (λ (m : Said). IsTagUp m.tag) given → s.meets b l.since (calls ++ call acts ∷ []) → ns ≡ alone_call own.top.0 p by rec acts given → put_by o link ns ≡ acts_records link l.number acts
     put_is acts given up meets same =
-        ap (put_by o link) same ∙ (alone_others link o o.chain.top.0 p by rec acts given up (k.sends acts meets) ∙ ap (λ n. acts_records link n acts) (sym k.called.number))
+        ap (put_by o link) same ∙ (alone_others link o own.top.0 p by rec acts given up (k.sends acts meets) ∙ ap (λ n. acts_records link n acts) (sym k.called.number))
 
-    lacks_is : (acts : Acts) (given : List Said) → AllByRecursion (λ (m : Said). IsTagUp m.tag) given → s.meets b l.since (calls ++ call acts ∷ []) → ns ≡ alone_call o.chain.top.0 p by rec acts given → any_lacks_route link o.speaker ns ≡ finds_none link acts
-    lacks_is acts given up meets same = ap (any_lacks_route link o.speaker) same ∙ alone_lacks link o o.chain.top.0 p by rec acts given up (k.sends acts meets)
+    lacks_is : (acts : Acts) (given : List Said) → AllByRecursion (λ (m : Said). IsTagUp m.tag) given → s.meets b l.since (calls ++ call acts ∷ []) → ns ≡ alone_call own.top.0 p by rec acts given → any_lacks_route link who ns ≡ finds_none link acts
+    lacks_is acts given up meets same = ap (any_lacks_route link who) same ∙ alone_lacks link o own.top.0 p by rec acts given up (k.sends acts meets)
 
     called_still : (put : List Out) → IsSpeakerOf o (with_exchange l came link put)
     called_still put = record { number = k.called.number; server = k.called.server; own = k.called.own; device = k.called.device; kind = k.called.kind; carrier = k.called.carrier; asks = k.called.asks }
 
-    pub core_did : AsksMore s kind (own_graph o.chain new) o.chain.top.0 b l.since calls p by rec call ns → Did o l came link new ns
+    pub core_did : AsksMore s mark (own_graph own new) own.top.0 b l.since calls p by rec call ns → Did o l came link new ns
     core_did (asks_on acts meets over same talks) =
         let put = put_is acts [] tt meets same in
         let lack = lacks_is acts [] tt meets same in
+        let unshut : IsOpenChain own new = subst (λ z. IsOpenBy z own.top.0 (own_graph own new)) (sym k.alone) talks.lone in
         goes (record {
-          none = ap first_close same ∙ (alone_closes o.chain.top.0 p by rec acts [] ∙ over);
-          unshut = subst (λ z. IsOpenBy z o.chain.top.0 (own_graph o.chain new)) (sym k.alone) talks.lone;
+          none = ap first_close same ∙ (alone_closes own.top.0 p by rec acts [] ∙ over);
+          unshut = unshut;
           lives = λ no chained. record {
             chained = chained;
             called = called_still (put_by o link ns);
@@ -145,7 +153,9 @@ module _ {S B C : Type 0} (s : Service S B C) (kind : ℕ) (b : B) (o : Open) (l
             exchanged = k.more (last_by o l link ns (no_route l.server)) acts (ap (λ z. z ++ end_records l.number (Some (no_route l.server))) put ∙ stuck_records l.number l.server link acts over (sym lack ∙ yes));
             meets = meets;
           });
-          silent = ap delivered_bytes same ∙ no_bytes_echoed o.chain.top.0 p by rec acts [] refl;
+          silent = ap delivered_bytes same ∙ no_bytes_echoed own.top.0 p by rec acts [] refl;
+          kinds = tt;
+          hushed = λ yes after m n cause closes. chain_hushed link who own new after m n cause unshut closes;
         })
     core_did (comes_to_end acts c given meets over gives same shut) =
         let up = k.gives rec b (calls ++ call acts ∷ []) given gives in
@@ -154,10 +164,13 @@ module _ {S B C : Type 0} (s : Service S B C) (kind : ℕ) (b : B) (o : Open) (l
         let exchanged = k.more last acts (ap (λ z. z ++ end_records l.number (Some c)) put ∙ end_records_are l.number l.server link acts c over) in
         let found = k.finds last acts given exchanged gives in
         overs c (record {
-          closes = ap first_close same ∙ (alone_closes o.chain.top.0 p by rec acts given ∙ over);
-          shut = subst (λ z. IsShutBy z o.chain.top.0 (own_graph o.chain new)) (sym k.alone) shut;
+          closes = ap first_close same ∙ (alone_closes own.top.0 p by rec acts given ∙ over);
+          shut = subst (λ z. IsShutBy z own.top.0 (own_graph own new)) (sym k.alone) shut;
           kept = k.keeps last (record { calls = calls ++ call acts ∷ []; exchanged = exchanged; meets = meets });
-          body = λ brought hands well. found.body ∙ sym (ap (λ z. unwrap_or z []) (hands.one k.alone));
+          brings = λ well. record {
+            body = λ b hands still. found.body ∙ sym (ap (λ z. unwrap_or z []) (hands.0.one k.alone));
+            moved = λ b hands. found.moved ∙ sym hands.1;
+          };
           bytes = found.bytes ∙ ap delivered_bytes (sym same);
           address = found.address ∙ ap delivered_address (sym same);
           message = subst (λ z. IsLeaseMessage (delivered_bytes z)) (sym same) found.message;

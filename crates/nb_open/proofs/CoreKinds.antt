@@ -32,7 +32,7 @@ use Rattle.nb_nodes.specs.LeaseExchanges.{GivesLease, lease_service}
 use Rattle.nb_opens.specs.AloneNotices.{alone_call}
 use Rattle.nb_command.specs.SettingAddresses.{host}
 use Rattle.nb_machine.specs.Cores.{CoreExchanged, look_up_of, ping_of}
-use Rattle.nb_machine.specs.Kinds.{fetched_by, granted_of, resolved_of}
+use Rattle.nb_machine.specs.Kinds.{fetched_by, granted_of, moved_by, resolved_of}
 use Rattle.nb_machine.specs.Lives.{OpenKind, dns, dhcp, ping, Live}
 use Rattle.nb_teller.specs.declared.speaker.Carrier.{Carrier}
 use Rattle.nb_teller.specs.declared.speaker.Carrier.TheVariants.{Udp, Icmp}
@@ -120,7 +120,8 @@ module _ (l : Live) (x : ℕ) (p : Port) (by : Way) (rec : ℕ) (acts : Acts) (g
   name_finds id calls e exchanged gives =
       let nothing = no_bytes_looked_up x p by rec acts given gives.found gives.goes_up in
       record {
-        body = ap (λ k. fetched_by k l.exchanges) e;
+        body = ap (λ k. fetched_by k l) e;
+        moved = ap (λ k. moved_by k l) e;
         bytes = ap (λ k. granted_of k l.exchanges) e ∙ sym nothing;
         address = ap (λ k. resolved_of k l) e ∙ (ap (address_found (look_up_of id l)) (all_arrived l.number l.server calls l.exchanges exchanged)
             ∙ (sym (is_address_found (look_up_of id l) calls gives.found gives.is_found) ∙ sym (delivers_address x p by rec acts given gives.found gives.goes_up)));
@@ -132,7 +133,8 @@ module _ (l : Live) (x : ℕ) (p : Port) (by : Way) (rec : ℕ) (acts : Acts) (g
   lease_finds a calls e exchanged gives =
       let delivers = delivers_ack x p by rec acts given (acknowledgement_in a (all_handed calls)) gives in
       record {
-        body = ap (λ k. fetched_by k l.exchanges) e;
+        body = ap (λ k. fetched_by k l) e;
+        moved = ap (λ k. moved_by k l) e;
         bytes = ap (λ k. granted_of k l.exchanges) e ∙ (ap (acknowledgement_in a) (all_given l.number l.server calls l.exchanges exchanged) ∙ sym delivers);
         address = ap (λ k. resolved_of k l) e ∙ sym (no_address_leased x p by rec acts given (acknowledgement_in a (all_handed calls)) gives);
         message = λ bytes is.
@@ -145,7 +147,8 @@ module _ (l : Live) (x : ℕ) (p : Port) (by : Way) (rec : ℕ) (acts : Acts) (g
   echo_finds calls e gives =
       let nothing = no_bytes_echoed x p by rec acts given gives in
       record {
-        body = ap (λ k. fetched_by k l.exchanges) e;
+        body = ap (λ k. fetched_by k l) e;
+        moved = ap (λ k. moved_by k l) e;
         bytes = ap (λ k. granted_of k l.exchanges) e ∙ sym nothing;
         address = ap (λ k. resolved_of k l) e ∙ sym (no_address_echoed x p by rec acts given gives);
         message = none_message (delivered_bytes (alone_call x p by rec acts given)) nothing;

@@ -22,7 +22,7 @@ use Rattle.nb_opens.specs.Notices.{tells, sent_from}
 use Rattle.nb_teller.specs.Deliveries.{delivered_bytes, delivered_address}
 
 -- a message that delivers nothing
-abbrev DeliversNone : Said → Type 0
+abbrev pub DeliversNone : Said → Type 0
 DeliversNone m = ((m.tag == tag_number Bytes) ≡ false) × ((m.tag == tag_number Address) ≡ false)
 
 -- what goes down delivers nothing
@@ -162,14 +162,15 @@ no_address [] h = refl
 no_address (event e ∷ ns) h = no_address ns h.1
 no_address (message from tag rec a b bytes ∷ ns) h = absurd h.0
 
-pub bytes_then : (ns more : List Notice) → AreEvents more → delivered_bytes (ns ++ more) ≡ delivered_bytes ns
+-- what delivers nothing may be told after it
+pub bytes_then : (ns more : List Notice) → delivered_bytes more ≡ None → delivered_bytes (ns ++ more) ≡ delivered_bytes ns
 unfolding delivered_bytes
-bytes_then [] more h = no_bytes more h
+bytes_then [] more h = h
 bytes_then (event e ∷ ns) more h = bytes_then ns more h
 bytes_then (message from tag rec a b bytes ∷ ns) more h = ap (λ o. cond (tag == tag_number Bytes) (Some bytes) o) (bytes_then ns more h)
 
-pub address_then : (ns more : List Notice) → AreEvents more → delivered_address (ns ++ more) ≡ delivered_address ns
+pub address_then : (ns more : List Notice) → delivered_address more ≡ None → delivered_address (ns ++ more) ≡ delivered_address ns
 unfolding delivered_address
-address_then [] more h = no_address more h
+address_then [] more h = h
 address_then (event e ∷ ns) more h = address_then ns more h
 address_then (message from tag rec a b bytes ∷ ns) more h = ap (λ o. cond (tag == tag_number Address) (Some (record { 0 = a })) o) (address_then ns more h)

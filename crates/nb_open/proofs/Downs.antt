@@ -17,10 +17,9 @@ use Rattle.nb_teller.specs.Speakers.{datagram_of}
 use Rattle.nb_traced.specs.Pieces.{IsOfOpen}
 use Rattle.nb_traced.specs.Plain.{without_graph}
 use Rattle.nb_traced.proofs.Plain.{plain_aside}
-use Rattle.nb_traced.proofs.RecordLemmas.{puts_aside}
 use Rattle.nb_teller.specs.Tellings.{any_lacks_route, message_records, told_records}
 use Rattle.nb_teller.proofs.TellingLemmas.{SpeaksFor, AreSendsOf, none as no_send, one as one_send}
-use Rattle.nb_open.proofs.Callings.{each_append, of_message}
+use Rattle.nb_open.proofs.Callings.{each_append, of_message, puts_aside}
 
 -- the messages that a core asks for: at most one, from who speaks
 pub data AreSendsBy (who : Speaker) : List SendTo → Type 0 where

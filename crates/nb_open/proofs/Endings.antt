@@ -1,5 +1,5 @@
 -- What an open's call and its end say together, for an open of any kind.
-use Rattle.std.proofs.Common.{◌≡◌, ℕ, ◌==◌, true, cond, List, [], ◌∷◌, ◌++◌, map, Option, Some, None, refl, sym, ◌∙◌, ap, subst, append_assoc, append-nil, arith}
+use Rattle.std.proofs.Common.{◌≡◌, ℕ, ◌==◌, true, cond, List, [], ◌∷◌, ◌++◌, Option, Some, None, refl, sym, ◌∙◌, ap, subst, append-nil, arith}
 use Rattle.std.proofs.lemmas.Bool.Decides.{nat_tests}
 use Rattle.std.specs.List.{AllByRecursion}
 use Rattle.nb_terms.specs.declared.cause.Cause.{Cause}
@@ -12,8 +12,9 @@ use Rattle.nb_ledger.specs.GraphRun.{GraphState}
 use Rattle.nb_ledger.specs.Ledger.{run_state}
 use Rattle.nb_graph.specs.Whole.{Objects}
 use Rattle.nb_frames.specs.Frames.{is_one_of}
+use Rattle.nb_frames.specs.Within.{IsEventWithin}
 use Rattle.nb_nodes.specs.declared.obj.Obj.{Obj}
-use Rattle.nb_opens.specs.Notices.{first_close, tells}
+use Rattle.nb_opens.specs.Notices.{first_close}
 use Rattle.nb_stack.specs.Client.{Client}
 use Rattle.nb_machine.specs.Takings.{end_among, end_told}
 use Rattle.nb_traced.specs.Holdings.{lowest_of, serials}
@@ -21,18 +22,20 @@ use Rattle.nb_traced.specs.Outputs.{CallsOpen, own_serials}
 use Rattle.nb_traced.specs.Pieces.{IsCallOn, IsOfOpen, first_close_of}
 use Rattle.nb_traced.specs.Plain.{without_graph}
 use Rattle.nb_traced.proofs.Plain.{plain_append, plain_aside}
-use Rattle.nb_traced.proofs.RecordLemmas.{puts_aside}
 use Rattle.nb_chains.specs.declared.chain.Chain.{Chain}
 use Rattle.nb_chains.specs.Calls.{closing_notices}
 use Rattle.nb_chains.specs.Chains.{AreStillChained, IsReleased, below_ids, chain_ids, last_below, last_serial, released_by}
-use Rattle.nb_chains.specs.Giving.{ChainGives}
-use Rattle.nb_chains.specs.Shapes.{HasShape, SendsNone, StaysAbove}
+use Rattle.nb_chains.specs.Giving.{CallGives}
 use Rattle.nb_chains.proofs.GoingOn.{others_both}
 use Rattle.nb_teller.specs.declared.speaker.Speaker.{Speaker}
 use Rattle.nb_teller.specs.Tellings.{message_records, told_records}
+use Rattle.nb_webchains.specs.WebChains.{AreReleased}
+use Rattle.nb_open.specs.declared.objects.OpenObjects.{OpenObjects}
+use Rattle.nb_open.specs.declared.objects.OpenObjects.TheVariants as objects
 use Rattle.nb_open.specs.declared.open.Open.{Open}
-use Rattle.nb_open.specs.Open.{kin_of, pieces_below}
-use Rattle.nb_open.proofs.Callings.{GoesBy, IsEntryBy, call_on, each_append, of_message}
+use Rattle.nb_open.specs.Objects.{objects_ids}
+use Rattle.nb_open.specs.Open.{kin_of, objects_pieces, pieces_below}
+use Rattle.nb_open.proofs.Callings.{AreInOrder, GoesBy, IsEntryBy, call_on, each_append, of_message, puts_aside}
 use Rattle.nb_open.proofs.FirstCloses.{closes_are}
 use Rattle.nb_open.proofs.Delivering.{AreEvents, IsEvent}
 
@@ -42,53 +45,58 @@ pub serials_below : (below : Option ObjId) → serials (pieces_below below) ≡ 
 serials_below None = refl
 serials_below (Some x) = refl
 
--- the serials of an open are those of its chain
-pub serials_are : (o : Open) → own_serials (kin_of o) ≡ chain_ids o.chain
-serials_are o = ap (λ z. o.chain.top.0 ∷ z) (serials_below o.chain.below)
+serials_of : (o : OpenObjects) → serials (objects_pieces o) ≡ objects_ids o
+serials_of (objects.Chain kind chain) = ap (λ z. chain.top.0 ∷ z) (serials_below chain.below)
+serials_of (objects.Web port own chain) = refl
 
-pub lowest_below : (x : ℕ) (below : Option ObjId) → lowest_of (x ∷ below_ids below) ≡ last_below x below
+-- the serials of an open are those of its objects
+pub serials_are : (o : Open) → own_serials (kin_of o) ≡ objects_ids o.objects
+serials_are o = serials_of o.objects
+
+-- the last of them, which talks to the network
+abbrev pub last_object : OpenObjects → ℕ
+last_object (objects.Chain kind chain) = last_serial chain
+last_object (objects.Web port own chain) = chain.conn.0
+
+lowest_below : (x : ℕ) (below : Option ObjId) → lowest_of (x ∷ below_ids below) ≡ last_below x below
 lowest_below x None = refl
 lowest_below x (Some y) = refl
 
+lowest_in : (o : OpenObjects) → lowest_of (objects_ids o) ≡ last_object o
+lowest_in (objects.Chain kind chain) = lowest_below chain.top.0 chain.below
+lowest_in (objects.Web port own chain) = refl
+
 -- and the lowest is the last
-pub lowest_is : (o : Open) → lowest_of (own_serials (kin_of o)) ≡ last_serial o.chain
-lowest_is o = ap lowest_of (serials_are o) ∙ lowest_below o.chain.top.0 o.chain.below
+pub lowest_is : (o : Open) → lowest_of (own_serials (kin_of o)) ≡ last_object o.objects
+lowest_is o = ap lowest_of (serials_are o) ∙ lowest_in o.objects
 
--- what a call on the chain says of the open
-pub of_chain : (o : Open) (way : Option Way) (records : List Out) (s t : GraphState) → IsCallOn o.speaker.number (chain_ids o.chain) (last_serial o.chain) way records s t → CallsOpen (kin_of o) way records s t
-of_chain o way records s t h =
-    subst (λ z. IsCallOn o.speaker.number (own_serials (kin_of o)) z way records s t) (sym (lowest_is o)) (subst (λ z. IsCallOn o.speaker.number z (last_serial o.chain) way records s t) (sym (serials_are o)) h)
+-- what a call on its objects says of the open
+pub of_objects : (o : Open) (way : Option Way) (records : List Out) (s t : GraphState) → IsCallOn o.speaker.number (objects_ids o.objects) (last_object o.objects) way records s t → CallsOpen (kin_of o) way records s t
+of_objects o way records s t h =
+    subst (λ z. IsCallOn o.speaker.number (own_serials (kin_of o)) z way records s t) (sym (lowest_is o)) (subst (λ z. IsCallOn o.speaker.number z (last_object o.objects) way records s t) (sym (serials_are o)) h)
 
-pub close_of_chain : (o : Open) (records : List Out) (c : Option Cause) → first_close_of (chain_ids o.chain) records ≡ c → first_close_of (own_serials (kin_of o)) records ≡ c
-close_of_chain o records c h = subst (λ z. first_close_of z records ≡ c) (sym (serials_are o)) h
+pub close_of_objects : (o : Open) (records : List Out) (c : Option Cause) → first_close_of (objects_ids o.objects) records ≡ c → first_close_of (own_serials (kin_of o)) records ≡ c
+close_of_objects o records c h = subst (λ z. first_close_of z records ≡ c) (sym (serials_are o)) h
 
 -- A CALL
 
-pub goes_by : (c : Chain) (old new : Objects Obj) (m n : Heard) (ns : List Notice) → ChainGives c old new m n ns → GoesBy (chain_ids c) (run_state old.book []) (run_state new.book []) ns
-goes_by c old new m n ns g = record { events = g.events; are = g.are; run = g.run; within = g.within }
+-- no event names another object than these, and none is made
+abbrev pub ObjectsGive : OpenObjects → Objects Obj → Objects Obj → Heard → Heard → List Notice → Type 0
+ObjectsGive o old new m n ns = CallGives (IsEventWithin (is_one_of (objects_ids o))) old new m n ns
 
--- a shape, with more after it that stays above
-pub shape_more : (x : ℕ) (entry : Option GraphEvent) (ns more : List Notice) → HasShape x entry ns → SendsNone x more → HasShape x entry (ns ++ more)
-shape_more x entry ns more h stays = record {
-  first = h.first;
-  downs = h.downs;
-  back = h.back ++ more;
-  all = ap (λ z. z ++ more) h.all ∙ (append_assoc (map tells h.first) (h.downs ++ h.back) more ∙ ap (λ z. map tells h.first ++ z) (append_assoc h.downs h.back more));
-  begins = h.begins;
-  go_down = h.go_down;
-  stay = each_append (StaysAbove x) h.back more h.stay stays;
-}
+goes_by : (o : OpenObjects) (old new : Objects Obj) (m n : Heard) (ns : List Notice) → ObjectsGive o old new m n ns → GoesBy (objects_ids o) (run_state old.book []) (run_state new.book []) ns
+goes_by o old new m n ns g = record { events = g.events; are = g.are; run = g.run; within = g.within }
 
-module _ (o : Open) (link : Client) (way : Option Way) (entry : Option GraphEvent) (old new : Objects Obj) (m n : Heard) (ns : List Notice) (is : IsEntryBy (last_serial o.chain) way entry) where
+module _ (o : Open) (link : Client) (way : Option Way) (entry : Option GraphEvent) (old new : Objects Obj) (m n : Heard) (ns : List Notice) (is : IsEntryBy (last_object o.objects) way entry) where
   -- a call on the open's objects, as records
-  pub calls_open : HasShape (last_serial o.chain) entry ns → ChainGives o.chain old new m n ns → CallsOpen (kin_of o) way (told_records link o.speaker ns) (run_state old.book []) (run_state new.book [])
+  pub calls_open : AreInOrder (last_object o.objects) entry ns → ObjectsGive o.objects old new m n ns → CallsOpen (kin_of o) way (told_records link o.speaker ns) (run_state old.book []) (run_state new.book [])
   calls_open h g =
-      of_chain o way (told_records link o.speaker ns) (run_state old.book []) (run_state new.book [])
-      (call_on link o.speaker (chain_ids o.chain) (last_serial o.chain) way entry (run_state old.book []) (run_state new.book []) ns is h (goes_by o.chain old new m n ns g) refl)
+      of_objects o way (told_records link o.speaker ns) (run_state old.book []) (run_state new.book [])
+      (call_on link o.speaker (objects_ids o.objects) (last_object o.objects) way entry (run_state old.book []) (run_state new.book []) ns is h (goes_by o.objects old new m n ns g) refl)
 
   -- and its first close
-  pub closes_open : (c : Option Cause) → ChainGives o.chain old new m n ns → first_close ns ≡ c → first_close_of (own_serials (kin_of o)) (told_records link o.speaker ns) ≡ c
-  closes_open c g e = close_of_chain o (told_records link o.speaker ns) c (closes_are link o.speaker (chain_ids o.chain) ns g.events g.are g.within ∙ e)
+  pub closes_open : (c : Option Cause) → ObjectsGive o.objects old new m n ns → first_close ns ≡ c → first_close_of (own_serials (kin_of o)) (told_records link o.speaker ns) ≡ c
+  closes_open c g e = close_of_objects o (told_records link o.speaker ns) c (closes_are link o.speaker (objects_ids o.objects) ns g.events g.are g.within ∙ e)
 
 -- THE END AMONG ITS RECORDS
 
@@ -151,11 +159,14 @@ pub closed_first : (x : ℕ) (below : Option ObjId) (cause : Cause) → first_cl
 closed_first x None cause = refl
 closed_first x (Some t) cause = refl
 
--- released after it went on
-pub released_after : (c : Chain) (g a h : Objects Obj) → AreStillChained (chain_ids c) g a → IsReleased c a h → IsReleased c g h
-released_after c g a h on r = record {
+-- released after they went on
+pub released_after : (ids : List ℕ) (g a h : Objects Obj) → AreStillChained ids g a → AreReleased ids a h → AreReleased ids g h
+released_after ids g a h on r = record {
   gone = r.gone;
-  others = others_both (is_one_of (chain_ids c)) g a h on.others r.others;
+  others = others_both (is_one_of ids) g a h on.others r.others;
   number = r.number ∙ on.same_number;
   same_room = r.same_room ∙ on.same_room;
 }
+
+pub released_chain : (c : Chain) (g h : Objects Obj) → IsReleased c g h → AreReleased (chain_ids c) g h
+released_chain c g h r = record { gone = r.gone; others = r.others; number = r.number; same_room = r.same_room }

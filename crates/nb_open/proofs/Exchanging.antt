@@ -1,5 +1,5 @@
 -- One exchange more of an open: what its call tells, and what becomes of its objects.
-use Rattle.std.proofs.Common.{◌≡◌, inl, inr, true, false, List, [], ◌∷◌, ◌++◌, Option, Some, None, sym, ◌∙◌, ap, subst}
+use Rattle.std.proofs.Common.{◌≡◌, ◌⊎◌, inl, inr, true, false, List, [], ◌∷◌, ◌++◌, Option, Some, None, sym, ◌∙◌, ap, subst}
 use Rattle.nb_terms.specs.declared.cause.Cause.{Cause}
 use Rattle.nb_defs.specs.Causes.{is_ok_cause}
 use Rattle.nb_defs.specs.Records.{ended}
@@ -11,16 +11,11 @@ use Rattle.nb_graph.specs.Whole.{Objects}
 use Rattle.nb_frames.specs.Frames.{is_one_of}
 use Rattle.nb_frames.specs.Within.{IsEventWithin}
 use Rattle.nb_nodes.specs.declared.obj.Obj.{Obj}
-use Rattle.nb_traced.specs.Plain.{without_graph}
 use Rattle.nb_opens.specs.Notices.{first_close, or_else}
 use Rattle.nb_stack.specs.Client.{Client}
 use Rattle.nb_machine.specs.CommandRecords.{no_route}
 use Rattle.nb_machine.specs.Kinds.{Keeps}
 use Rattle.nb_machine.specs.Lives.{Live, OpenInput}
-use Rattle.nb_chains.specs.Calls.{ClosesChain, closing_notices}
-use Rattle.nb_chains.specs.Chains.{AreStillChained, chain_ids, last_serial, released_notices}
-use Rattle.nb_chains.specs.Giving.{ChainGives}
-use Rattle.nb_chains.specs.Shapes.{HasShape, HasShapeOrFails}
 use Rattle.nb_chains.proofs.GivingLemmas.{gives_both}
 use Rattle.nb_teller.specs.Deliveries.{delivered_bytes, delivered_address}
 use Rattle.nb_teller.specs.Spelling.{HasSpelled, IsSpelled, Spelling}
@@ -29,15 +24,16 @@ use Rattle.nb_opens.proofs.CloseLemmas.{first_close-append}
 use Rattle.nb_open.specs.declared.ended.Ended.{Ended}
 use Rattle.nb_open.specs.declared.open.Open.{Open}
 use Rattle.nb_open.specs.Exchanges.{Exchanges, HandsOut, IsLeaseMessage, last_put, with_exchange}
+use Rattle.nb_open.specs.Objects.{AreObjectsStill, ClosesObjects, objects_ids}
 use Rattle.nb_open.specs.Open.{IsOpenOf}
-use Rattle.nb_open.specs.Settling.{LetsChainGo, SettlesOpen, has_come_to_end, stays_open, is_turned_back}
-use Rattle.nb_open.proofs.Callings.{IsEntryBy}
+use Rattle.nb_open.specs.Settling.{LetsObjectsGo, SettlesOpen, has_come_to_end, stays_open, is_turned_back}
+use Rattle.nb_open.proofs.Callings.{AreInOrder, IsEntryBy, order_more}
 use Rattle.nb_open.proofs.Delivering.{address_then, bytes_then}
 use Rattle.nb_open.proofs.Doings.{Did, Goes, Overs, fails, goes, last_by, overs, put_by}
-use Rattle.nb_open.proofs.Endings.{calls_open, closed_first, closes_open, end_among_last, none_among, released_after, shape_more}
-use Rattle.nb_open.proofs.Leaving.{Leaves, closes_leave, leaves_by}
+use Rattle.nb_open.proofs.Endings.{ObjectsGive, calls_open, closes_open, end_among_last, last_object, none_among, released_after}
+use Rattle.nb_open.proofs.Leaving.{Leaves, closes_leave, closing_told, leaves_by, leaving_events, leaving_notices}
 use Rattle.nb_open.proofs.Keepings.{open_keeps}
-use Rattle.nb_open.proofs.Quiet.{others_then, quiet_above}
+use Rattle.nb_open.proofs.Quiet.{AddsNothing, adds_both, events_add, others_more}
 
 some_is : {x y : Cause} → Some x ≡ Some y → x ≡ y
 some_is {x} {y} e = cc
@@ -46,10 +42,10 @@ some_is {x} {y} e = cc
 module _ (o : Open) (l : Live) (came : OpenInput) (link : Client) (way : Option Way) (entry : Option GraphEvent) (old mid new : Objects Obj) (h0 h1 h2 : Heard) (s s' : Spelling) (ns : List Notice) where
   pub record Called : Type 0 where
     pub did : Did o l came link mid ns
-    pub enters : IsEntryBy (last_serial o.chain) way entry
-    pub shape : HasShapeOrFails (last_serial o.chain) entry ns
-    pub gives : ChainGives o.chain old mid h0 h1 ns
-    pub on : AreStillChained (chain_ids o.chain) old mid
+    pub enters : IsEntryBy (last_object o.objects) way entry
+    pub order : AreInOrder (last_object o.objects) entry ns ⊎ (first_close ns ≡ Some no_memory)
+    pub gives : ObjectsGive o.objects old mid h0 h1 ns
+    pub on : AreObjectsStill o.objects old mid
     pub spelled : s.is_lost ≡ false → IsSpelled link o.speaker s ns
     pub spells : (all : List Notice) → Given h0 h2 all → IsSpelled link o.speaker s' all
 
@@ -57,18 +53,18 @@ module _ (o : Open) (l : Live) (came : OpenInput) (link : Client) (way : Option 
     closed_is : (c : Option Cause) → HasSpelled s c → first_close ns ≡ c
     closed_is c has = sym (k.spelled has.0).2 ∙ has.1
 
-    shaped : {P : Type 0} (c : Option Cause) → HasSpelled s c → (HasShape (last_serial o.chain) entry ns → P) → P
-    shaped {P} c has f = by k.shape
+    ordered : {P : Type 0} (c : Option Cause) → HasSpelled s c → (AreInOrder (last_object o.objects) entry ns → P) → P
+    ordered {P} c has f = by k.order
       where
-        by : HasShapeOrFails (last_serial o.chain) entry ns → P
+        by : AreInOrder (last_object o.objects) entry ns ⊎ (first_close ns ≡ Some no_memory) → P
         by (inl h) = f h
         by (inr memory) = absurd (has.2 (sym (closed_is c has) ∙ memory))
 
     -- it goes on
     goes_so : HasSpelled s None → s.is_stuck ≡ false → new ≡ mid → h2 ≡ h1 → Goes o l came link mid ns → Exchanges o l came link way old new s' None
     goes_so has free same_graph same_heard g =
-        let gives : ChainGives o.chain old new h0 h2 ns = subst (λ z. ChainGives o.chain old z h0 h2 ns) (sym same_graph) (subst (λ z. ChainGives o.chain old mid h0 z ns) (sym same_heard) k.gives) in
-        let on : AreStillChained (chain_ids o.chain) old new = subst (AreStillChained (chain_ids o.chain) old) (sym same_graph) k.on in
+        let gives : ObjectsGive o.objects old new h0 h2 ns = subst (λ z. ObjectsGive o.objects old z h0 h2 ns) (sym same_graph) (subst (λ z. ObjectsGive o.objects old mid h0 z ns) (sym same_heard) k.gives) in
+        let on : AreObjectsStill o.objects old new = subst (AreObjectsStill o.objects old) (sym same_graph) k.on in
         let finds : any_lacks_route link o.speaker ns ≡ false = sym (k.spelled has.0).5 ∙ free in
         let lives = subst (λ z. IsOpenOf z o (with_exchange l came link (put_by o link ns))) (sym same_graph) (g.lives finds k.on.chained) in
         record {
@@ -79,30 +75,28 @@ module _ (o : Open) (l : Live) (came : OpenInput) (link : Client) (way : Option 
             no_end = none_among l.number link o.speaker ns;
             lives = lives;
             others = on;
-            call = shaped None has (λ h. calls_open o link way entry old new h0 h2 ns k.enters h gives);
+            call = ordered None has (λ h. calls_open o link way entry old new h0 h2 ns k.enters h gives);
             no_close = closes_open o link way entry old new h0 h2 ns k.enters None gives g.none;
           };
         }
 
     -- it ends, and more is told of it
-    module _ (e : Ended) (more : List Notice) (left : Leaves o.chain mid new h1 h2 more) (c : Option Cause) (has : HasSpelled s c) (closes : first_close (ns ++ more) ≡ Some e.cause) (kept : Keeps (with_exchange l came link (last_by o l link ns e.cause))) where
-      all_given : ChainGives o.chain old new h0 h2 (ns ++ more)
-      all_given = gives_both (IsEventWithin (is_one_of (chain_ids o.chain))) old mid new h0 h1 h2 ns more k.gives left.gives
-
-      same_put : without_graph (told_records link o.speaker (ns ++ more)) ≡ put_by o link ns
-      same_put = others_then link o.speaker ns more (quiet_above (last_serial o.chain) more left.stays)
+    module _ (e : Ended) (more : List Notice) (left : Leaves o.objects mid new h1 h2 more) (adds : AddsNothing link o.speaker more) (c : Option Cause) (has : HasSpelled s c) (closes : first_close (ns ++ more) ≡ Some e.cause)
+        (kept : Keeps (with_exchange l came link (last_by o l link ns e.cause))) where
+      all_given : ObjectsGive o.objects old new h0 h2 (ns ++ more)
+      all_given = gives_both (IsEventWithin (is_one_of (objects_ids o.objects))) old mid new h0 h1 h2 ns more k.gives left.gives
 
       last_is : last_put l (told_records link o.speaker (ns ++ more)) e.cause ≡ last_by o l link ns e.cause
-      last_is = ap (λ z. z ++ (ended l.number e.cause ∷ [])) same_put
+      last_is = ap (λ z. z ++ (ended l.number e.cause ∷ [])) (others_more link o.speaker ns more adds)
 
       spelled_all : IsSpelled link o.speaker s' (ns ++ more)
       spelled_all = k.spells (ns ++ more) all_given.given
 
       bytes_are : s'.bytes ≡ delivered_bytes ns
-      bytes_are = spelled_all.3 ∙ bytes_then ns more left.events
+      bytes_are = spelled_all.3 ∙ bytes_then ns more adds.bytes
 
       address_is : s'.address ≡ delivered_address ns
-      address_is = spelled_all.4 ∙ address_then ns more left.events
+      address_is = spelled_all.4 ∙ address_then ns more adds.address
 
       ends_so : (is_ok_cause e.cause ≡ true → HandsOut (with_exchange l came link (last_by o l link ns e.cause)) e s') → IsLeaseMessage (delivered_bytes ns) → Exchanges o l came link way old new s' (Some e)
       ends_so hands message = record {
@@ -111,8 +105,8 @@ module _ (o : Open) (l : Live) (came : OpenInput) (link : Client) (way : Option 
         does = record {
           keeps = subst (λ z. Keeps (with_exchange l came link z)) (sym last_is) kept;
           its_end = end_among_last l.number link o.speaker (ns ++ more) e.cause;
-          released = released_after o.chain old mid new k.on left.released;
-          call = shaped c has (λ h. calls_open o link way entry old new h0 h2 (ns ++ more) k.enters (shape_more (last_serial o.chain) entry ns more h left.stays) all_given);
+          released = released_after (objects_ids o.objects) old mid new k.on left.released;
+          call = ordered c has (λ h. calls_open o link way entry old new h0 h2 (ns ++ more) k.enters (order_more (last_object o.objects) entry ns more h left.order) all_given);
           close = closes_open o link way entry old new h0 h2 (ns ++ more) k.enters (Some e.cause) all_given closes;
           hands = λ well. subst (λ z. HandsOut (with_exchange l came link z) e s') (sym last_is) (hands well);
           message = subst IsLeaseMessage (sym bytes_are) message;
@@ -122,30 +116,32 @@ module _ (o : Open) (l : Live) (came : OpenInput) (link : Client) (way : Option 
     none_some : {P : Type 0} (c : Cause) → first_close ns ≡ None → first_close ns ≡ Some c → P
     none_some {P} c none some = absurd (let no : Some c ≡ None = sym some ∙ none in cc)
 
-    over_so : (e : Ended) → HasSpelled s (Some e.cause) → LetsChainGo o.chain e.body mid new h1 h2 → Overs o l came link mid ns e.cause → Exchanges o l came link way old new s' (Some e)
+    over_so : (e : Ended) → HasSpelled s (Some e.cause) → LetsObjectsGo o.objects e mid new h1 h2 → Overs o l came link mid ns e.cause → Exchanges o l came link way old new s' (Some e)
     over_so e has lets v =
-        let more = released_notices o.chain in
-        let left = leaves_by o.chain e.body mid new h1 h2 lets in
+        let more = leaving_notices o.objects in
+        let left = leaves_by o.objects e mid new h1 h2 lets in
+        let adds = events_add link o.speaker more (leaving_events o.objects) in
         let closes : first_close (ns ++ more) ≡ Some e.cause = first_close-append ns more ∙ ap (λ z. or_else z (first_close more)) v.closes in
-        ends_so e more left (Some e.cause) has closes v.kept
+        ends_so e more left adds (Some e.cause) has closes v.kept
         (λ well. record {
-          body = v.body e.body lets.hands well;
-          bytes = v.bytes ∙ sym (bytes_are e more left (Some e.cause) has closes v.kept);
-          address = v.address ∙ sym (address_is e more left (Some e.cause) has closes v.kept);
+          body = (v.brings well).body (record { body = e.body; moved = e.moved }) lets.hands;
+          moved = (v.brings well).moved (record { body = e.body; moved = e.moved }) lets.hands;
+          bytes = v.bytes ∙ sym (bytes_are e more left adds (Some e.cause) has closes v.kept);
+          address = v.address ∙ sym (address_is e more left adds (Some e.cause) has closes v.kept);
         })
         v.message
 
-    turned_so : (e : Ended) (a : Objects Obj) (told : Heard) → HasSpelled s None → s.is_stuck ≡ true → e.cause ≡ no_route l.server → AreStillChained (chain_ids o.chain) mid a → ClosesChain o.chain mid a e.cause h1 told → LetsChainGo o.chain e.body a new told h2 →
+    turned_so : (e : Ended) (a : Objects Obj) (told : Heard) → HasSpelled s None → s.is_stuck ≡ true → e.cause ≡ no_route l.server → AreObjectsStill o.objects mid a → ClosesObjects o.objects mid a e.cause h1 told → LetsObjectsGo o.objects e a new told h2 →
         Goes o l came link mid ns → Exchanges o l came link way old new s' (Some e)
     turned_so e a told has stuck is on closes lets g =
-        let more = closing_notices o.chain.top.0 o.chain.below e.cause ++ released_notices o.chain in
-        let left = closes_leave o.chain e.body e.cause mid a new h1 told h2 g.unshut on closes lets in
-        let first : first_close (ns ++ more) ≡ Some e.cause =
-        first_close-append ns more ∙ (ap (λ z. or_else z (first_close more)) g.none ∙ (first_close-append (closing_notices o.chain.top.0 o.chain.below e.cause) (released_notices o.chain)
-        ∙ ap (λ z. or_else z (first_close (released_notices o.chain))) (closed_first o.chain.top.0 o.chain.below e.cause))) in
+        let first = closing_told o.objects e.cause mid a h1 told closes in
+        let more = first ++ leaving_notices o.objects in
+        let both = closes_leave o.objects e e.cause mid a new h1 told h2 g.unshut g.kinds on closes lets in
         let lacks : any_lacks_route link o.speaker ns ≡ true = sym (k.spelled has.0).5 ∙ stuck in
+        let adds = adds_both link o.speaker first (leaving_notices o.objects) (g.hushed lacks a h1 told e.cause closes) (events_add link o.speaker (leaving_notices o.objects) (leaving_events o.objects)) in
+        let ends : first_close (ns ++ more) ≡ Some e.cause = first_close-append ns more ∙ (ap (λ z. or_else z (first_close more)) g.none ∙ both.close) in
         let kept : Keeps (with_exchange l came link (last_by o l link ns e.cause)) = subst (λ z. Keeps (with_exchange l came link (last_by o l link ns z))) (sym is) (g.stuck lacks) in
-        ends_so e more left None has first kept
+        ends_so e more both.left adds None has ends kept
         (λ well. absurd (let no : false ≡ true = sym (ap is_ok_cause is) ∙ well in cc))
         (λ bytes some. absurd (let no : Some bytes ≡ None = sym some ∙ g.silent in cc))
 

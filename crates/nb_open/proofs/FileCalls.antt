@@ -20,18 +20,21 @@ use Rattle.nb_tftp.specs.History.{Call, Entry, came, entry, given_of, got, recei
 use Rattle.nb_tftp.specs.Sentences.{Meets}
 use Rattle.nb_tftp.proofs.HistoryLemmas.{given-append}
 use Rattle.nb_machine.specs.CommandRecords.{no_route}
-use Rattle.nb_machine.specs.Kinds.{Keeps, KeepsBy, fetched_by, granted_of, resolved_of}
+use Rattle.nb_machine.specs.Kinds.{Keeps, KeepsBy, fetched_by, granted_of, moved_by, resolved_of}
 use Rattle.nb_machine.specs.Lives.{Exchange, Live, exchange, tftp}
 use Rattle.nb_machine.specs.Sendings.{acts_records, end_of, is_over_limit, too_large_image}
 use Rattle.nb_machine.specs.Transfers.{Exchanged, at_first, takes, closes, arrival_of, datagram_in, earlier, end_records, finds_none, transfer_of, transfer_end, transfer_records}
-use Rattle.nb_chains.specs.Calls.{IsOpenBy}
+use Rattle.nb_chains.specs.declared.chain.Chain.{Chain}
+use Rattle.nb_chains.specs.declared.kind.ChainKind.{ChainKind}
+use Rattle.nb_chains.specs.Calls.{IsOpenBy, IsOpenChain}
 use Rattle.nb_chains.specs.Chains.{IsShutBy, own_graph}
+use Rattle.nb_teller.specs.declared.speaker.Speaker.{Speaker}
 use Rattle.nb_teller.specs.Deliveries.{delivered_bytes}
 use Rattle.nb_teller.proofs.TellingLemmas.{SpeaksFor}
 use Rattle.nb_open.specs.declared.open.Open.{Open}
 use Rattle.nb_open.specs.Exchanges.{IsLeaseMessage, with_exchange}
 use Rattle.nb_open.specs.Open.{IsSpeakerOf, IsFetching, IsUnderWay, carrier_for}
-use Rattle.nb_open.proofs.Doings.{Did, fails, goes, last_by, overs, put_by}
+use Rattle.nb_open.proofs.Doings.{Did, chain_hushed, fails, goes, last_by, on_chain, overs, put_by}
 use Rattle.nb_open.proofs.Downs.{AreSendsBy, sends_by}
 use Rattle.nb_open.proofs.FileNotices.{CallNotices, call_so, large_so, meets_sends, notices_address, notices_bytes, notices_close, notices_lack, notices_others}
 
@@ -91,8 +94,11 @@ none_message found none bytes some = absurd (let no : Some bytes ≡ None = sym 
 
 -- A CALL
 
-module _ (o : Open) (l : Live) (old new : Objects Obj) (link : Client) (call : Call) (p : Port) (by : Way) (rec : ℕ) (ns : List Notice) (e : l.kind ≡ tftp) (called : IsSpeakerOf o l) (k : IsFetching o.chain old l) where
-  speaks : SpeaksFor o.speaker (transfer_of l)
+module _ (who : Speaker) (kind : ChainKind) (own : Chain) (l : Live) (old new : Objects Obj) (link : Client) (call : Call) (p : Port) (by : Way) (rec : ℕ) (ns : List Notice) (e : l.kind ≡ tftp) (called : IsSpeakerOf (on_chain who kind own) l) (k : IsFetching own old l) where
+  abbrev o : Open
+  o = on_chain who kind own
+
+  speaks : SpeaksFor who (transfer_of l)
   speaks = record { carrier = called.carrier ∙ ap carrier_for e; server = ap (λ (n : ℕ). record { 0 = n }) (sym called.server); own_port = sym called.own }
 
   called_still : (put : List Out) → IsSpeakerOf o (with_exchange l (arrival_of call) link put)
@@ -108,52 +114,56 @@ module _ (o : Open) (l : Live) (old new : Objects Obj) (link : Client) (call : C
   keeps put acts meets exchanged =
       subst (λ z. KeepsBy z (with_exchange l (arrival_of call) link put)) (sym e) (record { entries = k.entries ++ entry call acts ∷ []; exchanged = exchanged; meets = meets })
 
-  sends : (acts : Acts) → Meets (transfer_of l) l.since (k.entries ++ entry call acts ∷ []) → AreSendsBy o.speaker acts.sends.items
-  sends acts meets = sends_by o.speaker (transfer_of l) acts.sends.items speaks (meets_sends (transfer_of l) l.since k.entries call acts k.short meets)
+  sends : (acts : Acts) → Meets (transfer_of l) l.since (k.entries ++ entry call acts ∷ []) → AreSendsBy who acts.sends.items
+  sends acts meets = sends_by who (transfer_of l) acts.sends.items speaks (meets_sends (transfer_of l) l.since k.entries call acts k.short meets)
 
-  put_is : (acts : Acts) (end : Option Cause) → Meets (transfer_of l) l.since (k.entries ++ entry call acts ∷ []) → CallNotices o.chain.top.0 k.tftp.0 p by rec acts end ns → put_by o link ns ≡ acts_records link l.number acts
-  put_is acts end meets n = notices_others link o o.chain.top.0 k.tftp.0 p by rec acts end ns n (sends acts meets) ∙ ap (λ z. acts_records link z acts) (sym called.number)
+  put_is : (acts : Acts) (end : Option Cause) → Meets (transfer_of l) l.since (k.entries ++ entry call acts ∷ []) → CallNotices own.top.0 k.tftp.0 p by rec acts end ns → put_by o link ns ≡ acts_records link l.number acts
+  put_is acts end meets n = notices_others link o own.top.0 k.tftp.0 p by rec acts end ns n (sends acts meets) ∙ ap (λ z. acts_records link z acts) (sym called.number)
 
   -- it ended with this cause, and its objects have this body to hand out
   over_by : (acts : Acts) (c : Cause) (body : Option (List ℕ)) → Meets (transfer_of l) l.since (k.entries ++ entry call acts ∷ []) → end_of (file (got (k.entries ++ entry call acts ∷ []))) acts ≡ Some c →
-      CallNotices o.chain.top.0 k.tftp.0 p by rec acts (Some c) ns → HasHandedOut (own_graph o.chain new) o.chain.top.0 k.tftp.0 body → (is_ok_cause c ≡ true → body ≡ Some (file (got (k.entries ++ entry call acts ∷ [])))) →
+      CallNotices own.top.0 k.tftp.0 p by rec acts (Some c) ns → HasHandedOut (own_graph own new) own.top.0 k.tftp.0 body → (is_ok_cause c ≡ true → body ≡ Some (file (got (k.entries ++ entry call acts ∷ [])))) →
       Did o l (arrival_of call) link new ns
   over_by acts c body meets ends n has whole =
       let last = last_by o l link ns c in
       let l' = with_exchange l (arrival_of call) link last in
       let exchanged = more last acts (ap (λ z. z ++ end_records l.number (Some c)) (put_is acts (Some c) meets n) ∙ over_records l.number l.server link (file (got (k.entries ++ entry call acts ∷ []))) acts c ends) in
-      let nothing = notices_bytes link o o.chain.top.0 k.tftp.0 p by rec acts (Some c) ns n in
+      let nothing = notices_bytes link o own.top.0 k.tftp.0 p by rec acts (Some c) ns n in
       overs c (record {
-        closes = notices_close link o o.chain.top.0 k.tftp.0 p by rec acts (Some c) ns n;
-        shut = subst (λ z. IsShutBy z o.chain.top.0 (own_graph o.chain new)) (sym k.below) has.shut;
+        closes = notices_close link o own.top.0 k.tftp.0 p by rec acts (Some c) ns n;
+        shut = subst (λ z. IsShutBy z own.top.0 (own_graph own new)) (sym k.below) has.shut;
         kept = keeps last acts meets exchanged;
-        body = λ brought hands well. ap (λ z. fetched_by z l'.exchanges) e
-            ∙ (ap file (all_came l.number l.server (k.entries ++ entry call acts ∷ []) l'.exchanges exchanged)
-            ∙ sym (ap (λ z. unwrap_or z []) (hands.two k.tftp body k.below has ∙ whole well)));
+        brings = λ well. record {
+          body = λ b hands still. ap (λ z. fetched_by z l') e
+              ∙ (ap file (all_came l.number l.server (k.entries ++ entry call acts ∷ []) l'.exchanges exchanged)
+              ∙ sym (ap (λ z. unwrap_or z []) (hands.0.two k.tftp body k.below has ∙ whole well)));
+          moved = λ b hands. ap (λ z. moved_by z l') e ∙ sym hands.1;
+        };
         bytes = ap (λ z. granted_of z l'.exchanges) e ∙ sym nothing;
-        address = ap (λ z. resolved_of z l') e ∙ sym (notices_address link o o.chain.top.0 k.tftp.0 p by rec acts (Some c) ns n);
+        address = ap (λ z. resolved_of z l') e ∙ sym (notices_address link o own.top.0 k.tftp.0 p by rec acts (Some c) ns n);
         message = none_message (delivered_bytes ns) nothing;
       })
 
   whole_at_end : (c : Cause) (whole : List ℕ) → is_ok_cause c ≡ true → body_at_end c whole ≡ Some whole
   whole_at_end c whole ok = ap (λ b. cond b (Some whole) None) ok
 
-  pub file_did : CallDoes (own_graph o.chain new) o.chain.top.0 k.tftp.0 (transfer_of l) l.since k.entries (file (got k.entries)) p by rec call ns → Did o l (arrival_of call) link new ns
+  pub file_did : CallDoes (own_graph own new) own.top.0 k.tftp.0 (transfer_of l) l.since k.entries (file (got k.entries)) p by rec call ns → Did o l (arrival_of call) link new ns
   file_did (goes_on acts meets over fits same downloads) =
-      let n = call_so o.chain.top.0 k.tftp.0 p by rec acts ns same in
+      let n = call_so own.top.0 k.tftp.0 p by rec acts ns same in
       let body = body_now (transfer_of l) l.since k.entries call acts k.downloads.meets meets in
       let whole = file (got (k.entries ++ entry call acts ∷ [])) in
       let ends : end_of whole acts ≡ None = end_within whole acts (subst (λ b. length b ≤ 268435456) body fits) ∙ over in
       let put = put_is acts acts.over meets n in
-      let lack = notices_lack link o o.chain.top.0 k.tftp.0 p by rec acts acts.over ns n (sends acts meets) in
-      let downloads' = subst (λ z. Downloads (own_graph o.chain new) o.chain.top.0 k.tftp.0 (transfer_of l) l.since (k.entries ++ entry call acts ∷ []) z) body downloads in
+      let lack = notices_lack link o own.top.0 k.tftp.0 p by rec acts acts.over ns n (sends acts meets) in
+      let downloads' = subst (λ z. Downloads (own_graph own new) own.top.0 k.tftp.0 (transfer_of l) l.since (k.entries ++ entry call acts ∷ []) z) body downloads in
+      let unshut : IsOpenChain own new = subst (λ z. IsOpenBy z own.top.0 (own_graph own new)) (sym k.below) (inr (transfer_of l, l.since, k.entries ++ entry call acts ∷ [], whole, downloads')) in
       goes (record {
-        none = notices_close link o o.chain.top.0 k.tftp.0 p by rec acts acts.over ns n ∙ over;
-        unshut = subst (λ z. IsOpenBy z o.chain.top.0 (own_graph o.chain new)) (sym k.below) (inr (transfer_of l, l.since, k.entries ++ entry call acts ∷ [], whole, downloads'));
+        none = notices_close link o own.top.0 k.tftp.0 p by rec acts acts.over ns n ∙ over;
+        unshut = unshut;
         lives = λ no chained. record {
           chained = chained;
           called = called_still (put_by o link ns);
-          under_way = subst (λ z. IsUnderWay z o.chain new (with_exchange l (arrival_of call) link (put_by o link ns))) (sym e) (record {
+          under_way = subst (λ z. IsUnderWay z own new (with_exchange l (arrival_of call) link (put_by o link ns))) (sym e) (record {
             tftp = k.tftp;
             below = k.below;
             entries = k.entries ++ entry call acts ∷ [];
@@ -164,16 +174,18 @@ module _ (o : Open) (l : Live) (old new : Objects Obj) (link : Client) (call : C
         };
         stuck = λ yes. keeps (last_by o l link ns (no_route l.server)) acts meets
             (more (last_by o l link ns (no_route l.server)) acts (ap (λ z. z ++ end_records l.number (Some (no_route l.server))) put ∙ stuck_records l.number l.server link whole acts ends (sym lack ∙ yes)));
-        silent = notices_bytes link o o.chain.top.0 k.tftp.0 p by rec acts acts.over ns n;
+        silent = notices_bytes link o own.top.0 k.tftp.0 p by rec acts acts.over ns n;
+        kinds = tt;
+        hushed = λ yes after m n cause closes. chain_hushed link who own new after m n cause unshut closes;
       })
   file_did (is_over acts c meets over fits same has) =
-      let n = subst (λ z. CallNotices o.chain.top.0 k.tftp.0 p by rec acts z ns) over (call_so o.chain.top.0 k.tftp.0 p by rec acts ns same) in
+      let n = subst (λ z. CallNotices own.top.0 k.tftp.0 p by rec acts z ns) over (call_so own.top.0 k.tftp.0 p by rec acts ns same) in
       let body = body_now (transfer_of l) l.since k.entries call acts k.downloads.meets meets in
       let whole = file (got (k.entries ++ entry call acts ∷ [])) in
       let ends : end_of whole acts ≡ Some c = end_within whole acts (subst (λ b. length b ≤ 268435456) body fits) ∙ over in
-      over_by acts c (body_at_end c whole) meets ends n (subst (λ z. HasHandedOut (own_graph o.chain new) o.chain.top.0 k.tftp.0 (body_at_end c z)) body has) (whole_at_end c whole)
+      over_by acts c (body_at_end c whole) meets ends n (subst (λ z. HasHandedOut (own_graph own new) own.top.0 k.tftp.0 (body_at_end c z)) body has) (whole_at_end c whole)
   file_did (is_too_large acts meets long same has) =
-      let n = large_so o.chain.top.0 k.tftp.0 p by rec acts ns same in
+      let n = large_so own.top.0 k.tftp.0 p by rec acts ns same in
       let body = body_now (transfer_of l) l.since k.entries call acts k.downloads.meets meets in
       let whole = file (got (k.entries ++ entry call acts ∷ [])) in
       let ends : end_of whole acts ≡ Some body_too_large = end_beyond whole acts (subst (λ b. 268435456 < length b) body long) in

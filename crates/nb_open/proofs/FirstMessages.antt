@@ -29,7 +29,7 @@ asks_first m = record { sends = record { items = m ∷ [] }; tried = Some 1; adv
 abbrev pub first_of : Client → ℕ → SendTo → Option (List Out)
 first_of link k m = cond (has_route link m) (Some (send_records link k (Some 1) m)) None
 
-first_acts_are : (link : Client) (k : ℕ) (m : SendTo) → acts_records link k (asks_first m) ≡ send_records link k (Some 1) m
+pub first_acts_are : (link : Client) (k : ℕ) (m : SendTo) → acts_records link k (asks_first m) ≡ send_records link k (Some 1) m
 unfolding acts_records sends_records
 first_acts_are link k m = refl
 
@@ -66,18 +66,16 @@ module _ (o : Open) (link : Client) (m : SendTo) (ns : List Notice) (none : firs
       by_none false h xs = refl
 
 -- of one core
-pub alone_first : (o : Open) (link : Client) (m : SendTo) (rec : ℕ) (ns : List Notice) → AreSendsBy o.speaker (m ∷ []) → ns ≡ alone_call o.chain.top.0 (port_at o.chain.top.0 0) way.Down rec (asks_first m) [] → AsksAtFirst o link m ns
-alone_first o link m rec ns sends same =
-    let x = o.chain.top.0 in
+pub alone_first : (o : Open) (link : Client) (m : SendTo) (x rec : ℕ) (ns : List Notice) → AreSendsBy o.speaker (m ∷ []) → ns ≡ alone_call x (port_at x 0) way.Down rec (asks_first m) [] → AsksAtFirst o link m ns
+alone_first o link m x rec ns sends same =
     asks_at_first o link m ns
     (ap first_close same ∙ alone_closes x (port_at x 0) way.Down rec (asks_first m) [])
     (ap (put_by o link) same ∙ alone_others link o x (port_at x 0) way.Down rec (asks_first m) [] tt sends)
     (ap (any_lacks_route link o.speaker) same ∙ alone_lacks link o x (port_at x 0) way.Down rec (asks_first m) [] tt sends)
 
 -- and of a transfer
-pub two_first : (o : Open) (link : Client) (m : SendTo) (t rec : ℕ) (ns : List Notice) → AreSendsBy o.speaker (m ∷ []) → ns ≡ begun_notices o.chain.top.0 t rec (asks_first m) → AsksAtFirst o link m ns
-two_first o link m t rec ns sends same =
-    let f = o.chain.top.0 in
+pub two_first : (o : Open) (link : Client) (m : SendTo) (f t rec : ℕ) (ns : List Notice) → AreSendsBy o.speaker (m ∷ []) → ns ≡ begun_notices f t rec (asks_first m) → AsksAtFirst o link m ns
+two_first o link m f t rec ns sends same =
     let front : List Notice = tells (Entered (port_at f 0) way.Down) ∷ tells (Entered (port_at t 0) way.Down) ∷ [] in
     let back : List Notice = tells (Left (port_at t 0)) ∷ tells (Left (port_at f 0)) ∷ [] in
     asks_at_first o link m ns

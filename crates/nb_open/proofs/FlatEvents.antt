@@ -16,7 +16,7 @@ abbrev way_in : ℕ → Way
 way_in n = cond (n == 0) Up (cond (n == 1) Down (cond (n == 2) Close Time))
 
 -- the event that is traced so
-abbrev event_in : Event → GraphEvent
+abbrev pub event_in : Event → GraphEvent
 event_in e =
     cond (e.event == 1) (Made (serial e.object) e.other)
     (cond (e.event == 2) (Held (serial e.object))
@@ -35,7 +35,7 @@ way_is Down = refl
 way_is Close = refl
 way_is Time = refl
 
-in_flat : (g : GraphEvent) → event_in (flat g) ≡ g
+pub in_flat : (g : GraphEvent) → event_in (flat g) ≡ g
 in_flat (Made x kind) = refl
 in_flat (Held x) = refl
 in_flat (LetGo x) = refl

@@ -1,5 +1,5 @@
 -- An open that lives has kept its promises, also where it is closed from above, and stays what it is where its objects stay.
-use Rattle.std.proofs.Common.{◌≡◌, ℕ, sym, subst}
+use Rattle.std.proofs.Common.{◌≡◌, ℕ, [], sym, subst}
 use Rattle.nb_terms.specs.declared.cause.Cause.{Cause}
 use Rattle.nb_graph.specs.Whole.{Objects}
 use Rattle.nb_nodes.specs.declared.obj.Obj.{Obj}
@@ -11,37 +11,61 @@ use Rattle.nb_tftp.specs.Blocks.{file}
 use Rattle.nb_tftp.specs.History.{got}
 use Rattle.nb_machine.specs.Cores.{KeepsCore, closes as core_closes}
 use Rattle.nb_machine.specs.Kinds.{Keeps, KeepsBy}
-use Rattle.nb_machine.specs.Lives.{OpenKind, tftp, dns, dhcp, ping, Live}
+use Rattle.nb_machine.specs.Lives.{OpenKind, tftp, http, dns, dhcp, ping, Live}
 use Rattle.nb_machine.specs.Transfers.{closes as transfer_closes, transfer_of}
-use Rattle.nb_chains.specs.Chains.{StaysChained, chain_ids, own_graph}
+use Rattle.nb_chains.specs.Chains.{AreChained, StaysChained, own_graph}
 use Rattle.nb_chains.specs.declared.chain.Chain.{Chain}
+use Rattle.nb_wire.specs.declared.address.Ip4.{Ip4}
+use Rattle.nb_machine.specs.Connections.{connection_of, talk_of}
+use Rattle.nb_machine.specs.Webs.{web_at}
+use Rattle.nb_webchains.specs.declared.web_chain.WebChain.{WebChain}
+use Rattle.nb_webchains.specs.WebChains.{web_ids}
+use Rattle.nb_webtalks.proofs.Staying.{hosted_still, kinds_still, open_still}
+use Rattle.nb_webtalks.proofs.TalkLemmas.{same_three}
+use Rattle.nb_open.specs.declared.objects.OpenObjects.{OpenObjects}
+use Rattle.nb_open.specs.declared.objects.OpenObjects.TheVariants as objects
+use Rattle.nb_open.specs.Objects.{AreObjectsChained, objects_ids}
 use Rattle.nb_open.specs.declared.open.Open.{Open}
 use Rattle.nb_open.specs.Ends.{closed_open}
-use Rattle.nb_open.specs.Open.{IsAskingCore, IsFetching, IsOpenOf, IsUnderWay}
+use Rattle.nb_open.specs.Open.{AreUnderWay, IsAskingCore, IsFetching, IsOpenOf, IsUnderWay, IsWebUnderWay, ask_of}
 
 asking_keeps : {S B C : Type 0} (s : Service S B C) (kind : ℕ) (b : B) (c : Chain) (g : Objects Obj) (l : Live) → IsAskingCore s kind b c g l → KeepsCore s b l
 asking_keeps s kind b c g l h = record { calls = h.calls; exchanged = h.exchanged; meets = h.talks.meets }
 
 keeps_by : (k : OpenKind) (c : Chain) (g : Objects Obj) (l : Live) → IsUnderWay k c g l → KeepsBy k l
 keeps_by tftp c g l h = record { entries = h.entries; exchanged = h.exchanged; meets = h.downloads.meets }
+keeps_by (http isn) c g l h = absurd h
 keeps_by (dns id) c g l h = asking_keeps _ _ _ c g l h
 keeps_by (dhcp a) c g l h = asking_keeps _ _ _ c g l h
 keeps_by ping c g l h = asking_keeps _ _ _ c g l h
 
-pub open_keeps : (g : Objects Obj) (o : Open) (l : Live) → IsOpenOf g o l → Keeps l
-open_keeps g o l h = keeps_by l.kind o.chain g l h.under_way
+web_keeps : (k : OpenKind) (own : Ip4) (c : WebChain) (g : Objects Obj) (l : Live) → IsWebUnderWay k own c g l → KeepsBy k l
+web_keeps tftp own c g l h = absurd h
+web_keeps (http isn) own c g l h = h.keeps
+web_keeps (dns id) own c g l h = absurd h
+web_keeps (dhcp a) own c g l h = absurd h
+web_keeps ping own c g l h = absurd h
 
-core_keeps : {S B C : Type 0} (s : Service S B C) (b : B) (l : Live) (cause : Cause) (link : Client) → KeepsCore s b l → KeepsCore s b (closed_open l cause link)
+objects_keep : (o : OpenObjects) (g : Objects Obj) (l : Live) → AreUnderWay o g l → Keeps l
+objects_keep (objects.Chain kind chain) g l h = keeps_by l.kind chain g l h
+objects_keep (objects.Web port own chain) g l h = web_keeps l.kind own chain g l h
+
+pub open_keeps : (g : Objects Obj) (o : Open) (l : Live) → IsOpenOf g o l → Keeps l
+open_keeps g o l h = objects_keep o.objects g l h.under_way
+
+core_keeps : {S B C : Type 0} (s : Service S B C) (b : B) (l : Live) (cause : Cause) (link : Client) → KeepsCore s b l → KeepsCore s b (closed_open l cause link [])
 core_keeps s b l cause link h = record { calls = h.calls; exchanged = core_closes h.calls l.exchanges link cause h.exchanged; meets = h.meets }
 
-closed_by_kind : (k : OpenKind) (l : Live) (cause : Cause) (link : Client) → KeepsBy k l → KeepsBy k (closed_open l cause link)
-closed_by_kind tftp l cause link h = record { entries = h.entries; exchanged = transfer_closes h.entries l.exchanges link cause h.exchanged; meets = h.meets }
-closed_by_kind (dns id) l cause link h = core_keeps _ _ l cause link h
-closed_by_kind (dhcp a) l cause link h = core_keeps _ _ l cause link h
-closed_by_kind ping l cause link h = core_keeps _ _ l cause link h
+closed_by_kind : (k : OpenKind) (c : Chain) (g : Objects Obj) (l : Live) (cause : Cause) (link : Client) → IsUnderWay k c g l → KeepsBy k (closed_open l cause link [])
+closed_by_kind tftp c g l cause link h = record { entries = h.entries; exchanged = transfer_closes h.entries l.exchanges link cause h.exchanged; meets = h.downloads.meets }
+closed_by_kind (http isn) c g l cause link h = absurd h
+closed_by_kind (dns id) c g l cause link h = core_keeps _ _ l cause link (keeps_by (dns id) c g l h)
+closed_by_kind (dhcp a) c g l cause link h = core_keeps _ _ l cause link (keeps_by (dhcp a) c g l h)
+closed_by_kind ping c g l cause link h = core_keeps _ _ l cause link (keeps_by ping c g l h)
 
-pub closed_keeps : (l : Live) (cause : Cause) (link : Client) → Keeps l → Keeps (closed_open l cause link)
-closed_keeps l cause link h = closed_by_kind l.kind l cause link h
+-- a chain sends nothing where it is closed from above
+pub closed_keeps : (c : Chain) (g : Objects Obj) (l : Live) (cause : Cause) (link : Client) → IsUnderWay l.kind c g l → Keeps (closed_open l cause link [])
+closed_keeps c g l cause link h = closed_by_kind l.kind c g l cause link h
 
 -- on the same graph of its objects
 fetching_stays : (c : Chain) (g h : Objects Obj) (l : Live) → own_graph c h ≡ own_graph c g → IsFetching c g l → IsFetching c h l
@@ -52,9 +76,28 @@ asking_stays s kind b c g h l same k = record { below = k.below; calls = k.calls
 
 stays_by : (k : OpenKind) (c : Chain) (g h : Objects Obj) (l : Live) → own_graph c h ≡ own_graph c g → IsUnderWay k c g l → IsUnderWay k c h l
 stays_by tftp c g h l same k = fetching_stays c g h l same k
+stays_by (http isn) c g h l same k = absurd k
 stays_by (dns id) c g h l same k = asking_stays _ _ _ c g h l same k
 stays_by (dhcp a) c g h l same k = asking_stays _ _ _ c g h l same k
 stays_by ping c g h l same k = asking_stays _ _ _ c g h l same k
 
-pub open_stays : (g h : Objects Obj) (o : Open) (l : Live) → StaysChained (chain_ids o.chain) g h → IsOpenOf g o l → IsOpenOf h o l
-open_stays g h o l stays is = record { chained = stays.chained; called = is.called; under_way = stays_by l.kind o.chain g h l stays.same_graph is.under_way }
+web_stays : (k : OpenKind) (own : Ip4) (c : WebChain) (g h : Objects Obj) (l : Live) → AreChained g (web_ids c) → StaysChained (web_ids c) g h → IsWebUnderWay k own c g l → IsWebUnderWay k own c h l
+web_stays tftp own c g h l was stays k = absurd k
+web_stays (http isn) own c g h l was stays k = record {
+  opened = open_still c g h was stays.chained stays.same_graph k.hosted k.opened;
+  kinds = kinds_still c g h was stays.chained stays.same_graph k.hosted k.kinds;
+  hosted = hosted_still c g h was stays.chained stays.same_graph k.hosted;
+  stands = same_three (ask_of isn own l) l.since (talk_of (web_at l.target) (connection_of isn l) l.exchanges).calls c g h stays.same_graph k.stands;
+  keeps = k.keeps;
+  asked = k.asked;
+}
+web_stays (dns id) own c g h l was stays k = absurd k
+web_stays (dhcp a) own c g h l was stays k = absurd k
+web_stays ping own c g h l was stays k = absurd k
+
+objects_stay : (o : OpenObjects) (g h : Objects Obj) (l : Live) → AreObjectsChained g o → StaysChained (objects_ids o) g h → AreUnderWay o g l → AreUnderWay o h l
+objects_stay (objects.Chain kind chain) g h l was stays k = stays_by l.kind chain g h l stays.same_graph k
+objects_stay (objects.Web port own chain) g h l was stays k = web_stays l.kind own chain g h l was stays k
+
+pub open_stays : (g h : Objects Obj) (o : Open) (l : Live) → StaysChained (objects_ids o.objects) g h → IsOpenOf g o l → IsOpenOf h o l
+open_stays g h o l stays is = record { chained = stays.chained; called = is.called; under_way = objects_stay o.objects g h l is.chained stays is.under_way }

@@ -20,7 +20,10 @@ use Rattle.nb_nodes.specs.Exchanges.{Service}
 use Rattle.nb_nodes.specs.LookupExchanges.{dns_datagram_in, lookup_service}
 use Rattle.nb_nodes.specs.LeaseExchanges.{handed_in, lease_service}
 use Rattle.nb_nodes.specs.EchoExchanges.{ping_service, reply_in}
+use Rattle.nb_chains.specs.declared.chain.Chain.{Chain}
+use Rattle.nb_chains.specs.declared.kind.ChainKind.{ChainKind}
 use Rattle.nb_chains.specs.declared.kind.ChainKind.TheVariants as chain
+use Rattle.nb_teller.specs.declared.speaker.Speaker.{Speaker}
 use Rattle.nb_chains.specs.declared.arrival.Arrival.{Arrival}
 use Rattle.nb_opens.specs.Alones.{AsksOrIgnores, fails_before, is_ignored, is_taken}
 use Rattle.nb_stack.specs.Client.{Client}
@@ -29,7 +32,7 @@ use Rattle.nb_tftp.specs.History.{came as comes, got, ticked}
 use Rattle.nb_tftp.specs.Received.{received as datagram_received}
 use Rattle.nb_machine.specs.Cores.{CoreExchanged, core_records, look_up_of, ping_of, takes_message, takes_time}
 use Rattle.nb_machine.specs.Kinds.{KeepsBy}
-use Rattle.nb_machine.specs.Lives.{OpenInput, OpenKind, tftp, dns, dhcp, ping, Live, exchange, message, time}
+use Rattle.nb_machine.specs.Lives.{OpenInput, OpenKind, tftp, http, dns, dhcp, ping, Live, exchange, message, time}
 use Rattle.nb_machine.specs.Transfers.{transfer_of}
 use Rattle.nb_chains.specs.Calls.{CallsTwo, ReceivesOne, TicksOne, arrival_said}
 use Rattle.nb_chains.specs.Chains.{own_graph}
@@ -40,10 +43,13 @@ use Rattle.nb_open.specs.Exchanges.{SuitsBy, with_exchange}
 use Rattle.nb_open.specs.Open.{IsAskingCore, IsOpenOf, IsUnderWay}
 use Rattle.nb_open.proofs.CoreCalls.{CoreCall, core_did}
 use Rattle.nb_open.proofs.CoreKinds.{echo_finds, echo_sends, lease_finds, lease_sends, name_finds, name_sends}
-use Rattle.nb_open.proofs.Doings.{Did, fails}
+use Rattle.nb_open.proofs.Doings.{Did, fails, on_chain}
 use Rattle.nb_open.proofs.FileCalls.{file_did}
 
-module _ (o : Open) (l : Live) (old new : Objects Obj) (link : Client) (ns : List Notice) (is : IsOpenOf old o l) where
+module _ (who : Speaker) (kind : ChainKind) (own : Chain) (l : Live) (old new : Objects Obj) (link : Client) (ns : List Notice) (is : IsOpenOf old (on_chain who kind own) l) where
+  abbrev o : Open
+  o = on_chain who kind own
+
   -- an exchange more of a core
   abbrev More : {S B C : Type 0} → Service S B C → List C → (Acts → C) → OpenInput → Type 0
   More {S} {B} {C} s calls call came =
@@ -63,51 +69,51 @@ module _ (o : Open) (l : Live) (old new : Objects Obj) (link : Client) (ns : Lis
     by_time now put acts e =
         subst (λ z. CoreExchanged s l.number l.server (calls ++ s.timed now acts ∷ []) (l.exchanges ++ exchange (time now) link z ∷ [])) (sym e) (takes_time calls l.exchanges link now acts h)
 
-  name_core : (id : ℕ) (e : l.kind ≡ dns id) (k : IsAskingCore lookup_service (top_mark chain.Name) (look_up_of id l) o.chain old l) (came : OpenInput) (call : LookupCall) (p : Port) (by : Way) (rec : ℕ) →
-      More lookup_service k.calls (λ acts. lookup_entry call acts) came → CoreCall lookup_service (top_mark chain.Name) (look_up_of id l) o l came link new k.calls (λ acts. lookup_entry call acts) p by rec
+  name_core : (id : ℕ) (e : l.kind ≡ dns id) (k : IsAskingCore lookup_service (top_mark chain.Name) (look_up_of id l) own old l) (came : OpenInput) (call : LookupCall) (p : Port) (by : Way) (rec : ℕ) →
+      More lookup_service k.calls (λ acts. lookup_entry call acts) came → CoreCall lookup_service (top_mark chain.Name) (look_up_of id l) who kind own l came link new k.calls (λ acts. lookup_entry call acts) p by rec
   name_core id e k came call p by rec more = record {
     alone = k.below;
     called = is.called;
     more = more;
     sends = λ acts meets. name_sends o l id l.since k.calls call acts is.called e meets;
     gives = lookup_gives;
-    under_way = λ put h. subst (λ z. IsUnderWay z o.chain new (with_exchange l came link put)) (sym e) h;
+    under_way = λ put h. subst (λ z. IsUnderWay z own new (with_exchange l came link put)) (sym e) h;
     keeps = λ put h. subst (λ z. KeepsBy z (with_exchange l came link put)) (sym e) h;
-    finds = λ put acts given exchanged gives. name_finds (with_exchange l came link put) o.chain.top.0 p by rec acts given id (k.calls ++ lookup_entry call acts ∷ []) e exchanged gives;
+    finds = λ put acts given exchanged gives. name_finds (with_exchange l came link put) own.top.0 p by rec acts given id (k.calls ++ lookup_entry call acts ∷ []) e exchanged gives;
   }
 
-  lease_core : (a : Asker) (e : l.kind ≡ dhcp a) (k : IsAskingCore lease_service (top_mark chain.Lease) a o.chain old l) (came : OpenInput) (call : LeaseCall) (p : Port) (by : Way) (rec : ℕ) →
-      More lease_service k.calls (λ acts. lease_entry call acts) came → CoreCall lease_service (top_mark chain.Lease) a o l came link new k.calls (λ acts. lease_entry call acts) p by rec
+  lease_core : (a : Asker) (e : l.kind ≡ dhcp a) (k : IsAskingCore lease_service (top_mark chain.Lease) a own old l) (came : OpenInput) (call : LeaseCall) (p : Port) (by : Way) (rec : ℕ) →
+      More lease_service k.calls (λ acts. lease_entry call acts) came → CoreCall lease_service (top_mark chain.Lease) a who kind own l came link new k.calls (λ acts. lease_entry call acts) p by rec
   lease_core a e k came call p by rec more = record {
     alone = k.below;
     called = is.called;
     more = more;
     sends = λ acts meets. lease_sends o l a l.since k.calls call acts is.called e meets;
     gives = lease_gives;
-    under_way = λ put h. subst (λ z. IsUnderWay z o.chain new (with_exchange l came link put)) (sym e) h;
+    under_way = λ put h. subst (λ z. IsUnderWay z own new (with_exchange l came link put)) (sym e) h;
     keeps = λ put h. subst (λ z. KeepsBy z (with_exchange l came link put)) (sym e) h;
-    finds = λ put acts given exchanged gives. lease_finds (with_exchange l came link put) o.chain.top.0 p by rec acts given a (k.calls ++ lease_entry call acts ∷ []) e exchanged gives;
+    finds = λ put acts given exchanged gives. lease_finds (with_exchange l came link put) own.top.0 p by rec acts given a (k.calls ++ lease_entry call acts ∷ []) e exchanged gives;
   }
 
-  echo_core : (e : l.kind ≡ ping) (k : IsAskingCore ping_service (top_mark chain.Echo) (ping_of l) o.chain old l) (came : OpenInput) (call : PingCall) (p : Port) (by : Way) (rec : ℕ) →
-      More ping_service k.calls (λ acts. ping_entry call acts) came → CoreCall ping_service (top_mark chain.Echo) (ping_of l) o l came link new k.calls (λ acts. ping_entry call acts) p by rec
+  echo_core : (e : l.kind ≡ ping) (k : IsAskingCore ping_service (top_mark chain.Echo) (ping_of l) own old l) (came : OpenInput) (call : PingCall) (p : Port) (by : Way) (rec : ℕ) →
+      More ping_service k.calls (λ acts. ping_entry call acts) came → CoreCall ping_service (top_mark chain.Echo) (ping_of l) who kind own l came link new k.calls (λ acts. ping_entry call acts) p by rec
   echo_core e k came call p by rec more = record {
     alone = k.below;
     called = is.called;
     more = more;
     sends = λ acts meets. echo_sends o l l.since k.calls call acts is.called e meets;
     gives = ping_gives;
-    under_way = λ put h. subst (λ z. IsUnderWay z o.chain new (with_exchange l came link put)) (sym e) h;
+    under_way = λ put h. subst (λ z. IsUnderWay z own new (with_exchange l came link put)) (sym e) h;
     keeps = λ put h. subst (λ z. KeepsBy z (with_exchange l came link put)) (sym e) h;
-    finds = λ put acts given exchanged gives. echo_finds (with_exchange l came link put) o.chain.top.0 p by rec acts given (k.calls ++ ping_entry call acts ∷ []) e gives;
+    finds = λ put acts given exchanged gives. echo_finds (with_exchange l came link put) own.top.0 p by rec acts given (k.calls ++ ping_entry call acts ∷ []) e gives;
   }
 
   -- a message that the core takes
-  core_receives : {S B C : Type 0} (s : Service S B C) (kind : ℕ) (b : B) (calls : List C) (m : Said) (now : ℕ) (input : OpenInput) → CoreCall s kind b o l input link new calls (s.received m now) (port_at o.chain.top.0 1) way.Up m.rec →
-      s.takes 1 m ≡ true → AsksOrIgnores s kind (own_graph o.chain new) o.chain.top.0 b l.since calls m now ns → Did o l input link new ns
-  core_receives s kind b calls m now input k takes (is_taken _ more) = core_did s kind b o l input link new calls (s.received m now) (port_at o.chain.top.0 1) way.Up m.rec k ns more
-  core_receives s kind b calls m now input k takes (is_ignored ignores same talks) = absurd (let wrong : true ≡ false = sym takes ∙ ignores in cc)
-  core_receives s kind b calls m now input k takes (fails_before memory) = fails memory
+  core_receives : {S B C : Type 0} (s : Service S B C) (mark : ℕ) (b : B) (calls : List C) (m : Said) (now : ℕ) (input : OpenInput) → CoreCall s mark b who kind own l input link new calls (s.received m now) (port_at own.top.0 1) way.Up m.rec →
+      s.takes 1 m ≡ true → AsksOrIgnores s mark (own_graph own new) own.top.0 b l.since calls m now ns → Did o l input link new ns
+  core_receives s mark b calls m now input k takes (is_taken _ more) = core_did s mark b who kind own l input link new calls (s.received m now) (port_at own.top.0 1) way.Up m.rec k ns more
+  core_receives s mark b calls m now input k takes (is_ignored ignores same talks) = absurd (let wrong : true ≡ false = sym takes ∙ ignores in cc)
+  core_receives s mark b calls m now input k takes (fails_before memory) = fails memory
 
   is_port : (n : ℕ) → n < 65536 → nat_lt n 65536 ≡ true
   is_port n h = grind (arith, nat_tests)
@@ -115,43 +121,45 @@ module _ (o : Open) (l : Live) (old new : Objects Obj) (link : Client) (ns : Lis
   is_short : (n : ℕ) → n ≤ 1480 → nat_le n 1480 ≡ true
   is_short n h = grind (arith, nat_tests)
 
-  module _ (rec : ℕ) (a : Arrival) (now : ℕ) (short : length a.body.now ≤ 1480) (small : a.port < 65536) (two : CallsTwo o.chain old new (λ t. port_at t 1) way.Up rec (comes (datagram_received rec a.port a.body.now) now) ns) (one : ReceivesOne o.chain old new (arrival_said rec a) now ns) where
-    received_by_kind : (k : OpenKind) → l.kind ≡ k → IsUnderWay k o.chain old l → SuitsBy k l a → Did o l (message rec a.port a.body.now now) link new ns
+  module _ (rec : ℕ) (a : Arrival) (now : ℕ) (short : length a.body.now ≤ 1480) (small : a.port < 65536) (two : CallsTwo own old new (λ t. port_at t 1) way.Up rec (comes (datagram_received rec a.port a.body.now) now) ns) (one : ReceivesOne own old new (arrival_said rec a) now ns) where
+    received_by_kind : (k : OpenKind) → l.kind ≡ k → IsUnderWay k own old l → SuitsBy k l a → Did o l (message rec a.port a.body.now now) link new ns
     received_by_kind tftp e k suits =
-        file_did o l old new link (comes (datagram_received rec a.port a.body.now) now) (port_at k.tftp.0 1) way.Up rec ns e is.called k
+        file_did who kind own l old new link (comes (datagram_received rec a.port a.body.now) now) (port_at k.tftp.0 1) way.Up rec ns e is.called k
         (two k.tftp k.below (transfer_of l) l.since k.entries (file (got k.entries)) k.downloads)
+    received_by_kind (http isn) e k suits = absurd k
     received_by_kind (dns id) e k suits =
         let input : OpenInput = message rec a.port a.body.now now in
         core_receives lookup_service (top_mark chain.Name) (look_up_of id l) k.calls (arrival_said rec a) now input
-        (name_core id e k input (arrived (dns_datagram_in (arrival_said rec a)) now) (port_at o.chain.top.0 1) way.Up rec (by_message lookup_service k.calls k.exchanged rec a.port a.body.now now a.source.0 suits.0))
+        (name_core id e k input (arrived (dns_datagram_in (arrival_said rec a)) now) (port_at own.top.0 1) way.Up rec (by_message lookup_service k.calls k.exchanged rec a.port a.body.now now a.source.0 suits.0))
         (subst (λ z. lookup_service.takes 1 (record { tag = tag_number Datagram; rec = rec; a = z; b = a.source.0; bytes = a.body.now }) ≡ true) (sym suits.1) refl) ((one k.below).lookup (look_up_of id l) l.since k.calls k.talks)
-    received_by_kind (dhcp who) e k suits =
+    received_by_kind (dhcp of) e k suits =
         let input : OpenInput = message rec a.port a.body.now now in
-        core_receives lease_service (top_mark chain.Lease) who k.calls (arrival_said rec a) now input
-        (lease_core who e k input (replied (handed_in (arrival_said rec a)) now) (port_at o.chain.top.0 1) way.Up rec (by_message lease_service k.calls k.exchanged rec a.port a.body.now now l.server refl))
-        (subst (λ z. lease_service.takes 1 (record { tag = tag_number Datagram; rec = rec; a = z; b = a.source.0; bytes = a.body.now }) ≡ true) (sym suits) (is_short (length a.body.now) short)) ((one k.below).lease who l.since k.calls k.talks)
+        core_receives lease_service (top_mark chain.Lease) of k.calls (arrival_said rec a) now input
+        (lease_core of e k input (replied (handed_in (arrival_said rec a)) now) (port_at own.top.0 1) way.Up rec (by_message lease_service k.calls k.exchanged rec a.port a.body.now now l.server refl))
+        (subst (λ z. lease_service.takes 1 (record { tag = tag_number Datagram; rec = rec; a = z; b = a.source.0; bytes = a.body.now }) ≡ true) (sym suits) (is_short (length a.body.now) short)) ((one k.below).lease of l.since k.calls k.talks)
     received_by_kind ping e k suits =
         let input : OpenInput = message rec a.port a.body.now now in
         core_receives ping_service (top_mark chain.Echo) (ping_of l) k.calls (arrival_said rec a) now input
-        (echo_core e k input (echoed (reply_in (arrival_said rec a)) now) (port_at o.chain.top.0 1) way.Up rec (by_message ping_service k.calls k.exchanged rec a.port a.body.now now a.source.0 suits.0))
+        (echo_core e k input (echoed (reply_in (arrival_said rec a)) now) (port_at own.top.0 1) way.Up rec (by_message ping_service k.calls k.exchanged rec a.port a.body.now now a.source.0 suits.0))
         (is_port a.port small) ((one k.below).ping (ping_of l) l.since k.calls k.talks)
 
     pub received : SuitsBy l.kind l a → Did o l (message rec a.port a.body.now now) link new ns
     received suits = received_by_kind l.kind refl is.under_way suits
 
-  module _ (now : ℕ) (two : CallsTwo o.chain old new (λ t. port_at t 4) way.Time 0 (ticked now) ns) (one : TicksOne o.chain old new now ns) where
-    ticked_by_kind : (k : OpenKind) → l.kind ≡ k → IsUnderWay k o.chain old l → Did o l (time now) link new ns
+  module _ (now : ℕ) (two : CallsTwo own old new (λ t. port_at t 4) way.Time 0 (ticked now) ns) (one : TicksOne own old new now ns) where
+    ticked_by_kind : (k : OpenKind) → l.kind ≡ k → IsUnderWay k own old l → Did o l (time now) link new ns
     ticked_by_kind tftp e k =
-        file_did o l old new link (ticked now) (port_at k.tftp.0 4) way.Time 0 ns e is.called k (two k.tftp k.below (transfer_of l) l.since k.entries (file (got k.entries)) k.downloads)
+        file_did who kind own l old new link (ticked now) (port_at k.tftp.0 4) way.Time 0 ns e is.called k (two k.tftp k.below (transfer_of l) l.since k.entries (file (got k.entries)) k.downloads)
+    ticked_by_kind (http isn) e k = absurd k
     ticked_by_kind (dns id) e k =
-        core_did lookup_service (top_mark chain.Name) (look_up_of id l) o l (time now) link new k.calls (lookup_service.timed now) (port_at o.chain.top.0 4) way.Time 0
-        (name_core id e k (time now) (clocked now) (port_at o.chain.top.0 4) way.Time 0 (by_time lookup_service k.calls k.exchanged now)) ns ((one k.below).lookup (look_up_of id l) l.since k.calls k.talks)
-    ticked_by_kind (dhcp who) e k =
-        core_did lease_service (top_mark chain.Lease) who o l (time now) link new k.calls (lease_service.timed now) (port_at o.chain.top.0 4) way.Time 0
-        (lease_core who e k (time now) (elapsed now) (port_at o.chain.top.0 4) way.Time 0 (by_time lease_service k.calls k.exchanged now)) ns ((one k.below).lease who l.since k.calls k.talks)
+        core_did lookup_service (top_mark chain.Name) (look_up_of id l) who kind own l (time now) link new k.calls (lookup_service.timed now) (port_at own.top.0 4) way.Time 0
+        (name_core id e k (time now) (clocked now) (port_at own.top.0 4) way.Time 0 (by_time lookup_service k.calls k.exchanged now)) ns ((one k.below).lookup (look_up_of id l) l.since k.calls k.talks)
+    ticked_by_kind (dhcp of) e k =
+        core_did lease_service (top_mark chain.Lease) of who kind own l (time now) link new k.calls (lease_service.timed now) (port_at own.top.0 4) way.Time 0
+        (lease_core of e k (time now) (elapsed now) (port_at own.top.0 4) way.Time 0 (by_time lease_service k.calls k.exchanged now)) ns ((one k.below).lease of l.since k.calls k.talks)
     ticked_by_kind ping e k =
-        core_did ping_service (top_mark chain.Echo) (ping_of l) o l (time now) link new k.calls (ping_service.timed now) (port_at o.chain.top.0 4) way.Time 0
-        (echo_core e k (time now) (waited now) (port_at o.chain.top.0 4) way.Time 0 (by_time ping_service k.calls k.exchanged now)) ns ((one k.below).ping (ping_of l) l.since k.calls k.talks)
+        core_did ping_service (top_mark chain.Echo) (ping_of l) who kind own l (time now) link new k.calls (ping_service.timed now) (port_at own.top.0 4) way.Time 0
+        (echo_core e k (time now) (waited now) (port_at own.top.0 4) way.Time 0 (by_time ping_service k.calls k.exchanged now)) ns ((one k.below).ping (ping_of l) l.since k.calls k.talks)
 
     pub passed : Did o l (time now) link new ns
     passed = ticked_by_kind l.kind refl is.under_way

@@ -11,6 +11,9 @@ pub mod CoreKinds
 pub mod FileNotices
 pub mod FileCalls
 pub mod KindCalls
+pub mod Comings
+pub mod WebExchanges
+pub mod WebReceiving
 pub mod Keepings
 pub mod Endings
 pub mod Leaving
@@ -22,6 +25,12 @@ pub mod GivingUp
 pub mod Newest
 pub mod FirstMessages
 pub mod AskingFirst
+pub mod WebPuts
+pub mod WebCloses
+pub mod WebRecords
+pub mod WebTimes
+pub mod WebBegins
+pub mod AskReading
 pub mod SettingOut
 pub mod ObjectsMade
 pub mod LeavingElse

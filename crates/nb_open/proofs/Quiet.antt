@@ -1,5 +1,5 @@
 -- Notices by which nothing goes to the network: they have no records but the graph's, and lack no route.
-use Rattle.std.proofs.Common.{◌≡◌, inl, inr, ℕ, ◌||◌, false, List, [], ◌∷◌, ◌++◌, map, refl, sym, ◌∙◌, ap, subst, append-nil}
+use Rattle.std.proofs.Common.{◌≡◌, inl, inr, ℕ, ◌||◌, false, List, [], ◌∷◌, ◌++◌, map, None, refl, sym, ◌∙◌, ap, subst, append-nil}
 use Rattle.std.proofs.Math.Bool.{or-false}
 use Rattle.std.specs.List.{AllByRecursion}
 use Rattle.std.proofs.lemmas.List.Folds.{list_any-append}
@@ -15,6 +15,8 @@ use Rattle.nb_teller.specs.declared.speaker.Speaker.{Speaker}
 use Rattle.nb_teller.specs.Tellings.{any_lacks_route, lacks_route, message_records, message_lacks_route, told_records}
 use Rattle.nb_traced.proofs.Plain.{plain_append}
 use Rattle.nb_teller.proofs.TellingLemmas.{told-append}
+use Rattle.nb_teller.specs.Deliveries.{delivered_bytes, delivered_address}
+use Rattle.nb_open.proofs.Delivering.{AreEvents, address_then, bytes_then, no_address, no_bytes}
 
 -- an event, or a message to the user
 abbrev pub IsQuiet : Notice → Type 0
@@ -78,3 +80,36 @@ module _ (net : Client) (who : Speaker) where
   pub lacks_within : (xs downs ys : List Notice) → AreQuiet xs → AreQuiet ys → any_lacks_route net who (xs ++ (downs ++ ys)) ≡ any_lacks_route net who downs
   lacks_within xs downs ys p q =
       list_any-append (lacks_route net who) xs (downs ++ ys) ∙ (ap (λ z. z || any_lacks_route net who (downs ++ ys)) (quiet_lacks xs p) ∙ lacks_then downs ys q)
+
+  -- what puts nothing on both sides
+  pub both_silent : (xs ys : List Notice) → without_graph (told_records net who xs) ≡ [] → without_graph (told_records net who ys) ≡ [] → without_graph (told_records net who (xs ++ ys)) ≡ []
+  both_silent xs ys p q =
+      ap without_graph (told-append net who xs ys) ∙ (plain_append (told_records net who xs) (told_records net who ys) ∙ (ap (λ z. z ++ without_graph (told_records net who ys)) p ∙ q))
+
+-- What is told more puts nothing but records of the graph, and delivers nothing.
+pub record AddsNothing (net : Client) (who : Speaker) (more : List Notice) : Type 0 where
+  pub others : without_graph (told_records net who more) ≡ []
+  pub bytes : delivered_bytes more ≡ None
+  pub address : delivered_address more ≡ None
+
+events_quiet : (ns : List Notice) → AreEvents ns → AreQuiet ns
+events_quiet [] h = tt
+events_quiet (event e ∷ ns) h = (tt, events_quiet ns h.1)
+events_quiet (message from tag rec a b bytes ∷ ns) h = absurd h.0
+
+module _ (net : Client) (who : Speaker) where
+  pub events_add : (more : List Notice) → AreEvents more → AddsNothing net who more
+  events_add more h = record { others = quiet_others net who more (events_quiet more h); bytes = no_bytes more h; address = no_address more h }
+
+  -- before more, and both
+  pub others_more : (ns more : List Notice) → AddsNothing net who more → without_graph (told_records net who (ns ++ more)) ≡ without_graph (told_records net who ns)
+  others_more ns more h =
+      ap without_graph (told-append net who ns more) ∙ (plain_append (told_records net who ns) (told_records net who more)
+      ∙ (ap (λ z. without_graph (told_records net who ns) ++ z) h.others ∙ append-nil (without_graph (told_records net who ns))))
+
+  pub adds_both : (xs ys : List Notice) → AddsNothing net who xs → AddsNothing net who ys → AddsNothing net who (xs ++ ys)
+  adds_both xs ys p q = record {
+    others = others_more xs ys q ∙ p.others;
+    bytes = bytes_then xs ys q.bytes ∙ p.bytes;
+    address = address_then xs ys q.address ∙ p.address;
+  }

@@ -20,13 +20,14 @@ use Rattle.nb_traced.specs.Outputs.{CallsOpen, IsNewest, own_serials}
 use Rattle.nb_traced.specs.Pieces.{AreGone, IsMaking, event_records, first_close_of, pieces_made}
 use Rattle.nb_chains.specs.declared.chain.Chain.{Chain}
 use Rattle.nb_chains.specs.declared.kind.ChainKind.{ChainKind}
-use Rattle.nb_chains.specs.Chains.{Awaits, chain_ids}
+use Rattle.nb_chains.specs.Chains.{Awaits}
 use Rattle.nb_teller.specs.Spelling.{Spelling}
 use Rattle.nb_open.specs.declared.open.Open.{Open}
 use Rattle.nb_open.specs.declared.opening.Opening.{Opening}
 use Rattle.nb_open.specs.declared.beginning.Begun.{Begun}
 use Rattle.nb_open.specs.Opening.{chain_kind, kind_by, live_by, server_by, speaker_for}
-use Rattle.nb_open.specs.Open.{IsOpenOf, kin_of, pieces_of}
+use Rattle.nb_open.specs.Objects.{IsAskedFrom, objects_ids}
+use Rattle.nb_open.specs.Open.{IsOpenOf, kin_of, objects_pieces, pieces_of}
 
 -- what waits for an open of this kind, if anything does, was made for it
 abbrev pub AwaitsFor : ChainKind → Option Chain → Objects Obj → Type 0
@@ -48,8 +49,8 @@ pub record MakesObjects (first : List GraphObject) (kind : ChainKind) (number : 
   pub text : s.text ≡ out_texts (event_records events)
   pub makes : AllByRecursion IsMaking events
   pub run : GraphRunOf (run_state old.book []) events mid
-  pub pieces : first ++ pieces_of kind o.chain ≡ waiting_pieces kind waits ++ pieces_made events
-  pub kinds_are : kinds (pieces_of kind o.chain) ≡ objects_for number
+  pub pieces : first ++ objects_pieces o.objects ≡ waiting_pieces kind waits ++ pieces_made events
+  pub kinds_are : kinds (objects_pieces o.objects) ≡ objects_for number
   pub joined : AreJoined mid (own_serials (kin_of o))
   pub newest : IsLatest waits old → IsNewest mid (lowest_of (own_serials (kin_of o)))
 
@@ -74,7 +75,7 @@ SetsOutOr (Some cause) a number now link o mid new records = (cause ≡ no_route
 
 -- how many objects of the open live afterwards
 abbrev pub count_after : Option Cause → Open → ℕ
-count_after None o = length (chain_ids o.chain)
+count_after None o = length (objects_ids o.objects)
 count_after (Some cause) o = 0
 
 abbrev pub count_waiting : Option Chain → ℕ
@@ -84,16 +85,16 @@ count_waiting (Some c) = 1
 -- All else on the graph is as it was, and the objects of the open are new, but for what waited.
 pub record LeavesElse (waits : Option Chain) (b : Begun) (old new : Objects Obj) : Type 0 where
   pub same_room : new.book.room ≡ old.book.room
-  pub few : new.book.made ≤ old.book.made + 2
+  pub few : new.book.made ≤ old.book.made + 3
   pub later : old.book.made ≤ new.book.made
   pub number : length new.book.objects + count_waiting waits ≡ length old.book.objects + count_after b.ended b.open
-  pub others : (y : ℕ) → y ≤ old.book.made → is_one_of (chain_ids b.open.chain) y ≡ false → KeepsObject old new y
-  pub fresh : (y : ℕ) → is_one_of (chain_ids b.open.chain) y ≡ true → y ≤ old.book.made → (c : Chain) × (waits ≡ Some c) × (y ≡ c.top.0)
+  pub others : (y : ℕ) → y ≤ old.book.made → is_one_of (objects_ids b.open.objects) y ≡ false → KeepsObject old new y
+  pub fresh : (y : ℕ) → is_one_of (objects_ids b.open.objects) y ≡ true → y ≤ old.book.made → (c : Chain) × (waits ≡ Some c) × (y ≡ c.top.0)
 
 -- The open begins, or has ended at once.
 pub record BeginsOpen (a : Opening) (number now : ℕ) (waits : Option Chain) (link : Client) (old new : Objects Obj) (made told : Spelling) (b : Begun) : Type 0 where
-  pub kind : b.open.kind ≡ chain_kind a
   pub speaker : b.open.speaker ≡ speaker_for a number
+  pub asked : IsAskedFrom a b.open.objects
   pub mid : GraphState
   pub makes : MakesObjects [] (chain_kind a) (kind_number (kind_by a)) waits b.open old made mid
   pub records : List Out
@@ -105,17 +106,17 @@ pub record BeginsOpen (a : Opening) (number now : ℕ) (waits : Option Chain) (l
 pub record LeavesBeside (kind : ChainKind) (c : Chain) (b : Begun) (old new : Objects Obj) : Type 0 where
   pub waits : Awaits kind c new
   pub first : c.top.0 ≡ old.book.made + 1
-  pub after : (y : ℕ) → is_one_of (chain_ids b.open.chain) y ≡ true → c.top.0 < y
+  pub after : (y : ℕ) → is_one_of (objects_ids b.open.objects) y ≡ true → c.top.0 < y
   pub same_room : new.book.room ≡ old.book.room
-  pub few : new.book.made ≤ old.book.made + 3
+  pub few : new.book.made ≤ old.book.made + 4
   pub later : old.book.made ≤ new.book.made
   pub number : length new.book.objects ≡ length old.book.objects + (1 + count_after b.ended b.open)
   pub others : (y : ℕ) → y ≤ old.book.made → KeepsObject old new y
 
 -- The same of an open beside which the top object of another, of this kind, waits for that.
 pub record BeginsBeside (kind : ChainKind) (a : Opening) (number now : ℕ) (link : Client) (old new : Objects Obj) (made told : Spelling) (c : Chain) (b : Begun) : Type 0 where
-  pub own_kind : b.open.kind ≡ chain_kind a
   pub speaker : b.open.speaker ≡ speaker_for a number
+  pub asked : IsAskedFrom a b.open.objects
   pub mid : GraphState
   pub makes : MakesObjects (pieces_of kind c) (chain_kind a) (kind_number (kind_by a)) None b.open old made mid
   pub records : List Out

@@ -24,22 +24,29 @@ use Rattle.nb_chains.specs.Calls.{ShutsChain, ShutsChainBeside}
 use Rattle.nb_chains.specs.Chains.{AreOthers, IsReleased, chain_ids}
 use Rattle.nb_teller.specs.Spelling.{Spelling}
 use Rattle.nb_open.specs.declared.open.Open.{Open}
-use Rattle.nb_open.specs.Open.{kin_of, pieces_of}
+use Rattle.nb_machine.specs.Kinds.{Keeps}
+use Rattle.nb_machine.specs.Takings.{end_among}
+use Rattle.nb_webchains.specs.WebCalls.{ShutsWeb}
+use Rattle.nb_open.specs.declared.objects.OpenObjects.{OpenObjects}
+use Rattle.nb_open.specs.declared.objects.OpenObjects.TheVariants as objects
+use Rattle.nb_open.specs.Objects.{AreObjectsReleased, objects_ids}
+use Rattle.nb_open.specs.Open.{IsOpenOf, kin_of, pieces_of}
 use Rattle.nb_open.specs.Begins.{count_waiting, waiting_pieces}
 use Rattle.std.specs.List.{AllByRecursion}
 
--- at a close from above an open puts its end alone
-abbrev pub closed_open : Live → Cause → Client → Live
-closed_open l cause link = continued l (exchange (close cause) link (ended l.number cause ∷ []))
+-- at a close from above an open puts what its connection says then, if it has one, and its end
+abbrev pub closed_open : Live → Cause → Client → List Out → Live
+closed_open l cause link put = continued l (exchange (close cause) link (put ++ (ended l.number cause ∷ [])))
 
 -- The user closes it with this cause, and its objects are let go: for whatever it has received.
 pub record ClosesOpen (o : Open) (cause : Cause) (link : Client) (old new : Objects Obj) (s : Spelling) : Type 0 where
   pub records : List Out
   pub text : s.text ≡ out_texts records
-  pub silent : without_graph records ≡ []
+  pub keeps : (l : Live) → IsOpenOf old o l → Keeps (closed_open l cause link (without_graph records))
+  pub its_end : (k : ℕ) → end_among k (without_graph records ++ (ended k cause ∷ [])) ≡ Some cause
   -- the first record is the graph's, of a port that is closed with this cause
   pub closes_first : (p : Port) × (rest : List Out) × (records ≡ graph (flat (Closed p cause)) ∷ rest)
-  pub released : IsReleased o.chain old new
+  pub released : AreObjectsReleased o.objects old new
   pub call : CallsOpen (kin_of o) None records (run_state old.book []) (run_state new.book [])
   pub close : first_close_of (own_serials (kin_of o)) records ≡ Some cause
 
@@ -48,27 +55,37 @@ chain_ids_of None = []
 chain_ids_of (Some c) = chain_ids c
 
 -- what waits is none of these objects
-abbrev pub WaitsApart : Option Chain → Chain → Type 0
-WaitsApart None c = Unit {0}
-WaitsApart (Some w) c = AreOthers (chain_ids c) (chain_ids w)
+abbrev pub WaitsApart : Option Chain → OpenObjects → Type 0
+WaitsApart None o = Unit {0}
+WaitsApart (Some w) o = AreOthers (objects_ids o) (chain_ids w)
+
+-- what waits does so beside the look-up of a name, so never beside an open by HTTP
+abbrev pub MayWaitBeside : Option Chain → OpenObjects → Type 0
+MayWaitBeside waits (objects.Chain kind chain) = Unit {0}
+MayWaitBeside waits (objects.Web port own chain) = waits ≡ None
+
+abbrev pub ShutsChainOr : Option Chain → Chain → Objects Obj → Objects Obj → Cause → Heard → Heard → Type 0
+ShutsChainOr None c old new cause before after = ShutsChain c old new cause before after
+ShutsChainOr (Some w) c old new cause before after = ShutsChainBeside c w old new cause before after
 
 -- its objects end with the run, and those of what waits
-abbrev pub ShutsOr : Option Chain → Chain → Objects Obj → Objects Obj → Cause → Heard → Heard → Type 0
-ShutsOr None c old new cause before after = ShutsChain c old new cause before after
-ShutsOr (Some w) c old new cause before after = ShutsChainBeside c w old new cause before after
+abbrev pub ShutsOr : Option Chain → OpenObjects → Objects Obj → Objects Obj → Cause → Heard → Heard → Type 0
+ShutsOr waits (objects.Chain kind chain) old new cause before after = ShutsChainOr waits chain old new cause before after
+ShutsOr waits (objects.Web port own chain) old new cause before after = ShutsWeb chain old new cause before after
 
 -- The run ends: all ports of its objects are closed, first those of what waits, and all are let go.
-pub record ShutsWith (kind : ChainKind) (o : Open) (waits : Option Chain) (cause : Cause) (old new : Objects Obj) (s : Spelling) : Type 0 where
+pub record ShutsWith (kind : ChainKind) (o : Open) (waits : Option Chain) (cause : Cause) (link : Client) (old new : Objects Obj) (s : Spelling) : Type 0 where
   pub records : List Out
   pub text : s.text ≡ out_texts records
-  pub silent : without_graph records ≡ []
+  pub keeps : (l : Live) → IsOpenOf old o l → Keeps (closed_open l cause link (without_graph records))
+  pub its_end : (k : ℕ) → end_among k (without_graph records ++ (ended k cause ∷ [])) ≡ Some cause
   -- the first record is the graph's, of a port that is closed with this cause
   pub closes_first : (p : Port) × (rest : List Out) × (records ≡ graph (flat (Closed p cause)) ∷ rest)
   pub call : ShutsOpen (kin_of o) (waiting_pieces kind waits) records (run_state old.book []) (run_state new.book [])
   pub close : first_close_of (own_serials (kin_of o)) records ≡ Some cause
-  pub gone : (x : ℕ) → is_one_of (chain_ids o.chain ++ chain_ids_of waits) x ≡ true → object_lives new.book x ≡ false
-  pub others : KeepsOthers (is_one_of (chain_ids o.chain ++ chain_ids_of waits)) old new
-  pub number : length new.book.objects + (length (chain_ids o.chain) + count_waiting waits) ≡ length old.book.objects
+  pub gone : (x : ℕ) → is_one_of (objects_ids o.objects ++ chain_ids_of waits) x ≡ true → object_lives new.book x ≡ false
+  pub others : KeepsOthers (is_one_of (objects_ids o.objects ++ chain_ids_of waits)) old new
+  pub number : length new.book.objects + (length (objects_ids o.objects) + count_waiting waits) ≡ length old.book.objects
   pub same_room : new.book.room ≡ old.book.room
 
 -- What waits is let go, as no open comes of it.

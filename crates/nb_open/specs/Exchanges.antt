@@ -1,5 +1,5 @@
 -- What one exchange more does: something comes to an open, which puts its records, and goes on or ends.
-use Rattle.std.specs.Prelude.{◌≡◌, ℕ, true, List, [], ◌∷◌, ◌++◌, Option, Some, None, IsSome, unwrap_or}
+use Rattle.std.specs.Prelude.{◌≡◌, ◌≤◌, ℕ, true, false, List, [], ◌∷◌, ◌++◌, length, Option, Some, None, IsSome, unwrap_or}
 use Rattle.nb_terms.specs.declared.cause.Cause.{Cause}
 use Rattle.nb_defs.specs.Causes.{is_ok_cause}
 use Rattle.nb_defs.specs.Records.{Out, ended, out_texts}
@@ -10,24 +10,34 @@ use Rattle.nb_nodes.specs.declared.obj.Obj.{Obj}
 use Rattle.nb_traced.specs.Plain.{without_graph}
 use Rattle.nb_chains.specs.declared.arrival.Arrival.{Arrival}
 use Rattle.nb_stack.specs.Client.{Client}
-use Rattle.nb_machine.specs.Lives.{OpenInput, OpenKind, tftp, dns, dhcp, ping, Live, exchange, continued}
-use Rattle.nb_machine.specs.Kinds.{Keeps, fetched, granted, resolved}
+use Rattle.nb_machine.specs.Lives.{OpenInput, message, tcp_segment, OpenKind, tftp, http, dns, dhcp, ping, Live, exchange, continued}
+use Rattle.nb_machine.specs.Kinds.{Keeps, fetched, moved, granted, is_connection, resolved}
 use Rattle.nb_machine.specs.Takings.{end_among}
 use Rattle.nb_traced.specs.Outputs.{CallsOpen, own_serials}
 use Rattle.nb_traced.specs.Pieces.{first_close_of}
-use Rattle.nb_chains.specs.Chains.{AreStillChained, IsReleased, chain_ids}
+use Rattle.nb_tcpseg.specs.SegmentText.{SegmentParts, IsSegment}
+use Rattle.nb_wire.specs.declared.address.Ip4.{Ip4}
+use Rattle.nb_open.specs.Objects.{AreObjectsReleased, AreObjectsStill, HasOwnAddress}
 use Rattle.nb_teller.specs.Spelling.{Spelling}
 use Rattle.nb_open.specs.declared.open.Open.{Open}
 use Rattle.nb_open.specs.declared.ended.Ended.{Ended}
 use Rattle.nb_open.specs.Open.{IsOpenOf, kin_of}
 use Rattle.nb_dhcpmsg.specs.Fields.{message_in}
 
--- the message is one that counts for the open: of its server, or for a lease of any host; from the port that its kind has
+-- a message counts for the open: of its server, or for a lease of any host; from the port that its kind has
 abbrev pub SuitsBy : OpenKind → Live → Arrival → Type 0
 SuitsBy tftp l a = a.source.0 ≡ l.server
+SuitsBy (http isn) l a = (a.source.0 ≡ l.server) × (a.port ≡ l.port)
 SuitsBy (dns id) l a = (a.source.0 ≡ l.server) × (a.port ≡ 53)
 SuitsBy (dhcp x) l a = a.port ≡ 67
 SuitsBy ping l a = (a.source.0 ≡ l.server) × (a.port ≡ l.own)
+
+-- What comes to the open by it: a segment whose bytes these are, between both ends of its connection; else the body of a datagram or of an echo, which
+-- is no longer than a frame carries.
+pub data IsInput (o : Open) (l : Live) (rec : ℕ) (a : Arrival) (now : ℕ) : OpenInput → Type 0 where
+  by_message : is_connection l.kind ≡ false → SuitsBy l.kind l a → length a.body.now ≤ 1480 → IsInput o l rec a now (message rec a.port a.body.now now)
+  by_segment : (isn : ℕ) (own : Ip4) (g : SegmentParts) → l.kind ≡ http isn → SuitsBy l.kind l a → HasOwnAddress o.objects own → IsSegment a.source own a.body.now g
+      → IsInput o l rec a now (tcp_segment rec g now)
 
 -- the open with what came, and what it put then
 abbrev pub with_exchange : Live → OpenInput → Client → List Out → Live
@@ -38,7 +48,7 @@ pub record ExchangesOn (o : Open) (l : Live) (came : OpenInput) (link : Client) 
   pub keeps : Keeps (with_exchange l came link (without_graph records))
   pub no_end : end_among l.number (without_graph records) ≡ None
   pub lives : IsOpenOf new o (with_exchange l came link (without_graph records))
-  pub others : AreStillChained (chain_ids o.chain) old new
+  pub others : AreObjectsStill o.objects old new
   pub call : CallsOpen (kin_of o) way records (run_state old.book []) (run_state new.book [])
   pub no_close : first_close_of (own_serials (kin_of o)) records ≡ None
 
@@ -48,7 +58,8 @@ last_put l records cause = without_graph records ++ (ended l.number cause ∷ []
 
 -- where it has ended well, what it has fetched or found was handed out
 pub record HandsOut (l : Live) (e : Ended) (s : Spelling) : Type 0 where
-  pub body : fetched l ≡ unwrap_or e.body []
+  pub body : e.moved ≡ None → fetched l ≡ unwrap_or e.body []
+  pub moved : moved l ≡ e.moved
   pub bytes : granted l ≡ s.bytes
   pub address : resolved l ≡ s.address
 
@@ -60,7 +71,7 @@ IsLeaseMessage found = (bytes : List ℕ) → found ≡ Some bytes → IsSome (m
 pub record ExchangesLast (o : Open) (l : Live) (came : OpenInput) (link : Client) (way : Option Way) (old new : Objects Obj) (records : List Out) (e : Ended) (s : Spelling) : Type 0 where
   pub keeps : Keeps (with_exchange l came link (last_put l records e.cause))
   pub its_end : end_among l.number (last_put l records e.cause) ≡ Some e.cause
-  pub released : IsReleased o.chain old new
+  pub released : AreObjectsReleased o.objects old new
   pub call : CallsOpen (kin_of o) way records (run_state old.book []) (run_state new.book [])
   pub close : first_close_of (own_serials (kin_of o)) records ≡ Some e.cause
   pub hands : is_ok_cause e.cause ≡ true → HandsOut (with_exchange l came link (last_put l records e.cause)) e s

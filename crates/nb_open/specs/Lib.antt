@@ -1,4 +1,5 @@
 pub mod Opening
+pub mod Objects
 pub mod Open
 pub mod Settling
 pub mod Exchanges

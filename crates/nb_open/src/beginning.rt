@@ -1,20 +1,29 @@
-ghost use Rattle.std.specs.Prelude.{◌≡◌, ◌+◌, ◌<◌, ◌≤◌, ◌^◌, IfOk, IsTrue, ◌↔◌, None, Some, ℕ, length};
+ghost use Rattle.std.specs.Prelude.{◌≡◌, ◌+◌, ◌<◌, ◌^◌, ◌++◌, IfOk, OnOk, List, Some, length, true, false, ℕ};
 ghost use Rattle.std.specs.Option.{option_map};
-ghost use Rattle.nb_chains.specs.Chains.{AreChained, Awaits, AreStillChained, IsReadyChain, chain_ids};
-ghost use Rattle.nb_chains.specs.Kinds.{count_below};
+ghost use Rattle.nb_chains.specs.Chains.{AreChained, AreStillChained, chain_ids};
 ghost use Rattle.nb_open.specs.Begins.{AwaitsFor, BeginsBeside, BeginsOpen};
-ghost use Rattle.nb_open.specs.Making.{AsksChain, MakesChain, StartsOpen, WaitsNew};
-ghost use Rattle.nb_open.specs.Opening.{CanOpen, chain_kind, speaker_for};
+ghost use Rattle.nb_open.specs.Making.{AsksChain, AsksObjects, AsksWeb, StartsOpen};
+ghost use Rattle.nb_open.specs.Objects.{AreObjectsChained, AreObjectsReady, AreObjectsStill};
+ghost use Rattle.nb_open.specs.Opening.{CanOpen, chain_kind, is_web, speaker_for};
 ghost use Rattle.nb_open.specs.Settling.{told_so_far};
+ghost use Rattle.nb_webchains.specs.WebChains.{web_ids};
+ghost use Rattle.nb_webnodes.specs.WebAsks.{web_ask_in};
 
-use crate::{Ended, Open, Opening};
+use crate::making::make_waiting;
+use crate::{Ended, Open, OpenObjects, Opening};
 use nb_chains::{Chain, ChainKind};
+use nb_conns::ConnAsk;
 use nb_graph::Graph;
 use nb_nodes::Obj;
 use nb_stack::Stack;
 use nb_teller::{Desk, Room, Spelled, Teller};
 use nb_terms::{Cause, NoMemory};
+use nb_webchains::WebChain;
+use nb_webnodes::WebAsk;
 use std::alloc::Global;
+
+/// The most bytes of a host and a path: with the 16 of a `ConnAsk` they have room in one message.
+const MAX_ASK: usize = 0xffff_ffef;
 
 /// An open that was begun.
 #[derive(Drop)]
@@ -43,7 +52,7 @@ impl Opening<'_> {
     ) -> Result<(Begun, Desk), NoMemory>
         requires can { CanOpen self.now }
         requires room { graph.old.book.room ≡ most }
-        requires serials { graph.old.book.made + 2 < 2 ^ 64 }
+        requires serials { graph.old.book.made + 3 < 2 ^ 64 }
         requires waits { AwaitsFor (chain_kind self.now) waits graph.old }
         ensures { IfOk result (λ r. BeginsOpen self.now number now waits net.now graph.old graph.new r.1.made.value
             r.1.told.value r.0) }
@@ -54,17 +63,12 @@ impl Opening<'_> {
             told,
             freed,
         } = desk;
-        let kind = self.kind();
         let speaker = self.speaker(number);
         let mut out = Teller::over(net, &speaker, made, &mut room);
-        let chain = make_objects(alloc, graph, most, kind, waits, &mut out)?;
+        let objects = self.make_objects(alloc, graph, most, waits, &mut out)?;
         let made = out.finish()?;
-        let open = Open {
-            kind,
-            speaker,
-            chain,
-        };
-        let (ended, told) = self.set_out(&open, graph, net, rec, now, told, &mut room)?;
+        let open = Open { speaker, objects };
+        let (ended, told) = self.set_out(alloc, &open, graph, net, rec, now, told, &mut room)?;
         let desk = Desk {
             room,
             made,
@@ -89,7 +93,7 @@ impl Opening<'_> {
     ) -> Result<(Chain, Begun, Desk), NoMemory>
         requires can { CanOpen self.now }
         requires room { graph.old.book.room ≡ most }
-        requires serials { graph.old.book.made + 3 < 2 ^ 64 }
+        requires serials { graph.old.book.made + 4 < 2 ^ 64 }
         ensures { IfOk result (λ b. BeginsBeside kind self.now number now net.now graph.old graph.new b.2.made.value
             b.2.told.value b.0 b.1) }
     {
@@ -99,18 +103,13 @@ impl Opening<'_> {
             told,
             freed,
         } = desk;
-        let own = self.kind();
         let speaker = self.speaker(number);
         let mut out = Teller::over(net, &speaker, made, &mut room);
         let waits = make_waiting(alloc, graph, most, kind, &mut out)?;
-        let chain = make_all(alloc, graph, most, own, &mut out)?;
+        let objects = self.make_objects(alloc, graph, most, None, &mut out)?;
         let made = out.finish()?;
-        let open = Open {
-            kind: own,
-            speaker,
-            chain,
-        };
-        let (ended, told) = self.set_out(&open, graph, net, rec, now, told, &mut room)?;
+        let open = Open { speaker, objects };
+        let (ended, told) = self.set_out(alloc, &open, graph, net, rec, now, told, &mut room)?;
         let desk = Desk {
             room,
             made,
@@ -123,6 +122,7 @@ impl Opening<'_> {
     /// The user asks, of objects of which nothing was asked. Where there is no way to the server it is turned back.
     fn set_out(
         &self,
+        alloc: Global,
         opened: &Open,
         graph: &mut Graph<Obj>,
         net: &Stack,
@@ -132,21 +132,55 @@ impl Opening<'_> {
         room: &mut Room,
     ) -> Result<(Option<Cause>, Box<Spelled>), NoMemory>
         requires can { CanOpen self.now }
-        requires chained { AreChained graph.old (chain_ids opened.now.chain) }
-        requires ready { IsReadyChain (chain_kind self.now) opened.now.chain graph.old }
+        requires chained { AreObjectsChained graph.old opened.now.objects }
+        requires ready { AreObjectsReady self.now opened.now.objects graph.old }
         ensures { IfOk result (λ r. (number : ℕ) → opened.now.speaker ≡ speaker_for self.now number
-            → opened.now.kind ≡ chain_kind self.now
             → StartsOpen self.now number now net.now opened.now graph.old graph.new r.1.value r.0) }
     {
         let mut out = Teller::over(net, &opened.speaker, told, room);
-        self.ask(opened.chain, graph, rec, now, &mut out);
-        let ended = opened.settle(graph, now, &mut out)?;
+        graph.has_nodes();
+        self.ask(alloc, opened.objects, graph, rec, now, &mut out)?;
+        graph.has_nodes();
+        let ended = opened.settle(alloc, graph, now, &mut out)?;
         let told = out.finish()?;
         Ok((cause_of(ended), told))
     }
 
     /// The user asks this of the objects.
-    fn ask(&self, chain: Chain, graph: &mut Graph<Obj>, rec: u32, now: u64, out: &mut Teller<'_>)
+    fn ask(
+        &self,
+        alloc: Global,
+        objects: OpenObjects,
+        graph: &mut Graph<Obj>,
+        rec: u32,
+        now: u64,
+        out: &mut Teller<'_>,
+    ) -> Result<(), NoMemory>
+        requires can { CanOpen self.now }
+        requires chained { AreObjectsChained graph.old objects }
+        requires ready { AreObjectsReady self.now objects graph.old }
+        ensures on { OnOk result (AreObjectsStill objects graph.old graph.new) }
+        ensures asks { OnOk result (AsksObjects self.now objects graph.old graph.new now rec (told_so_far out.old) (told_so_far out.new)) }
+    {
+        match objects {
+            OpenObjects::Chain { chain, .. } => {
+                self.ask_chain(chain, graph, rec, now, out);
+                Ok(())
+            }
+            OpenObjects::Web { chain, .. } => self.ask_web(alloc, chain, graph, rec, now, out),
+        }
+    }
+
+    /// The user asks this of a chain.
+    fn ask_chain(
+        &self,
+        chain: Chain,
+        graph: &mut Graph<Obj>,
+        rec: u32,
+        now: u64,
+        out: &mut Teller<'_>,
+    )
+        requires other { is_web self.now ≡ false }
         requires can { CanOpen self.now }
         requires chained { AreChained graph.old (chain_ids chain) }
         ensures on { AreStillChained (chain_ids chain) graph.old graph.new }
@@ -163,8 +197,57 @@ impl Opening<'_> {
                 let bytes = ask.bytes();
                 chain.begin(graph, rec, &bytes, &[], now, out)
             }
+            Opening::Web(_) => unreachable!(),
         }
     }
+
+    /// The user asks this of the objects of an open by HTTP.
+    fn ask_web(
+        &self,
+        alloc: Global,
+        chain: WebChain,
+        graph: &mut Graph<Obj>,
+        rec: u32,
+        now: u64,
+        out: &mut Teller<'_>,
+    ) -> Result<(), NoMemory>
+        requires web { is_web self.now ≡ true }
+        requires chained { AreChained graph.old (web_ids chain) }
+        ensures on { OnOk result (AreStillChained (web_ids chain) graph.old graph.new) }
+        ensures asks { OnOk result (AsksWeb self.now chain graph.old graph.new now rec (told_so_far out.old) (told_so_far out.new)) }
+    {
+        let Opening::Web(web) = self else {
+            unreachable!();
+        };
+        let host = host_len(&web.ask)?;
+        let first = head_of(alloc, web.ask.conn, web.ask.host)?;
+        chain.begin(graph, rec, host, first.as_slice(), web.ask.path, now, out);
+        Ok(())
+    }
+}
+
+/// How many bytes the host has. An error where host and path have no room in one message.
+fn host_len(ask: &WebAsk<'_>) -> Result<u32, NoMemory>
+    ensures host { IfOk result (λ n. n ≡ length ask.now.host.now) }
+    ensures short { IfOk result (λ n. 16 + (length ask.now.host.now + length ask.now.path.now) < 2 ^ 32) }
+{
+    let count = ask.host.len();
+    if MAX_ASK < count || MAX_ASK - count < ask.path.len() {
+        return Err(NoMemory);
+    }
+    Ok(count as u32)
+}
+
+/// The bytes that ask for a file by HTTP, up to its path: which connection, and the host.
+fn head_of(alloc: Global, conn: ConnAsk, host: &[u8]) -> Result<Vec<u8>, NoMemory>
+    // With a path after them they are read back.
+    ensures readable { IfOk result (λ v. (path : List ℕ) → web_ask_in (length host.now) (v.items ++ path)
+        ≡ Some (record { conn = conn; host = host.now; path = path })) }
+    ensures len { IfOk result (λ v. length v.items ≡ 16 + length host.now) }
+{
+    let mut bytes = Vec::from_slice(alloc, &conn.bytes())?;
+    bytes.extend_from_slice(host)?;
+    Ok(bytes)
 }
 
 /// Why it has ended.
@@ -174,109 +257,5 @@ fn cause_of(ended: Option<Ended>) -> Option<Cause>
     match ended {
         Some(ended) => Some(ended.cause),
         None => None,
-    }
-}
-
-/// Makes the objects of an open, or what is missing of them below what waits.
-fn make_objects(
-    alloc: Global,
-    graph: &mut Graph<Obj>,
-    most: usize,
-    kind: ChainKind,
-    waits: Option<Chain>,
-    out: &mut Teller<'_>,
-) -> Result<Chain, NoMemory>
-    requires room { graph.old.book.room ≡ most }
-    requires serials { graph.old.book.made + 2 < 2 ^ 64 }
-    requires waits { AwaitsFor kind waits graph.old }
-    ensures { IfOk result (λ c. MakesChain kind waits c graph.old graph.new (told_so_far out.old) (told_so_far out.new)) }
-{
-    match waits {
-        None => make_all(alloc, graph, most, kind, out),
-        Some(waits) => complete(alloc, graph, most, kind, waits, out),
-    }
-}
-
-/// Makes the top object of an open alone, which waits.
-fn make_waiting(
-    alloc: Global,
-    graph: &mut Graph<Obj>,
-    most: usize,
-    kind: ChainKind,
-    out: &mut Teller<'_>,
-) -> Result<Chain, NoMemory>
-    requires room { graph.old.book.room ≡ most }
-    requires serials { graph.old.book.made + 3 < 2 ^ 64 }
-    ensures { IfOk result (λ c. WaitsNew kind c graph.old graph.new (told_so_far out.old) (told_so_far out.new)) }
-{
-    if !has_room(graph, most, 1) {
-        return Err(NoMemory);
-    }
-    Chain::wait(alloc, graph, kind, out)
-}
-
-/// Makes them all.
-fn make_all(
-    alloc: Global,
-    graph: &mut Graph<Obj>,
-    most: usize,
-    kind: ChainKind,
-    out: &mut Teller<'_>,
-) -> Result<Chain, NoMemory>
-    requires room { graph.old.book.room ≡ most }
-    requires serials { graph.old.book.made + 2 < 2 ^ 64 }
-    ensures { IfOk result (λ c. MakesChain kind None c graph.old graph.new (told_so_far out.old) (told_so_far out.new)) }
-{
-    if !has_room(graph, most, 1 + lower_objects(kind)) {
-        return Err(NoMemory);
-    }
-    let chain = Chain::make(alloc, graph, kind, out)?;
-    graph.has_nodes();
-    // Nothing lives that was made later.
-    let _later = graph.ids(chain.last().0);
-    Ok(chain)
-}
-
-/// Makes what is missing below what waits.
-fn complete(
-    alloc: Global,
-    graph: &mut Graph<Obj>,
-    most: usize,
-    kind: ChainKind,
-    waits: Chain,
-    out: &mut Teller<'_>,
-) -> Result<Chain, NoMemory>
-    requires room { graph.old.book.room ≡ most }
-    requires serials { graph.old.book.made + 2 < 2 ^ 64 }
-    requires waits { Awaits kind waits graph.old }
-    ensures { IfOk result (λ c. MakesChain kind (Some waits) c graph.old graph.new (told_so_far out.old)
-        (told_so_far out.new)) }
-{
-    if !has_room(graph, most, lower_objects(kind)) {
-        return Err(NoMemory);
-    }
-    let chain = waits.complete(alloc, graph, kind, out)?;
-    graph.has_nodes();
-    // Nothing lives that was made later.
-    let _later = graph.ids(chain.last().0);
-    Ok(chain)
-}
-
-/// Whether the graph has room for so many objects more, of the most that it may have.
-fn has_room(graph: &Graph<Obj>, most: usize, count: usize) -> bool
-    ensures { IsTrue result ↔ (length graph.now.book.objects + count ≤ most) }
-{
-    count <= most && graph.live() <= most - count
-}
-
-/// How many objects such an open has below its top one.
-fn lower_objects(kind: ChainKind) -> usize
-    ensures { result ≡ count_below kind }
-{
-    match kind {
-        ChainKind::File => 1,
-        ChainKind::Name => 0,
-        ChainKind::Lease => 0,
-        ChainKind::Echo => 0,
     }
 }

@@ -1,13 +1,13 @@
-ghost use Rattle.std.specs.Prelude.{◌≡◌, IfOk};
-ghost use Rattle.nb_chains.specs.Calls.{IsOpenChain};
-ghost use Rattle.nb_chains.specs.Chains.{AreChained, Awaits, chain_ids};
+ghost use Rattle.std.specs.Prelude.{IfOk};
+ghost use Rattle.nb_chains.specs.Chains.{Awaits};
 ghost use Rattle.nb_machine.specs.Lives.{Live};
 ghost use Rattle.nb_open.specs.Begins.{AwaitsFor};
-ghost use Rattle.nb_open.specs.Ends.{ClosesOpen, GivesUp, WaitsApart, ShutsOr, ShutsWith};
+ghost use Rattle.nb_open.specs.Ends.{ClosesOpen, GivesUp, MayWaitBeside, WaitsApart, ShutsOr, ShutsWith};
+ghost use Rattle.nb_open.specs.Objects.{AreObjectsChained, AreObjectsOpen};
 ghost use Rattle.nb_open.specs.Open.{IsOpenOf, LivesSome};
 ghost use Rattle.nb_open.specs.Settling.{told_so_far};
 
-use crate::Open;
+use crate::{Open, OpenObjects};
 use nb_chains::{Chain, ChainKind};
 use nb_graph::Graph;
 use nb_nodes::Obj;
@@ -35,8 +35,8 @@ impl Open {
             freed,
         } = desk;
         let mut out = Teller::over(net, &self.speaker, told, &mut room);
-        self.chain.close(graph, cause, now, &mut out);
-        self.end(graph, *cause, &mut out);
+        self.objects.close(graph, cause, now, &mut out);
+        self.objects.release(graph, &mut out);
         let told = out.finish()?;
         Ok(Desk {
             room,
@@ -58,10 +58,11 @@ impl Open {
         now: u64,
         desk: Desk,
     ) -> Result<Desk, NoMemory>
-        requires chained { AreChained graph.old (chain_ids self.now.chain) }
+        requires chained { AreObjectsChained graph.old self.now.objects }
         requires waits { AwaitsFor kind waits graph.old }
+        requires beside { MayWaitBeside waits self.now.objects }
         ensures { IfOk result (λ d. (l : Live) → IsOpenOf graph.old self.now l
-            → ShutsWith kind self.now waits cause.now graph.old graph.new d.told.value) }
+            → ShutsWith kind self.now waits cause.now net.now graph.old graph.new d.told.value) }
     {
         let Desk {
             mut room,
@@ -91,16 +92,19 @@ impl Open {
         now: u64,
         out: &mut Teller<'_>,
     )
-        requires chained { AreChained graph.old (chain_ids self.now.chain) }
+        requires chained { AreObjectsChained graph.old self.now.objects }
         requires waits { AwaitsFor kind waits graph.old }
-        ensures { IsOpenChain self.now.chain graph.old → WaitsApart waits self.now.chain
-            → ShutsOr waits self.now.chain graph.old graph.new cause.now (told_so_far out.old) (told_so_far out.new) }
+        requires beside { MayWaitBeside waits self.now.objects }
+        ensures { AreObjectsOpen self.now.objects graph.old → WaitsApart waits self.now.objects
+            → ShutsOr waits self.now.objects graph.old graph.new cause.now (told_so_far out.old) (told_so_far out.new) }
     {
-        match waits {
-            None => self.chain.shut_down(graph, cause, now, out),
-            Some(waits) => self
-                .chain
-                .shut_down_beside(waits, kind, graph, cause, now, out),
+        match (self.objects, waits) {
+            (OpenObjects::Chain { chain, .. }, None) => chain.shut_down(graph, cause, now, out),
+            (OpenObjects::Chain { chain, .. }, Some(waits)) => {
+                chain.shut_down_beside(waits, kind, graph, cause, now, out)
+            }
+            // What waits does so beside the look-up of a name alone.
+            (OpenObjects::Web { chain, .. }, _) => chain.shut_down(graph, cause, now, out),
         }
     }
 }

@@ -1,5 +1,5 @@
 -- Something comes to opens that live, one after another: all that they put has its reasons.
-use Rattle.std.proofs.Common.{◌≡◌, ℕ, ◌==◌, false, List, [], ◌∷◌, ◌++◌, Some, sym, ◌∙◌, ap, subst, append_assoc, append-nil, map}
+use Rattle.std.proofs.Common.{◌≡◌, ℕ, ◌==◌, true, false, List, [], ◌∷◌, ◌++◌, Some, sym, ◌∙◌, ap, subst, append_assoc, append-nil, map}
 use Rattle.std.specs.Prelude.{slice_get}
 use Rattle.std.specs.List.{flat_map, AllByRecursion}
 use Rattle.std.proofs.lemmas.List.{map-append}
@@ -9,31 +9,36 @@ use Rattle.nb_defs.specs.Causes.{is_ok_cause}
 use Rattle.nb_defs.specs.Records.{Out}
 use Rattle.nb_stack.specs.Client.{Client}
 use Rattle.nb_tftp.specs.History.{Entry, got, received_by}
-use Rattle.nb_laws.specs.Cores.{answers_open, has_its_answer}
+use Rattle.nb_laws.specs.Cores.{has_its_answer}
+use Rattle.nb_laws.specs.Webs.{opens_connection, stream_place_by}
 use Rattle.nb_laws.specs.Events.{Event, puts}
 use Rattle.nb_laws.specs.Histories.{client}
 use Rattle.nb_laws.specs.Lists as lists
-use Rattle.nb_laws.specs.Lists.{hardware, blocks_where, file_blocks, Opening, openings, calls, last_place}
-use Rattle.nb_laws.specs.Progress.{IsAdvanced}
+use Rattle.nb_laws.specs.Lists.{hardware, blocks_where, Opening, openings, calls, last_place}
+use Rattle.nb_laws.specs.Progress.{file_place, IsAdvanced}
 use Rattle.nb_laws.proofs.Tellings.{told}
 use Rattle.nb_machine.specs.Lives.{OpenInput, time as time_came, exchange, Live, continued}
 use Rattle.nb_machine.specs.Kinds.{Keeps}
 use Rattle.nb_machine.specs.States.{net0}
 use Rattle.nb_machine.specs.Takings.{Over, AllTake, all_have, lives_on, is_over}
-use Rattle.nb_openlaws.specs.Standings.{live_opening, heard_call, heard_calls, HaveOwnNumbers}
+use Rattle.nb_openlaws.specs.Standings.{live_opening, heard_call, heard_calls, streamed, HaveOwnNumbers}
 use Rattle.nb_openlaws.specs.OpenEndings.{HadWay}
-use Rattle.nb_openlaws.specs.OpenReasons.{OpenReasons}
-use Rattle.nb_openlaws.proofs.OpenRecords.{all_append, AreLater, left, of_later, kept_puts}
+use Rattle.nb_openlaws.specs.OpenReasons.{HaveWays, OpenReasons}
+use Rattle.nb_streams.proofs.FlowLaws.{all_append}
+use Rattle.nb_openlaws.proofs.OpenRecords.{AreLater, left, of_later, kept_puts}
 use Rattle.nb_openlaws.proofs.Takings.{HasCome, AllCome, tail_come, way_stays, grown}
 use Rattle.nb_openlaws.proofs.NetworkDevices.{client_some, some_of}
 use Rattle.nb_openlaws.proofs.Sendings.{no_reasons, reasons_then}
-use Rattle.nb_openlaws.proofs.ExchangeReasons.{blocks_so, IsTaken, ExchangeSo, exchange_so}
+use Rattle.nb_openlaws.proofs.KindFacts.{ByDatagrams, no_connection}
+use Rattle.nb_openlaws.proofs.StreamPlaces.{time_stream, stream_so}
+use Rattle.nb_openlaws.proofs.ExchangeReasons.{place_so, answer_same, IsTaken, ExchangeSo}
+use Rattle.nb_openlaws.proofs.WebExchanges.{exchange_so}
 
 -- what an open asks for has come, or not, whatever is written
 pub answer_on : (es : List Event) (outs : List Out) (k : ℕ) (o : Opening) → AreLater outs → has_its_answer k o (es ++ told outs) ≡ has_its_answer k o es
 answer_on es outs k o later =
     let f = left es outs later in
-    ap (λ hw. answers_open hw k o (lists.datagrams_of k (es ++ told outs))) f.hardware_is ∙ ap (λ c. answers_open (hardware es) k o (flat_map received_by c)) (f.calls_is k)
+    answer_same k o es (es ++ told outs) f.hardware_is (ap (λ c. flat_map received_by c) (f.calls_is k)) (f.came_is k)
 
 -- each end is Ok exactly where what its open asks for has come
 abbrev pub AreAnswered : List Event → List Over → Type 0
@@ -51,15 +56,16 @@ take_later devices input ls0 put0 after0 over0 (is_over l ls after link put more
     all_append _ put more (of_later l.number put (kept_puts l (exchange input link put) keeps).of) (take_later devices input ls more after over rest)
 
 -- the one device is the client
-link_of : (es : List Event) (devices : List Client) (l : Live) (link : Client) → devices ≡ client es ∷ [] → l.device ≡ net0 → slice_get devices l.device ≡ Some link → client es ≡ link
+pub link_of : (es : List Event) (devices : List Client) (l : Live) (link : Client) → devices ≡ client es ∷ [] → l.device ≡ net0 → slice_get devices l.device ≡ Some link → client es ≡ link
 link_of es devices l link d at got_it = let both : Some (client es) ≡ Some link = sym (ap (λ z. slice_get z l.device) d ∙ ap (λ n. slice_get (client es ∷ []) n) at) ∙ got_it in cc
 
 -- ONE EXCHANGE
 
 -- what was brought before, where its last ADVANCE stands
 pub record IsPlaced (es : List Event) (l : Live) : Type 0 where
-  pub placed : (h : List Entry) → heard_calls l.kind l.exchanges ≡ map (λ e. e.call) h → last_place l.number es ≡ blocks_where ((live_opening l).kind == 1) (got h)
-  pub others : (j : ℕ) → (l.number == j) ≡ false → last_place j es ≡ file_blocks j es
+  pub placed : ByDatagrams l.kind → (h : List Entry) → heard_calls l.kind l.exchanges ≡ map (λ e. e.call) h → last_place l.number es ≡ blocks_where ((live_opening l).kind == 1) (got h)
+  pub streamed_to : opens_connection (live_opening l) ≡ true → last_place l.number es ≡ stream_place_by (hardware es) l.number (streamed l.exchanges) (live_opening l)
+  pub others : (j : ℕ) → (l.number == j) ≡ false → last_place j es ≡ file_place j es
 
 pub one_exchange : (es : List Event) (devices : List Client) (input : OpenInput) (l : Live) (link : Client) (put : List Out) → IsTaken input → devices ≡ client es ∷ [] → slice_get devices l.device ≡ Some link → HasCome es input l → Keeps l → Keeps (continued l (exchange input link put)) →
     HadWay l.number es (live_opening l) → IsPlaced es l → ExchangeSo l.kind es l (exchange input link put)
@@ -74,7 +80,10 @@ one_exchange es devices input l link put taken d got_it c before keeps way p =
       now = c.now;
       due = c.due;
       had_way = way;
+      streams = c.streams;
+      tries_stand = c.tries_stand;
       placed = p.placed;
+      streamed_to = p.streamed_to;
       others = p.others;
     }) before keeps c.goes_on c.own
 
@@ -83,17 +92,19 @@ one_exchange es devices input l link put taken d got_it c before keeps way p =
 -- a time brings no block
 time_placed : (es : List Event) (now : ℕ) (l : Live) → HasCome es (time_came now) l → IsAdvanced es → IsPlaced es l
 time_placed es now l c a = record {
-  placed = λ h is.
+  placed = λ d h is.
       let k = l.number in
       let received : lists.datagrams_of k es ≡ got h =
       ap (λ z. flat_map received_by z) c.received ∙ flat_map-append received_by (heard_calls l.kind l.exchanges) (heard_call l.kind (time_came now))
       ∙ append-nil (flat_map received_by (heard_calls l.kind l.exchanges))
       ∙ ap (λ z. flat_map received_by z) is ∙ flat_map-map received_by (λ (e : Entry). e.call) h in
-      a k ∙ blocks_so k es (live_opening l) c.opening ∙ ap (blocks_where ((live_opening l).kind == 1)) received;
+      a k ∙ place_so k es (live_opening l) c.opening (no_connection l.kind l d) ∙ ap (blocks_where ((live_opening l).kind == 1)) received;
+  streamed_to = λ is. a l.number ∙ stream_so l.number es (live_opening l) c.opening is
+      ∙ ap (λ z. stream_place_by (hardware es) l.number z (live_opening l)) c.streams ∙ time_stream (hardware es) l.number (live_opening l) (streamed l.exchanges) now;
   others = λ j other. a j;
 }
 
-ways_on : (es : List Event) (put : List Out) (ls : List Live) → AllByRecursion (λ (l : Live). HadWay l.number es (live_opening l)) ls → AllByRecursion (λ (l : Live). HadWay l.number (es ++ told put) (live_opening l)) ls
+ways_on : (es : List Event) (put : List Out) (ls : List Live) → HaveWays es ls → HaveWays (es ++ told put) ls
 ways_on es put [] w = tt
 ways_on es put (l ∷ ls) w = (way_stays l.number es (es ++ told put) (live_opening l) (grown es (told put)) w.0, ways_on es put ls w.1)
 
@@ -105,7 +116,7 @@ taken_more es put more over r t = record {
 
 -- time comes to all
 pub all_reasons : (devices : List Client) (now : ℕ) (ls : List Live) (put : List Out) (after : List Live) (over : List Over) → AllTake devices (time_came now) ls put after over → (es : List Event) → devices ≡ client es ∷ [] → AllCome es (time_came now) ls → HaveOwnNumbers ls →
-    AllByRecursion Keeps ls → AllByRecursion (λ (l : Live). HadWay l.number es (live_opening l)) ls → IsAdvanced es → TakenSo es put over
+    AllByRecursion Keeps ls → HaveWays es ls → IsAdvanced es → TakenSo es put over
 all_reasons devices now ls put after over all_have es d come apart kept ways a = record { reasons = no_reasons es a; answers = tt }
 all_reasons devices now ls0 put0 after0 over0 (lives_on l ls after link put more over got_it keeps none rest) es d come apart kept ways a =
     let k = l.number in

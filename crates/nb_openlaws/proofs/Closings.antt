@@ -1,69 +1,107 @@
 -- Opens that live are closed: each has its ENDED, and why it has it.
-use Rattle.std.proofs.Common.{◌≡◌, ℕ, ◌==◌, true, false, List, [], ◌∷◌, ◌++◌, refl, sym, ◌∙◌, ap, subst, append_assoc, append-nil, ne_eqb}
+use Rattle.std.proofs.Common.{◌≡◌, ℕ, ◌==◌, true, false, List, [], ◌∷◌, ◌++◌, Some, refl, sym, ◌∙◌, ap, subst, append_assoc, append-nil, ne_eqb}
+use Rattle.std.specs.Prelude.{slice_get}
 use Rattle.std.specs.List.{AllByRecursion}
+use Rattle.std.proofs.lemmas.List.{map-append}
 use Rattle.nb_terms.specs.declared.cause.Cause.{Cause}
 use Rattle.nb_defs.specs.Causes.{is_ok_cause}
 use Rattle.nb_defs.specs.Records.{Out, ended}
 use Rattle.nb_stack.specs.Client.{Client}
-use Rattle.nb_machine.specs.Lives.{close, exchange, Live}
-use Rattle.nb_machine.specs.Kinds.{Keeps}
+use Rattle.nb_machine.specs.Lives.{OpenKind, tftp, http, dns, dhcp, ping, close, Exchange, exchange, Live, continued}
+use Rattle.nb_machine.specs.Kinds.{KeepsBy, Keeps, is_connection}
 use Rattle.nb_machine.specs.Takings.{Over, AllTake, all_have, lives_on, is_over}
 use Rattle.nb_laws.specs.Events.{Event, puts}
+use Rattle.nb_laws.specs.Histories.{client}
+use Rattle.nb_laws.specs.Lists.{hardware}
 use Rattle.nb_laws.specs.Progress.{IsAdvanced}
 use Rattle.nb_laws.proofs.Tellings.{told, advanced_more}
-use Rattle.nb_openlaws.specs.Standings.{live_opening, AgreesLive, AreLive, lives_among, HaveOwnNumbers}
-use Rattle.nb_openlaws.specs.OpenEndings.{EndsBecause}
+use Rattle.nb_openlaws.specs.Standings.{live_opening, heard_call, IsKindBy, ComesToOwnPort, IsOngoing, AgreesLive, AreLive, lives_among, HaveOwnNumbers}
+use Rattle.nb_openlaws.specs.OpenEndings.{EndsBecause, WhyClosed}
 use Rattle.nb_openlaws.specs.OpenReasons.{OpenReasons}
-use Rattle.nb_openlaws.proofs.OpenRecords.{left}
+use Rattle.nb_streams.proofs.FlowLaws.{all_append}
+use Rattle.nb_openlaws.proofs.OpenRecords.{AreOf, left, of_later, kept_puts}
+use Rattle.nb_openlaws.proofs.NetworkDevices.{client_some, some_of}
+use Rattle.nb_openlaws.proofs.LastEntries.{LastAs, took_as, closed_as, last_as}
+use Rattle.nb_openlaws.proofs.KindFacts.{opening_as}
+use Rattle.nb_openlaws.proofs.AllReasons.{link_of}
+use Rattle.nb_openlaws.proofs.WebClosings.{web_closes}
 use Rattle.nb_openlaws.proofs.Takings.{grown, others_same}
 use Rattle.nb_openlaws.proofs.UsedEvents.{live_one}
 use Rattle.nb_openlaws.proofs.LiveStates.{all_same}
 use Rattle.nb_openlaws.proofs.Sendings.{no_reasons, reasons_then}
-use Rattle.nb_openlaws.proofs.Puts.{puts_so, IsEndWith, closed_put}
+use Rattle.nb_openlaws.proofs.Puts.{puts_so, IsClosing, AreClosing, frames_close, closed_put}
 use Rattle.nb_openlaws.proofs.KeptOpens.{AreKept, live_unanswered}
 
--- why each ends: after any ends with this cause
+-- why each ends, and its connection is closed: after any frames and ends with this cause
 abbrev pub EndsFor : Cause → List Event → Type 0
-EndsFor cause es = (ends : List Out) → AllByRecursion (IsEndWith cause) ends → (k : ℕ) → EndsBecause k (es ++ told ends) cause
+EndsFor cause es = (closings : List Out) → AreClosing cause closings → ((k : ℕ) → EndsBecause k (es ++ told closings) cause) × WhyClosed (es ++ told closings)
 
 pub ended_advanced : (es : List Event) (k : ℕ) (cause : Cause) → IsAdvanced es → IsAdvanced (es ++ puts (ended k cause) ∷ [])
-ended_advanced es k cause a = advanced_more es (puts (ended k cause)) (λ j. refl) (λ j. refl) (λ j. refl) a
+ended_advanced es k cause a = advanced_more es (puts (ended k cause)) tt (λ j. refl) (λ j. refl) (λ j. refl) (λ j. refl) a
 
--- one is closed
-one_closes : (es : List Event) (l : Live) (cause : Cause) → is_ok_cause cause ≡ false → AgreesLive es l → Keeps l → IsAdvanced es → EndsFor cause es → OpenReasons es (ended l.number cause ∷ [])
-one_closes es l cause bad a k advanced why = record {
-  ends = ((subst (λ z. EndsBecause l.number z cause) (append-nil es) (why [] tt l.number), live_opening l, live_one l.number es (live_opening l) a.opening a.lives, bad ∙ sym (live_unanswered es l a k)), tt);
+-- one that has no connection is closed
+end_closes : (es : List Event) (l : Live) (cause : Cause) → is_ok_cause cause ≡ false → AgreesLive es l → Keeps l → IsAdvanced es → EndsFor cause es → OpenReasons es (ended l.number cause ∷ [])
+end_closes es l cause bad a k advanced why = record {
+  ends = ((subst (λ z. EndsBecause l.number z cause) (append-nil es) ((why [] tt).0 l.number), live_opening l, live_one l.number es (live_opening l) a.opening a.lives, bad ∙ sym (live_unanswered es l a k)), tt);
   frames = (tt, tt);
   advances = (advanced, tt);
   tries = (tt, tt);
   after = ended_advanced es l.number cause advanced;
 }
 
-why_on : (es : List Event) (k : ℕ) (cause : Cause) → EndsFor cause es → EndsFor cause (es ++ puts (ended k cause) ∷ [])
-why_on es k cause why ends all j = subst (λ z. EndsBecause j z cause) (sym (append_assoc es (puts (ended k cause) ∷ []) (told ends))) (why (ended k cause ∷ ends) ((k, refl), all) j)
+datagrams_close : (kind : OpenKind) (l : Live) (x : Exchange) (cause : Cause) → is_connection kind ≡ false → x.came ≡ close cause → KeepsBy kind (continued l x) → AllByRecursion (IsOngoing kind l.number l.own) l.exchanges → ComesToOwnPort kind l.own (close cause) → x.put ≡ ended l.number cause ∷ []
+datagrams_close kind l x cause plain came keeps going own = by (last_as kind l x plain keeps going (subst (ComesToOwnPort kind l.own) (sym came) own))
+  where
+    by : LastAs kind l x → x.put ≡ ended l.number cause ∷ []
+    by (took_as h call acts t) = absurd (let none : [] ≡ call ∷ [] = sym (ap (heard_call kind) came) ∙ t.heard in cc)
+    by (closed_as other is put) = let both : close other ≡ close cause = sym is ∙ came in let same : other ≡ cause = cc in put ∙ ap (λ z. ended l.number z ∷ []) same
+
+kind_closes : (kind : OpenKind) (es : List Event) (l : Live) (x : Exchange) (cause : Cause) → l.kind ≡ kind → x.came ≡ close cause → is_ok_cause cause ≡ false → client es ≡ x.link → AgreesLive es l → Keeps l → KeepsBy kind (continued l x) → IsAdvanced es → EndsFor cause es → OpenReasons es x.put
+kind_closes tftp es l x cause is came bad same a k keeps advanced why =
+    subst (λ z. OpenReasons es z) (sym (datagrams_close tftp l x cause refl came keeps (subst (λ z. AllByRecursion (IsOngoing z l.number l.own) l.exchanges) is a.goes_on) tt)) (end_closes es l cause bad a k advanced why)
+kind_closes (http isn) es l x cause is came bad same a k keeps advanced why =
+    web_closes es l x isn cause came bad same (subst (λ z. IsKindBy (hardware es) l.number z (opening_as z l)) is a.kind_is) (a.opening ∙ ap (λ z. opening_as z l ∷ []) is) a.lives a.streams (subst (λ z. KeepsBy z l) is k) keeps
+    (subst (λ z. AllByRecursion (IsOngoing z l.number l.own) l.exchanges) is a.goes_on) advanced (subst WhyClosed (append-nil es) (why [] tt).1) (λ frames alone. (why frames (frames_close cause frames alone)).0 l.number)
+kind_closes (dns id) es l x cause is came bad same a k keeps advanced why =
+    subst (λ z. OpenReasons es z) (sym (datagrams_close (dns id) l x cause refl came keeps (subst (λ z. AllByRecursion (IsOngoing z l.number l.own) l.exchanges) is a.goes_on) tt)) (end_closes es l cause bad a k advanced why)
+kind_closes (dhcp b) es l x cause is came bad same a k keeps advanced why =
+    subst (λ z. OpenReasons es z) (sym (datagrams_close (dhcp b) l x cause refl came keeps (subst (λ z. AllByRecursion (IsOngoing z l.number l.own) l.exchanges) is a.goes_on) tt)) (end_closes es l cause bad a k advanced why)
+kind_closes ping es l x cause is came bad same a k keeps advanced why =
+    subst (λ z. OpenReasons es z) (sym (datagrams_close ping l x cause refl came keeps (subst (λ z. AllByRecursion (IsOngoing z l.number l.own) l.exchanges) is a.goes_on) tt)) (end_closes es l cause bad a k advanced why)
+
+why_on : (es : List Event) (put : List Out) (cause : Cause) → AreClosing cause put → EndsFor cause es → EndsFor cause (es ++ told put)
+why_on es put cause of why closings all =
+    let more = why (put ++ closings) (all_append (IsClosing cause) put closings of all) in
+    let same : es ++ told (put ++ closings) ≡ (es ++ told put) ++ told closings = ap (λ z. es ++ z) (map-append puts put closings) ∙ sym (append_assoc es (told put) (told closings)) in
+    (λ j. subst (λ z. EndsBecause j z cause) same (more.0 j), subst WhyClosed same more.1)
 
 apart_from : (k j : ℕ) (ls : List Live) → lives_among k ls ≡ false → lives_among j ls ≡ true → (k == j) ≡ false
 apart_from k j ls none some = ne_eqb k j (λ same. absurd (let no : false ≡ true = sym none ∙ ap (λ z. lives_among z ls) same ∙ some in cc no))
 
 -- the others live on
-others_live : (es : List Event) (k : ℕ) (cause : Cause) (ls : List Live) → lives_among k ls ≡ false → AreLive es ls → AreLive (es ++ puts (ended k cause) ∷ []) ls
-others_live es k cause ls none a =
-    let f = left es (ended k cause ∷ []) (tt, tt) in
-    all_same es (es ++ puts (ended k cause) ∷ []) ls (grown es (puts (ended k cause) ∷ [])) f.made_is f.hardware_is (λ j some. others_same es k j (ended k cause ∷ []) (refl, tt) (apart_from k j ls none some)) a
+others_live : (es : List Event) (k : ℕ) (put : List Out) (ls : List Live) → AreOf k put → lives_among k ls ≡ false → AreLive es ls → AreLive (es ++ told put) ls
+others_live es k put ls of none a =
+    let f = left es put (of_later k put of) in
+    all_same es (es ++ told put) ls (grown es (told put)) f.made_is f.hardware_is (λ j some. others_same es k j put of (apart_from k j ls none some)) a
+
+-- one, of several
+one_closes : (devices : List Client) (es : List Event) (l : Live) (link : Client) (cause : Cause) (put : List Out) → devices ≡ client es ∷ [] → slice_get devices l.device ≡ Some link → is_ok_cause cause ≡ false → AgreesLive es l → Keeps l → Keeps (continued l (exchange (close cause) link put)) →
+    IsAdvanced es → EndsFor cause es → OpenReasons es put
+one_closes devices es l link cause put d got_it bad a k keeps advanced why = kind_closes l.kind es l (exchange (close cause) link put) cause refl refl bad (link_of es devices l link d a.on_net0 got_it) a k keeps advanced why
 
 -- all are closed
 pub closes_reasons : (devices : List Client) (cause : Cause) (ls : List Live) (put : List Out) (after : List Live) (over : List Over) → AllTake devices (close cause) ls put after over → is_ok_cause cause ≡ false →
-    (es : List Event) → AreLive es ls → HaveOwnNumbers ls → AreKept ls → IsAdvanced es → EndsFor cause es → OpenReasons es put
-closes_reasons devices cause ls put after over all_have bad es a apart kept advanced why = no_reasons es advanced
-closes_reasons devices cause ls0 put0 after0 over0 (lives_on l ls after link put more over got keeps_so none rest) bad es a apart kept advanced why =
-    let is = closed_put l.number cause link put (puts_so l (exchange (close cause) link put) keeps_so) in
-    let one = one_closes es l cause bad a.0 kept.0 advanced why in
-    let es1 = es ++ puts (ended l.number cause) ∷ [] in
-    subst (λ z. OpenReasons es (z ++ more)) (sym is)
-    (reasons_then es (ended l.number cause ∷ []) more one (closes_reasons devices cause ls more after over rest bad es1 (others_live es l.number cause ls apart.0 a.1) apart.1 kept.1 one.after (why_on es l.number cause why)))
-closes_reasons devices cause ls0 put0 after0 over0 (is_over l ls after link put more over c got keeps_so some rest) bad es a apart kept advanced why =
-    let is = closed_put l.number cause link put (puts_so l (exchange (close cause) link put) keeps_so) in
-    let one = one_closes es l cause bad a.0 kept.0 advanced why in
-    let es1 = es ++ puts (ended l.number cause) ∷ [] in
-    subst (λ z. OpenReasons es (z ++ more)) (sym is)
-    (reasons_then es (ended l.number cause ∷ []) more one (closes_reasons devices cause ls more after over rest bad es1 (others_live es l.number cause ls apart.0 a.1) apart.1 kept.1 one.after (why_on es l.number cause why)))
+    (es : List Event) → devices ≡ client es ∷ [] → AreLive es ls → HaveOwnNumbers ls → AreKept ls → IsAdvanced es → EndsFor cause es → OpenReasons es put
+closes_reasons devices cause ls put after over all_have bad es d a apart kept advanced why = no_reasons es advanced
+closes_reasons devices cause ls0 put0 after0 over0 (lives_on l ls after link put more over got_it keeps_so none rest) bad es d a apart kept advanced why =
+    let of = (kept_puts l (exchange (close cause) link put) keeps_so).of in
+    let one = one_closes devices es l link cause put d got_it bad a.0 kept.0 keeps_so advanced why in
+    let closing = closed_put l.number cause link put (puts_so l (exchange (close cause) link put) keeps_so) in
+    reasons_then es put more one
+    (closes_reasons devices cause ls more after over rest bad (es ++ told put) (d ∙ ap (λ c. c ∷ []) (sym (client_some es put (some_of l.number put of)))) (others_live es l.number put ls of apart.0 a.1) apart.1 kept.1 one.after (why_on es put cause closing why))
+closes_reasons devices cause ls0 put0 after0 over0 (is_over l ls after link put more over c got_it keeps_so some rest) bad es d a apart kept advanced why =
+    let of = (kept_puts l (exchange (close cause) link put) keeps_so).of in
+    let one = one_closes devices es l link cause put d got_it bad a.0 kept.0 keeps_so advanced why in
+    let closing = closed_put l.number cause link put (puts_so l (exchange (close cause) link put) keeps_so) in
+    reasons_then es put more one
+    (closes_reasons devices cause ls more after over rest bad (es ++ told put) (d ∙ ap (λ c. c ∷ []) (sym (client_some es put (some_of l.number put of)))) (others_live es l.number put ls of apart.0 a.1) apart.1 kept.1 one.after (why_on es put cause closing why))

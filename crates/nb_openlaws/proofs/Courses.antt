@@ -11,10 +11,12 @@ use Rattle.nb_machine.specs.FirstText.{text_refusal}
 use Rattle.nb_laws.specs.Agreement.{AreStill}
 use Rattle.nb_defs.specs.Records.{Start, In, Out, result, enter, leave}
 use Rattle.nb_settings.specs.Tables.{TableLists}
+use Rattle.nb_uri.specs.declared.target.UriTarget.{UriTarget}
+use Rattle.nb_uri.specs.declared.target.UriTarget.TheVariants.{Tftp, Http, Iscsi}
 use Rattle.nb_stack.specs.Client.{Client}
 use Rattle.nb_machine.specs.Effects.{Effect, says, asks, goes, sleeps, shuts_device, inquires, on_images, concludes_at_once, full_opens, shown_words}
 use Rattle.nb_machine.specs.Queries.{Query, for_lease, for_echo, for_host, for_address}
-use Rattle.nb_machine.specs.Errands.{Onward, fetches_now, echoes_now}
+use Rattle.nb_machine.specs.Errands.{Wanted, Onward, fetches_now, echoes_now, looks_up_now}
 use Rattle.nb_defs.specs.Causes.{ok}
 use Rattle.nb_machine.specs.Running.{Running, no_label, entered, anew}
 use Rattle.nb_machine.specs.CommandRecords.{command_record, command_records, no_route, stopped_cause}
@@ -23,12 +25,13 @@ use Rattle.nb_image.specs.Images.{ImageList}
 use Rattle.nb_machine.specs.Lives.{close, Live, open_record, end_record}
 use Rattle.nb_machine.specs.States.{State, following, state_at_start, with_images, with_settings, with_live, with_opened, with_one_made}
 use Rattle.nb_machine.specs.Takings.{Over, AllTake}
-use Rattle.nb_machine.specs.Scripts.{Job, ends, opens, shuts, doing_by, transfer_for, live_for, live_onward, net0_mac, Upshot, concludes, settles, goes_onward, upshot_records, concluded_by}
+use Rattle.nb_machine.specs.Scripts.{Job, ends, opens, shuts, doing_by, transfer_kind, transfer_for, live_for, live_onward, net0_mac, Upshot, concludes, settles, goes_onward, upshot_records, concluded_by}
 use Rattle.nb_machine.specs.Courses as course
 use Rattle.nb_machine.specs.Courses.{Standing, Progress, stands, nowhere, text_records, text_standing, ScriptLeads, ConclusionLeads, LeadsTo, StepBegins, Proceeds, Course}
 use Rattle.nb_laws.specs.Events.{Event, starts, stops, puts, inputs, outputs, used_by, written_by, put_one}
 use Rattle.nb_laws.specs.Lists.{time, made, port_offset, hardware, gathered, openings, open_has_ended, live, calls, marks}
-use Rattle.nb_openlaws.specs.Standings.{AgreesState, AgreesStanding}
+use Rattle.nb_laws.specs.Webs.{brought_to, try_marks_of}
+use Rattle.nb_openlaws.specs.Standings.{live_opening, IsKindBy, AgreesState, AgreesStanding}
 use Rattle.nb_laws.proofs.Tellings.{told}
 use Rattle.nb_laws.proofs.Asides.{more_still, still_command, still_conclusion, still_handoff, silent_handoff}
 use Rattle.nb_openlaws.proofs.UsedEvents.{IsUsed}
@@ -79,15 +82,24 @@ query_next s (for_echo server) = record { number_is = refl; device_is = refl; si
 query_next s (for_host errand name by) = record { number_is = refl; device_is = refl; since_is = refl; bare = refl; kind_is = (refl, refl) }
 query_next s (for_address setting name by) = record { number_is = refl; device_is = refl; since_is = refl; bare = refl; kind_is = (refl, refl) }
 
+transfer_next : (s : State) (wanted : Wanted) → IsNext s (transfer_for s wanted)
+transfer_next s wanted = record { number_is = refl; device_is = refl; since_is = refl; bare = refl; kind_is = by wanted.asking.target }
+  where
+    by : (target : UriTarget) → IsKindBy (record { mac = net0_mac s.devices; identity = s.machine }) s.opens (transfer_kind s target) (live_opening (transfer_for s wanted))
+    by (Tftp name port path whole) = tt
+    by (Http name port path whole) = refl
+    by (Iscsi name port lun disk whole) = tt
+
 pub onward_next : (s : State) (next : Onward) → IsNext s (live_onward s next)
-onward_next s (fetches_now wanted) = record { number_is = refl; device_is = refl; since_is = refl; bare = refl; kind_is = tt }
-onward_next s (echoes_now server) = record { number_is = refl; device_is = refl; since_is = refl; bare = refl; kind_is = (refl, refl) }
+onward_next s (fetches_now wanted) = transfer_next s wanted
+onward_next s (echoes_now server) = query_next s (for_echo server)
+onward_next s (looks_up_now errand name by) = query_next s (for_host errand name by)
 
 pub opens_next : (s t : State) (table : TableLists) (up : Bool) (e : Effect) (l : Live) (job : Job) → doing_by s table up e ≡ opens t l job → KeepsOpens s t × IsNext t l
 opens_next s t table up (asks wanted) l job e =
     let same : s ≡ t = cc in
     let it : transfer_for s wanted ≡ l = cc in
-    (subst (KeepsOpens s) same (keeps_same s), subst (λ z. IsNext z l) same (subst (IsNext s) it (record { number_is = refl; device_is = refl; since_is = refl; bare = refl; kind_is = tt })))
+    (subst (KeepsOpens s) same (keeps_same s), subst (λ z. IsNext z l) same (subst (IsNext s) it (transfer_next s wanted)))
 opens_next s t table up (inquires q) l job e =
     let same : with_settings s table up ≡ t = cc in
     let it : live_for (with_settings s table up) q ≡ l = cc in
@@ -122,7 +134,7 @@ pub record Begun (es : List Event) (r : In) (added : List Out) (p : Standing) : 
   pub agrees : AgreesStanding ((es ++ event ∷ []) ++ told more) p
 
 started : (s : Start) (n : ℕ) → AgreesState (starts n s ∷ []) (state_at_start s)
-unfolding time made port_offset hardware openings calls marks live open_has_ended gathered
+unfolding time made port_offset hardware openings calls marks live open_has_ended gathered brought_to try_marks_of
 started s n = record {
   time = refl;
   opens = refl;
@@ -135,6 +147,7 @@ started s n = record {
   unopened = λ j more. refl;
   unended = λ j more. refl;
   untold = λ j more. (refl, refl);
+  unstreamed = λ j more. (refl, refl);
 }
 
 -- a text that is to run
@@ -183,7 +196,7 @@ told_two es a b = append_assoc es (told a) (told b) ∙ ap (λ z. es ++ z) (sym 
 
 off_state : (es : List Event) (n : ℕ) (s : State) (put : List Out) (over : List Over) → AgreesState es s → AllTake s.devices (close stopped_cause) s.live put [] over → AgreesState ((es ++ stops n ∷ []) ++ told put) (with_live s [])
 off_state es n s put over a all =
-    close_agrees (es ++ stops n ∷ []) s stopped_cause put [] over (nothing_came es (stops n) s tt tt a (λ j. refl) refl) all
+    close_agrees (es ++ stops n ∷ []) s stopped_cause put [] over (nothing_came es (stops n) s tt tt a (λ j. (refl, refl)) refl) all
 
 -- a record is used, and its step begins
 pub step_told : (es : List Event) (m : Progress) (r : In) (added : List Out) (m2 : Progress) → StepBegins m r added m2 → AgreesStanding es m.standing → Begun es r added m2.standing
@@ -295,7 +308,7 @@ move_told es m added m2 (course.opens_one n s s2 inner outer c cs l job link put
     let b = command_record inner (shown_words s.table (c ∷ cs)) ∷ [] in
     let k = opens_next s s2 _ _ _ l job is in
     let f = begun_so link l put first in
-    subst (λ z. AgreesState z (with_opened s2 l)) (told_two es b (open_record l ∷ put)) (opened_state (es ++ told b) s2 l put k.1 f.0 f.1 f.2 (kept_state (es ++ told b) s s2 k.0 (still_state es b s (tt, tt) a)))
+    subst (λ z. AgreesState z (with_opened s2 l)) (told_two es b (open_record l ∷ put)) (opened_state (es ++ told b) s2 l put k.1 f.0 f.1 f.2 f.3 (kept_state (es ++ told b) s s2 k.0 (still_state es b s (tt, tt) a)))
 move_told es m added m2 (course.finds_no_route n s s2 inner outer c cs l job link comes few is got none) a =
     let b = command_record inner (shown_words s.table (c ∷ cs)) ∷ [] in
     let k = opens_next s s2 _ _ _ l job is in
@@ -307,7 +320,7 @@ move_told es m added m2 (course.finds_no_route n s s2 inner outer c cs l job lin
 move_told es m added m2 (course.opens_onward n s inner outer next link put few got first) a =
     let l = live_onward s next in
     let f = begun_so link l put first in
-    opened_state es s l put (onward_next s next) f.0 f.1 f.2 a
+    opened_state es s l put (onward_next s next) f.0 f.1 f.2 f.3 a
 move_told es m added m2 (course.finds_no_way n s inner outer next link few got none) a =
     let l = live_onward s next in
     let two = open_record l ∷ end_record l (no_route l.server) ∷ [] in

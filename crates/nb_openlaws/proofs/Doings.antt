@@ -1,5 +1,5 @@
 -- What a command does, by its effect.
-use Rattle.std.proofs.Common.{◌≡◌, ℕ, ◌+◌, ◌*◌, Bool, List, refl, sym, ap, subst}
+use Rattle.std.proofs.Common.{◌≡◌, ℕ, ◌+◌, ◌*◌, Bool, List, refl, sym, ap}
 use Rattle.nb_defs.specs.Commands.{CommandOutcome}
 use Rattle.nb_settings.specs.Tables.{TableLists}
 use Rattle.nb_machine.specs.Effects.{Effect, says, asks, goes, sleeps, shuts_device, inquires, on_images, concludes_at_once, Surroundings, settled_effect, effect, effect_in, table_after, up_after}
@@ -8,7 +8,7 @@ use Rattle.nb_machine.specs.Queries.{Query}
 use Rattle.nb_machine.specs.Conclusions.{Conclusion}
 use Rattle.nb_machine.specs.Running.{Running}
 use Rattle.nb_machine.proofs.Eithers.{images_either}
-use Rattle.nb_runner.proofs.CommandLaws.{KeepsTable, keeps_table, KeepsUp, keeps_up}
+use Rattle.nb_machine.proofs.Words.{KeepsTable, keeps_table_in, KeepsUp, keeps_up_in}
 use Rattle.nb_machine.specs.Lives.{Live}
 use Rattle.nb_machine.specs.States.{State, with_settings}
 use Rattle.nb_machine.specs.Scripts.{Job, fetch, job_for, live_for, transfer_for, ends, opens, goes_to, waits_until, shuts, concludes_now, surroundings, doing_by, doing}
@@ -139,31 +139,9 @@ concludes_by s inner ws c is = concludes_so s (table_after s.table ws) (up_after
 
 -- WHAT STAYS
 
-settled_keeps : (x : Surroundings) (e : Effect) (table other : TableLists) → KeepsTable e table other → KeepsTable (settled_effect x e) table other
-settled_keeps x (on_images c) table other h = images_either (λ e. KeepsTable e table other) (λ o. tt) (λ y. h) (λ wanted. h) (λ q. tt) x c
-settled_keeps x (says o) table other h = h
-settled_keeps x (asks wanted) table other h = h
-settled_keeps x (goes name) table other h = h
-settled_keeps x (sleeps seconds) table other h = h
-settled_keeps x shuts_device table other h = h
-settled_keeps x (inquires q) table other h = h
-settled_keeps x (concludes_at_once c) table other h = h
-
-settled_keeps_up : (x : Surroundings) (e : Effect) (up other : Bool) → KeepsUp e up other → KeepsUp (settled_effect x e) up other
-settled_keeps_up x (on_images c) up other h = images_either (λ e. KeepsUp e up other) (λ o. tt) (λ y. h) (λ wanted. h) (λ q. tt) x c
-settled_keeps_up x (says o) up other h = h
-settled_keeps_up x (asks wanted) up other h = h
-settled_keeps_up x (goes name) up other h = h
-settled_keeps_up x (sleeps seconds) up other h = h
-settled_keeps_up x shuts_device up other h = h
-settled_keeps_up x (inquires q) up other h = h
-settled_keeps_up x (concludes_at_once c) up other h = h
-
 -- the settings stay where its effect says so, and so does the device's state
 pub table_stays : (s : State) (inner : Running) (e : Effect) (ws : List (List ℕ)) → comes_to s inner ws ≡ e → KeepsTable e s.table (table_after s.table ws)
-unfolding effect_in
-table_stays s inner e ws is = subst (λ x. KeepsTable x s.table (table_after s.table ws)) is (settled_keeps (surroundings s inner) (effect s.opens s.table ws) s.table (table_after s.table ws) (keeps_table s.opens s.table ws))
+table_stays s inner e ws is = keeps_table_in (surroundings s inner) e ws is
 
 pub up_stays : (s : State) (inner : Running) (e : Effect) (ws : List (List ℕ)) → comes_to s inner ws ≡ e → KeepsUp e s.up (up_after s.table s.up ws)
-unfolding effect_in
-up_stays s inner e ws is = subst (λ x. KeepsUp x s.up (up_after s.table s.up ws)) is (settled_keeps_up (surroundings s inner) (effect s.opens s.table ws) s.up (up_after s.table s.up ws) (keeps_up s.opens s.table s.up ws))
+up_stays s inner e ws is = keeps_up_in (surroundings s inner) e s.up ws is

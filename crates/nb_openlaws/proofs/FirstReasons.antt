@@ -1,5 +1,5 @@
 -- An open is made: its OPEN, and its first message or its end where it finds no way.
-use Rattle.std.proofs.Common.{◌≡◌, Bool, true, false, cond, List, [], ◌∷◌, ◌++◌, Some, None, refl, sym, ◌∙◌, ap, subst, append-nil, arith}
+use Rattle.std.proofs.Common.{◌≡◌, ℕ, Bool, true, false, cond, List, [], ◌∷◌, ◌++◌, Some, None, refl, sym, ◌∙◌, ap, subst, append-nil, arith}
 use Rattle.std.specs.List.{flat_map}
 use Rattle.std.proofs.lemmas.Option.{none-some, same_Some}
 use Rattle.std.proofs.Math.Bool.{or-false}
@@ -14,46 +14,69 @@ use Rattle.nb_tftp.specs.History.{received_by}
 use Rattle.nb_command.specs.SettingAddresses.{host}
 use Rattle.nb_machine.specs.Sendings.{has_route, send_records}
 use Rattle.nb_machine.specs.CommandRecords.{no_route}
-use Rattle.nb_machine.specs.Lives.{OpenKind, tftp, dns, dhcp, ping, kind_number, Live, open_record, end_record}
-use Rattle.nb_machine.specs.Kinds.{first_records}
+use Rattle.nb_machine.specs.Lives.{OpenKind, tftp, http, dns, dhcp, ping, kind_number, Live, open_record, end_record}
+use Rattle.nb_machine.specs.Findings.{first_word}
+use Rattle.nb_machine.specs.Connections.{connection_of}
+use Rattle.nb_machine.specs.Webs.{request_at}
+use Rattle.nb_streams.specs.Flows.{conn_phase, asking}
+use Rattle.nb_streams.specs.Sending.{syn, tried_again, by_asking}
+use Rattle.nb_readings.specs.Ends.{is_whole}
+use Rattle.nb_webs.specs.Webs.{response_come}
+use Rattle.nb_machine.specs.Kinds.{first_records, is_connection}
 use Rattle.nb_machine.specs.States.{State}
 use Rattle.nb_laws.specs.Events.{Event, puts}
 use Rattle.nb_laws.specs.Histories.{client}
-use Rattle.nb_laws.specs.Lists.{Hardware, hardware, open_has_ended, calls}
-use Rattle.nb_laws.specs.Cores.{answers_open}
+use Rattle.nb_laws.specs.Lists.{Hardware, hardware, openings, open_has_ended, calls, datagrams_of}
+use Rattle.nb_laws.specs.Webs.{brought_to, talk_by}
+use Rattle.nb_laws.specs.Cores.{answers_open, has_its_answer}
 use Rattle.nb_laws.specs.Endings.{fate_to, Holds, by_no_route}
-use Rattle.nb_laws.specs.Frames.{MayAskFor, by_transfer, by_look_up, by_discover, by_ping, by_opening}
+use Rattle.nb_laws.specs.Frames.{MayAskFor, by_transfer, by_look_up, by_discover, by_ping, IsDue, by_opening}
 use Rattle.nb_laws.specs.Progress.{IsAdvanced}
 use Rattle.nb_laws.proofs.Histories.{client_put, hardware_more}
-use Rattle.nb_laws.proofs.Tellings.{advanced_open, calls_more, over_more}
+use Rattle.nb_laws.proofs.Tellings.{advanced_open, calls_more, came_more, over_more}
 use Rattle.nb_openlaws.specs.Standings.{live_opening, IsKindBy, AgreesState}
 use Rattle.nb_openlaws.specs.OpenEndings.{by_itself}
 use Rattle.nb_openlaws.specs.OpenReasons.{OpenReasons}
 use Rattle.nb_openlaws.proofs.UsedEvents.{live_one}
-use Rattle.nb_openlaws.proofs.Sendings.{reasons_then, NewestBy, MaySend, send_reasons}
+use Rattle.nb_openlaws.proofs.Sendings.{reasons_then, NewestBy, send_reasons}
+use Rattle.nb_openlaws.proofs.Requests.{calls_after, said_once}
+use Rattle.nb_openlaws.proofs.WebStands.{begins_well, goes_unwhole}
+use Rattle.nb_openlaws.proofs.WebSendings.{segment_reasons}
 use Rattle.nb_openlaws.proofs.KindFacts.{opening_as, first_of, no_way_as}
 use Rattle.nb_openlaws.proofs.OpenStates.{IsNext, opens_here, hardware_now}
 use Rattle.nb_openlaws.proofs.Closings.{ended_advanced}
 
 -- ITS FIRST MESSAGE
 
-first_may : (kind : OpenKind) (hw : Hardware) (l : Live) → IsKindBy hw l.number kind (opening_as kind l) → MayAskFor hw l.number (opening_as kind l) [] (first_of kind l)
-first_may tftp hw l is = by_transfer refl (requests refl refl)
-first_may (dns id) hw l is = by_look_up refl tt (ap (λ n. query_to (lookup (host l.server) l.own n l.target)) is.0)
-first_may (dhcp a) hw l is = by_discover refl tt (ap (λ z. to_servers (message_text z None)) is.0)
-first_may ping hw l is = by_ping refl refl refl
+first_may : (kind : OpenKind) (hw : Hardware) (l : Live) → is_connection kind ≡ false → IsKindBy hw l.number kind (opening_as kind l) → MayAskFor hw l.number (opening_as kind l) [] (first_of kind l)
+first_may tftp hw l plain is = by_transfer refl (requests refl refl)
+first_may (http isn) hw l plain is = absurd (cc)
+first_may (dns id) hw l plain is = by_look_up refl tt (ap (λ n. query_to (lookup (host l.server) l.own n l.target)) is.0)
+first_may (dhcp a) hw l plain is = by_discover refl tt (ap (λ z. to_servers (message_text z None)) is.0)
+first_may ping hw l plain is = by_ping refl refl refl
 
-first_newest : (kind : OpenKind) (l : Live) → NewestBy (opening_as kind l) [] (first_of kind l)
-first_newest tftp l = λ file. refl
-first_newest (dns id) l = λ file. absurd (omega (arith, file))
-first_newest (dhcp a) l = λ file. absurd (omega (arith, file))
-first_newest ping l = λ file. absurd (omega (arith, file))
+first_newest : (kind : OpenKind) (l : Live) → is_connection kind ≡ false → NewestBy (opening_as kind l) [] (first_of kind l)
+first_newest tftp l plain = λ file. refl
+first_newest (http isn) l plain = absurd (cc)
+first_newest (dns id) l plain = λ file. absurd (omega (arith, file))
+first_newest (dhcp a) l plain = λ file. absurd (omega (arith, file))
+first_newest ping l plain = λ file. absurd (omega (arith, file))
 
-first_unanswered : (kind : OpenKind) (hw : Hardware) (l : Live) → answers_open hw l.number (opening_as kind l) [] ≡ false
-first_unanswered tftp hw l = refl
-first_unanswered (dns id) hw l = refl
-first_unanswered (dhcp a) hw l = refl
-first_unanswered ping hw l = refl
+-- nothing has come
+asks_first : (isn start : ℕ) (request : List ℕ) → (text : List ℕ) × (conn_phase isn (calls_after request start []) ≡ asking text)
+unfolding conn_phase
+asks_first isn start [] = ([], refl)
+asks_first isn start (b ∷ bytes) = (b ∷ bytes, refl)
+
+first_unanswered : (kind : OpenKind) (es : List Event) (l : Live) → IsKindBy (hardware es) l.number kind (opening_as kind l) → datagrams_of l.number es ≡ [] → brought_to l.number es ≡ [] → has_its_answer l.number (opening_as kind l) es ≡ false
+first_unanswered tftp es l is none unstreamed = ap (answers_open (hardware es) l.number (opening_as tftp l)) none
+first_unanswered (http isn) es l is none unstreamed =
+    let word = first_word (hardware es).identity l.number in
+    ap (λ cs. is_whole (response_come word cs).verdict) (ap (λ z. (talk_by (hardware es) l.number (opening_as (http isn) l) z).calls) unstreamed ∙ said_once (request_at l.target) word l.since [])
+    ∙ goes_unwhole word l.since l.number (request_at l.target) [] (begins_well word l.since l.number (request_at l.target))
+first_unanswered (dns id) es l is none unstreamed = ap (answers_open (hardware es) l.number (opening_as (dns id) l)) none
+first_unanswered (dhcp a) es l is none unstreamed = ap (answers_open (hardware es) l.number (opening_as (dhcp a) l)) none
+first_unanswered ping es l is none unstreamed = ap (answers_open (hardware es) l.number (opening_as ping l)) none
 
 -- AFTER ITS OPEN
 
@@ -70,8 +93,19 @@ none_called es s l link o = (o.base.untold l.number (omega (arith, o.next.number
 kind_then : (es : List Event) (s : State) (l : Live) (link : Client) → Opens es s l link → IsKindBy (hardware (es ++ puts (open_record l) ∷ [])) l.number l.kind (live_opening l)
 kind_then es s l link o = subst (λ z. IsKindBy z l.number l.kind (live_opening l)) (hardware_now es s o.base ∙ sym (hardware_more es (puts (open_record l)))) o.next.kind_is
 
+none_streamed : (es : List Event) (s : State) (l : Live) (link : Client) → Opens es s l link → brought_to l.number (es ++ puts (open_record l) ∷ []) ≡ []
+none_streamed es s l link o = came_more l.number es (puts (open_record l)) ∙ append-nil (brought_to l.number es) ∙ (o.base.unstreamed l.number (omega (arith, o.next.number_is, o.base.opens))).0
+
 -- what the history says of it then
-opened_so : (es : List Event) (s : State) (l : Live) (link : Client) → Opens es s l link → MaySend (es ++ puts (open_record l) ∷ []) link l.number (live_opening l) []
+record OpenedSo (es : List Event) (l : Live) (link : Client) : Type 0 where
+  client_is : client es ≡ link
+  opening : openings l.number es ≡ live_opening l ∷ []
+  lives : open_has_ended l.number es ≡ false
+  received : datagrams_of l.number es ≡ []
+  streams : brought_to l.number es ≡ []
+  due : IsDue l.number es
+
+opened_so : (es : List Event) (s : State) (l : Live) (link : Client) → Opens es s l link → OpenedSo (es ++ puts (open_record l) ∷ []) l link
 opened_so es s l link o =
     let e = puts (open_record l) in
     let k = l.number in
@@ -80,6 +114,7 @@ opened_so es s l link o =
       opening = opens_here es s l o.next o.base;
       lives = over_more k es e ∙ or-false (open_has_ended k es) ∙ o.base.unended k (omega (arith, o.next.number_is, o.base.opens));
       received = ap (λ z. flat_map received_by z) (calls_more k es e ∙ append-nil (calls k es) ∙ none_called es s l link o);
+      streams = none_streamed es s l link o;
       due = by_opening es (kind_number l.kind) l.server l.port l.own l.target;
     }
 
@@ -89,7 +124,7 @@ open_reasons es s l link o = record {
   frames = (tt, tt);
   advances = (o.advanced, tt);
   tries = (tt, tt);
-  after = advanced_open es l.number (kind_number l.kind) l.server l.port l.own l.target (none_called es s l link o) o.advanced;
+  after = advanced_open es l.number (kind_number l.kind) l.server l.port l.own l.target (none_called es s l link o) (o.base.unstreamed l.number (omega (arith, o.next.number_is, o.base.opens))).0 o.advanced;
 }
 
 -- it begins: OPEN, and its first message
@@ -97,15 +132,53 @@ either_sent : (es : List Event) (b : Bool) (x put : List Out) → cond b (Some x
 either_sent es true x put is r = subst (OpenReasons es) (same_Some x put is) r
 either_sent es false x put is r = absurd (none-some put is)
 
+-- its first message, by its kind, with what the history says of it
+datagrams_begin : (kind : OpenKind) (es : List Event) (l : Live) (link : Client) → is_connection kind ≡ false → client es ≡ link → openings l.number es ≡ opening_as kind l ∷ [] → open_has_ended l.number es ≡ false → datagrams_of l.number es ≡ [] →
+    IsDue l.number es → IsKindBy (hardware es) l.number kind (opening_as kind l) → IsAdvanced es → OpenReasons es (send_records link l.number (Some 1) (first_of kind l))
+datagrams_begin kind es l link plain same opening lives received due is a =
+    send_reasons es link l.number (opening_as kind l) (Some 1) (first_of kind l) [] a (record { client_is = same; opening = opening; lives = lives; received = received; due = due; no_stream = not_streamed kind plain })
+    (first_may kind (hardware es) l plain is) (λ n tries. first_newest kind l plain)
+  where
+    not_streamed : (z : OpenKind) → is_connection z ≡ false → (opening_as z l).kind ≡ 2 → ⊥
+    not_streamed tftp none e = omega (arith, e)
+    not_streamed (http isn) none e = absurd (cc)
+    not_streamed (dns id) none e = omega (arith, e)
+    not_streamed (dhcp a) none e = omega (arith, e)
+    not_streamed ping none e = omega (arith, e)
+
+web_begins : (es : List Event) (l : Live) (link : Client) (isn : ℕ) → client es ≡ link → openings l.number es ≡ opening_as (http isn) l ∷ [] → open_has_ended l.number es ≡ false → brought_to l.number es ≡ [] → IsDue l.number es →
+    IsKindBy (hardware es) l.number (http isn) (opening_as (http isn) l) → IsAdvanced es → OpenReasons es (send_records link l.number (Some 1) (first_of (http isn) l))
+web_begins es l link isn same opening lives streams due is a =
+    let request = request_at l.target in
+    let at = asks_first isn l.since request in
+    segment_reasons es (opening_as (http isn) l) link (connection_of isn l) (calls_after request l.since []) (syn isn) (Some 1) a due (record {
+      client_is = same;
+      opening = opening;
+      lives = lives;
+      kind_is = refl;
+      link_is = ap (λ z. record { own_port = l.own; peer = host l.server; peer_port = l.port; isn = z }) (sym is);
+      calls_are = ap (λ z. (talk_by (hardware es) l.number (opening_as (http isn) l) z).calls) streams ∙ said_once request (first_word (hardware es).identity l.number) l.since [];
+    }) (by_asking at.0 at.1 refl) (λ n tries. ap (tried_again isn) (sym at.1))
+
+kind_begins : (kind : OpenKind) (es : List Event) (l : Live) (link : Client) → client es ≡ link → openings l.number es ≡ opening_as kind l ∷ [] → open_has_ended l.number es ≡ false → datagrams_of l.number es ≡ [] → brought_to l.number es ≡ [] → IsDue l.number es →
+    IsKindBy (hardware es) l.number kind (opening_as kind l) → IsAdvanced es → OpenReasons es (send_records link l.number (Some 1) (first_of kind l))
+kind_begins tftp es l link same opening lives received streams due is a = datagrams_begin tftp es l link refl same opening lives received due is a
+kind_begins (http isn) es l link same opening lives received streams due is a = web_begins es l link isn same opening lives streams due is a
+kind_begins (dns id) es l link same opening lives received streams due is a = datagrams_begin (dns id) es l link refl same opening lives received due is a
+kind_begins (dhcp b) es l link same opening lives received streams due is a = datagrams_begin (dhcp b) es l link refl same opening lives received due is a
+kind_begins ping es l link same opening lives received streams due is a = datagrams_begin ping es l link refl same opening lives received due is a
+
 pub begins_reasons : (es : List Event) (s : State) (l : Live) (link : Client) (put : List Out) → Opens es s l link → first_records l.kind l link ≡ Some put → OpenReasons es (open_record l ∷ put)
 begins_reasons es s l link put o first =
     let es1 = es ++ puts (open_record l) ∷ [] in
     let r = open_reasons es s l link o in
-    let sends = send_reasons es1 link l.number (live_opening l) (Some 1) (first_of l.kind l) [] r.after (opened_so es s l link o) (first_may l.kind (hardware es1) l (kind_then es s l link o)) (λ n tries. first_newest l.kind l) in
+    let m = opened_so es s l link o in
+    let sends = kind_begins l.kind es1 l link m.client_is m.opening m.lives m.received m.streams m.due (kind_then es s l link o) r.after in
     reasons_then es (open_record l ∷ []) put r (by es1 l.kind first sends)
   where
     by : (es1 : List Event) (kind : OpenKind) → first_records kind l link ≡ Some put → OpenReasons es1 (send_records link l.number (Some 1) (first_of kind l)) → OpenReasons es1 put
     by es1 tftp is r = either_sent es1 (has_route link (first_of tftp l)) (send_records link l.number (Some 1) (first_of tftp l)) put is r
+    by es1 (http isn) is r = either_sent es1 (has_route link (first_of (http isn) l)) (send_records link l.number (Some 1) (first_of (http isn) l)) put is r
     by es1 (dns id) is r = either_sent es1 (has_route link (first_of (dns id) l)) (send_records link l.number (Some 1) (first_of (dns id) l)) put is r
     by es1 (dhcp a) is r = either_sent es1 (has_route link (first_of (dhcp a) l)) (send_records link l.number (Some 1) (first_of (dhcp a) l)) put is r
     by es1 ping is r = either_sent es1 (has_route link (first_of ping l)) (send_records link l.number (Some 1) (first_of ping l)) put is r
@@ -121,6 +194,7 @@ lost l link is = by l.kind is
   where
     by : (kind : OpenKind) → first_records kind l link ≡ None → has_route link (first_of kind l) ≡ false
     by tftp is = either_lost (has_route link (first_of tftp l)) (send_records link l.number (Some 1) (first_of tftp l)) is
+    by (http isn) is = either_lost (has_route link (first_of (http isn) l)) (send_records link l.number (Some 1) (first_of (http isn) l)) is
     by (dns id) is = either_lost (has_route link (first_of (dns id) l)) (send_records link l.number (Some 1) (first_of (dns id) l)) is
     by (dhcp a) is = either_lost (has_route link (first_of (dhcp a) l)) (send_records link l.number (Some 1) (first_of (dhcp a) l)) is
     by ping is = either_lost (has_route link (first_of ping l)) (send_records link l.number (Some 1) (first_of ping l)) is
@@ -136,7 +210,7 @@ lost_reasons es s l link o none =
     let holds : Holds k es1 cause = by_no_route (live_opening l) m.opening refl (subst (λ (c : Client). fate_to c (live_opening l) ≡ fate.NoRoute) (sym m.client_is) (no_way_as l.kind (hardware es1) l link (kind_then es s l link o) (lost l link none)))
     (record { before = es; kind = kind_number l.kind; server = l.server; port = l.port; own = l.own; target = l.target; last = refl }) in
     reasons_then es (open_record l ∷ []) (end_record l cause ∷ []) r (record {
-      ends = ((by_itself holds, live_opening l, live_one k es1 (live_opening l) m.opening m.lives, sym (ap (answers_open (hardware es1) k (live_opening l)) m.received ∙ first_unanswered l.kind (hardware es1) l)), tt);
+      ends = ((by_itself holds, live_opening l, live_one k es1 (live_opening l) m.opening m.lives, sym (first_unanswered l.kind es1 l (kind_then es s l link o) m.received m.streams)), tt);
       frames = (tt, tt);
       advances = (r.after, tt);
       tries = (tt, tt);

@@ -10,33 +10,42 @@ use Rattle.nb_stack.specs.Client.{Client}
 use Rattle.nb_machine.specs.Conclusions.{Conclusion, keeps, tells, fails, boots, runs_script}
 use Rattle.nb_settings.specs.Tables.{TableLists}
 use Rattle.nb_machine.specs.Effects.{Effect}
-use Rattle.nb_machine.specs.Errands.{Wanted, Onward, fetches_now, echoes_now}
+use Rattle.nb_machine.specs.Errands.{Wanted, Onward, fetches_now, echoes_now, looks_up_now}
 use Rattle.nb_machine.specs.Queries.{Query, for_lease, for_echo, for_host, for_address}
 use Rattle.nb_machine.specs.Running.{Running, entered, anew}
-use Rattle.nb_runner.proofs.HandingLemmas.{all_append}
-use Rattle.nb_machine.specs.Lives.{OpenInput, Live}
+use Rattle.nb_streams.proofs.FlowLaws.{all_append}
+use Rattle.nb_machine.specs.Lives.{OpenKind, tftp, http, dns, dhcp, ping, OpenInput, Live}
 use Rattle.nb_machine.specs.Transfers as transfers
 use Rattle.nb_machine.specs.Cores as cores
-use Rattle.nb_machine.specs.Kinds.{Keeps}
+use Rattle.nb_machine.specs.Kinds.{Keeps, KeepsBy, is_connection}
+use Rattle.nb_machine.specs.Findings.{first_word}
+use Rattle.nb_uri.specs.declared.target.UriTarget.{UriTarget}
+use Rattle.nb_uri.specs.declared.target.UriTarget.TheVariants.{Tftp, Http, Iscsi}
+use Rattle.nb_machine.specs.Webs.{request_at}
+use Rattle.nb_readings.specs.Ends.{is_whole}
+use Rattle.nb_webs.specs.Webs.{response_come}
 use Rattle.nb_machine.specs.States.{State, with_images, with_settings}
 use Rattle.nb_terms.specs.declared.cause.Cause.{Cause}
 use Rattle.nb_defs.specs.ScriptLines.{script_reading}
 use Rattle.nb_imagecmd.specs.declared.outcome.ScriptImage.{ScriptImage}
 use Rattle.nb_machine.specs.FirstText.{text_refusal}
 use Rattle.nb_machine.specs.Takings.{Over, AllTake, all_have, lives_on, is_over}
-use Rattle.nb_machine.specs.Network.{Network, passes_by, brings, brings_reply, passes_time}
-use Rattle.nb_machine.specs.Scripts.{Job, transfer_for, live_for, live_onward, Upshot, concludes, settles, goes_onward, concluded_by}
+use Rattle.nb_machine.specs.Network.{Network, passes_by, brings, brings_reply, brings_segment, passes_time}
+use Rattle.nb_machine.specs.Scripts.{Job, transfer_kind, transfer_for, live_for, live_onward, Upshot, concludes, settles, goes_onward, concluded_by}
 use Rattle.nb_machine.specs.Courses as course
 use Rattle.nb_machine.specs.Courses.{Standing, Progress, text_standing, ScriptLeads, ConclusionLeads, LeadsTo, StepBegins, Proceeds, Course}
 use Rattle.nb_laws.specs.Events.{Event}
-use Rattle.nb_laws.specs.Lists.{hardware, Opening, live}
+use Rattle.nb_laws.specs.Lists.{hardware, Opening, live, calls}
+use Rattle.nb_laws.specs.Webs.{brought_to, talk_by}
 use Rattle.nb_laws.specs.Cores.{answers_open, has_its_answer}
 use Rattle.nb_laws.specs.Progress.{NoneIsAnswered}
 use Rattle.nb_laws.proofs.Calls.{got_same}
-use Rattle.nb_openlaws.specs.Standings.{AgreesLive, AreLive, live_opening, lives_among, AgreesState}
+use Rattle.nb_openlaws.specs.Standings.{heard_calls, streamed, IsKindBy, IsOngoing, AgreesLive, AreLive, live_opening, lives_among, AgreesState}
 use Rattle.nb_openlaws.proofs.UsedEvents.{live_one}
 use Rattle.nb_openlaws.proofs.LastEntries.{did_so}
-use Rattle.nb_openlaws.proofs.KindFacts.{unanswered_as}
+use Rattle.nb_openlaws.proofs.KindFacts.{by_datagrams, answer_as, opening_as, unanswered_as}
+use Rattle.nb_openlaws.proofs.Requests.{calls_after, said_once}
+use Rattle.nb_openlaws.proofs.WebStands.{goes_unwhole, web_goes, ongoing}
 use Rattle.nb_openlaws.proofs.Doings.{ends_by, OpensBy, opens_transfer, opens_query, opens_by}
 
 abbrev pub AreKept : List Live → Type 0
@@ -78,6 +87,7 @@ pub network_kept : (s s' : State) (n : ℕ) (r : In) (put : List Out) (over : Li
 network_kept s s' n r put over (passes_by _ device bytes link m on got brought none) h = h
 network_kept s s' n r put over (brings _ device bytes link p d before behind after l _ _ on got brought is mine before_none behind_none takes) h = around Keeps s.live before behind after l is (taken_kept _ _ _ _ _ _ takes) h
 network_kept s s' n r put over (brings_reply _ device bytes link p e before behind after l _ _ on got brought is mine before_none behind_none takes) h = around Keeps s.live before behind after l is (taken_kept _ _ _ _ _ _ takes) h
+network_kept s s' n r put over (brings_segment _ device bytes link from p g before behind after l _ _ on got brought is mine before_none behind_none takes) h = around Keeps s.live before behind after l is (taken_kept _ _ _ _ _ _ takes) h
 network_kept s s' n r put over (passes_time ms after _ _ takes) h = taken_kept _ _ _ _ _ _ takes
 
 -- A NEW OPEN
@@ -87,7 +97,12 @@ meets_nothing : (b : Begun) (start : ℕ) → Meets b start []
 meets_nothing b start = record { advance = refl; bytes = refl; whole = tt; sending = tt; tries = refl; unanswered = tt }
 
 transfer_kept : (s : State) (wanted : Wanted) → Keeps (transfer_for s wanted)
-transfer_kept s wanted = record { entries = []; exchanged = transfers.at_first; meets = meets_nothing (transfers.transfer_of (transfer_for s wanted)) s.now }
+transfer_kept s wanted = by wanted.asking.target
+  where
+    by : (target : UriTarget) → KeepsBy (transfer_kind s target) (transfer_for s wanted)
+    by (Tftp name port path whole) = record { entries = []; exchanged = transfers.at_first; meets = meets_nothing (transfers.transfer_of (transfer_for s wanted)) s.now }
+    by (Http name port path whole) = tt
+    by (Iscsi name port lun disk whole) = record { entries = []; exchanged = transfers.at_first; meets = meets_nothing (transfers.transfer_of (transfer_for s wanted)) s.now }
 
 query_kept : (s : State) (query : Query) → Keeps (live_for s query)
 query_kept s for_lease = record { calls = []; exchanged = cores.at_first; meets = record { sending = tt; whole = tt; tries = tt; unanswered = tt } }
@@ -98,6 +113,7 @@ query_kept s (for_address setting name by) = record { calls = []; exchanged = co
 onward_kept : (s : State) (next : Onward) → Keeps (live_onward s next)
 onward_kept s (fetches_now wanted) = transfer_kept s wanted
 onward_kept s (echoes_now server) = query_kept s (for_echo server)
+onward_kept s (looks_up_now errand name by) = query_kept s (for_host errand name by)
 
 -- what is opened keeps its promises, beside those that live
 opened_kept : (s s' : State) (ws : List (List ℕ)) (table : TableLists) (up : Bool) (e : Effect) (l : Live) (job : Job) → OpensBy s s' table up e l job → AreKept s.live → AreKept s'.live × Keeps l
@@ -163,10 +179,30 @@ course_kept ins outs p (course.goes_on ins0 outs0 m0 added m1 c moves) = move_ke
 
 -- WHAT THEY ASK FOR HASN'T COME
 
+datagrams_unanswered : (kind : OpenKind) (es : List Event) (l : Live) → is_connection kind ≡ false → IsKindBy (hardware es) l.number kind (opening_as kind l) → calls l.number es ≡ heard_calls kind l.exchanges → KeepsBy kind l →
+    AllByRecursion (IsOngoing kind l.number l.own) l.exchanges → has_its_answer l.number (opening_as kind l) es ≡ false
+datagrams_unanswered kind es l plain is received k going =
+    let d = did_so kind l plain k going in
+    answer_as kind l l.number es (by_datagrams kind l d.entries d.promised)
+    ∙ ap (answers_open (hardware es) l.number (opening_as kind l)) (got_same l.number es d.entries (received ∙ d.did.calls_are)) ∙ unanswered_as kind (hardware es) l d.entries is d.promised d.did.running
+
+web_unanswered : (es : List Event) (l : Live) (isn : ℕ) → IsKindBy (hardware es) l.number (http isn) (opening_as (http isn) l) → brought_to l.number es ≡ streamed l.exchanges → KeepsBy (http isn) l →
+    AllByRecursion (IsOngoing (http isn) l.number l.own) l.exchanges → has_its_answer l.number (opening_as (http isn) l) es ≡ false
+web_unanswered es l isn is streams k going =
+    let word = first_word (hardware es).identity l.number in
+    ap (λ cs. is_whole (response_come word cs).verdict) (ap (λ z. (talk_by (hardware es) l.number (opening_as (http isn) l) z).calls) streams ∙ said_once (request_at l.target) word l.since (streamed l.exchanges))
+    ∙ ap (λ w. is_whole (response_come w (calls_after (request_at l.target) l.since (streamed l.exchanges))).verdict) (sym is) ∙ goes_unwhole isn l.since l.number (request_at l.target) l.exchanges (web_goes l isn k (ongoing l.number l.own isn l.exchanges going))
+
+kind_unanswered : (kind : OpenKind) (es : List Event) (l : Live) → IsKindBy (hardware es) l.number kind (opening_as kind l) → calls l.number es ≡ heard_calls kind l.exchanges → brought_to l.number es ≡ streamed l.exchanges → KeepsBy kind l →
+    AllByRecursion (IsOngoing kind l.number l.own) l.exchanges → has_its_answer l.number (opening_as kind l) es ≡ false
+kind_unanswered tftp es l is received streams k going = datagrams_unanswered tftp es l refl is received k going
+kind_unanswered (http isn) es l is received streams k going = web_unanswered es l isn is streams k going
+kind_unanswered (dns id) es l is received streams k going = datagrams_unanswered (dns id) es l refl is received k going
+kind_unanswered (dhcp a) es l is received streams k going = datagrams_unanswered (dhcp a) es l refl is received k going
+kind_unanswered ping es l is received streams k going = datagrams_unanswered ping es l refl is received k going
+
 pub live_unanswered : (es : List Event) (l : Live) → AgreesLive es l → Keeps l → has_its_answer l.number (live_opening l) es ≡ false
-live_unanswered es l a k =
-    let d = did_so l.kind l k a.goes_on in
-    ap (answers_open (hardware es) l.number (live_opening l)) (got_same l.number es d.entries (a.received ∙ d.did.calls_are)) ∙ unanswered_as l.kind (hardware es) l d.entries a.kind_is d.promised d.did.running
+live_unanswered es l a k = kind_unanswered l.kind es l a.kind_is a.received a.streams k a.goes_on
 
 -- of open k, if it lives
 one_unanswered : (es : List Event) (k : ℕ) (o : Opening) (ls : List Live) → AreLive es ls → AreKept ls → lives_among k ls ≡ true → live k es ≡ o ∷ [] → has_its_answer k o es ≡ false

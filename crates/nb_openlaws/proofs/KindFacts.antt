@@ -1,5 +1,5 @@
 -- What the core of an open does, of each kind, in the words of the history.
-use Rattle.std.proofs.Common.{◌≡◌, ◌⊎◌, inl, inr, ℕ, ◌==◌, true, false, List, [], ◌∷◌, ◌++◌, Option, Some, None, refl, sym, ◌∙◌, ap, subst, map}
+use Rattle.std.proofs.Common.{◌≡◌, ◌⊎◌, inl, inr, ℕ, ◌==◌, true, false, List, [], ◌∷◌, ◌++◌, Option, Some, None, refl, sym, ◌∙◌, ap, subst, map, arith}
 use Rattle.std.specs.Option.{option_map_or, is_some}
 use Rattle.nb_terms.specs.declared.acts.Acts.{Acts}
 use Rattle.nb_terms.specs.declared.acts.SendTo.{SendTo}
@@ -24,17 +24,19 @@ use Rattle.nb_command.specs.SettingAddresses.{host}
 use Rattle.nb_machine.specs.Findings.{query_id}
 use Rattle.nb_machine.specs.Sendings.{has_route, request_of, is_on_its_way}
 use Rattle.nb_laws.specs.Agreement.{moment, lookup_entry_of, lease_entry_of}
-use Rattle.nb_laws.specs.Cores.{asker_by, answers_open, lookup_by}
+use Rattle.nb_laws.specs.Cores.{asker_by, answers_open, has_its_answer, lookup_by}
 use Rattle.nb_laws.specs.Endings.{fate_to}
 use Rattle.nb_laws.specs.Events.{Event}
 use Rattle.nb_laws.specs.Frames.{MayAskFor}
-use Rattle.nb_laws.specs.Lists.{Hardware, hardware, time, Opening}
+use Rattle.nb_laws.specs.Lists.{Hardware, hardware, time, Opening, datagrams_of}
 use Rattle.nb_laws.proofs.CoreAsks.{CoreAsks, CoreTold, CoreEnds}
 use Rattle.nb_laws.proofs.LookupCores.{lookup_opening, lookup_is, lookup_unanswered, lookup_sends, lookup_ends}
 use Rattle.nb_laws.proofs.LeaseCores.{lease_opening, lease_unanswered, lease_sends, lease_ends}
 use Rattle.nb_laws.proofs.PingCores.{ping_opening, ping_unanswered, ping_sends, ping_ends}
 use Rattle.nb_laws.proofs.Tries.{either_false}
-use Rattle.nb_machine.specs.Lives.{OpenKind, tftp, dns, dhcp, ping, kind_number, Live}
+use Rattle.nb_machine.specs.Lives.{OpenKind, tftp, http, dns, dhcp, ping, kind_number, Live}
+use Rattle.nb_laws.specs.Webs.{opens_connection}
+use Rattle.nb_machine.specs.Connections.{connection_of, syn_message}
 use Rattle.nb_machine.specs.Transfers.{transfer_of}
 use Rattle.nb_machine.specs.Cores.{look_up_of, ping_of}
 use Rattle.nb_openlaws.specs.Standings.{IsKindBy}
@@ -47,6 +49,7 @@ opening_as kind l = record { kind = kind_number kind; server = l.server; port = 
 -- its first message
 abbrev pub first_of : OpenKind → Live → SendTo
 first_of tftp l = request_of (transfer_of l)
+first_of (http isn) l = syn_message (connection_of isn l)
 first_of (dns id) l = query_to (look_up_of id l)
 first_of (dhcp a) l = to_servers (message_text a None)
 first_of ping l = echo_request (ping_of l)
@@ -70,6 +73,43 @@ lookup_kept hw id l h is meets = subst (λ (x : Lookup). LookupMeets x l.since (
 
 lease_kept : (hw : Hardware) (k : ℕ) (a : Asker) (since : ℕ) (h : List Entry) → a ≡ asker_by hw k → LeasePromises a since (map lease_entry_of h) → LeasePromises (asker_by hw k) since (map lease_entry_of h)
 lease_kept hw k a since h is meets = subst (λ (b : Asker). LeasePromises b since (map lease_entry_of h)) is meets
+
+-- what comes to it are datagrams or echo replies
+abbrev pub ByDatagrams : OpenKind → Type 0
+ByDatagrams tftp = Unit {0}
+ByDatagrams (http isn) = ⊥
+ByDatagrams (dns id) = Unit {0}
+ByDatagrams (dhcp a) = Unit {0}
+ByDatagrams ping = Unit {0}
+
+pub by_datagrams : (kind : OpenKind) (l : Live) (h : List Entry) → Promised kind l h → ByDatagrams kind
+by_datagrams tftp l h p = tt
+by_datagrams (http isn) l h p = absurd p
+by_datagrams (dns id) l h p = tt
+by_datagrams (dhcp a) l h p = tt
+by_datagrams ping l h p = tt
+
+pub no_stream : (kind : OpenKind) (l : Live) → ByDatagrams kind → (opening_as kind l).kind ≡ 2 → ⊥
+no_stream tftp l d e = omega (arith, e)
+no_stream (http isn) l d e = absurd d
+no_stream (dns id) l d e = omega (arith, e)
+no_stream (dhcp a) l d e = omega (arith, e)
+no_stream ping l d e = omega (arith, e)
+
+pub no_connection : (kind : OpenKind) (l : Live) → ByDatagrams kind → opens_connection (opening_as kind l) ≡ false
+no_connection tftp l d = refl
+no_connection (http isn) l d = absurd d
+no_connection (dns id) l d = refl
+no_connection (dhcp a) l d = refl
+no_connection ping l d = refl
+
+-- what it asks for is made of its datagrams
+pub answer_as : (kind : OpenKind) (l : Live) (k : ℕ) (es : List Event) → ByDatagrams kind → has_its_answer k (opening_as kind l) es ≡ answers_open (hardware es) k (opening_as kind l) (datagrams_of k es)
+answer_as tftp l k es d = refl
+answer_as (http isn) l k es d = absurd d
+answer_as (dns id) l k es d = refl
+answer_as (dhcp a) l k es d = refl
+answer_as ping l k es d = refl
 
 -- WHAT IT ASKS FOR HASN'T COME WHILE IT GOES ON
 
@@ -111,6 +151,7 @@ lease_ungranted hw k since h meets running = by (by_last h)
 
 pub unanswered_as : (kind : OpenKind) (hw : Hardware) (l : Live) (h : List Entry) → IsKindBy hw l.number kind (opening_as kind l) → Promised kind l h → is_ended h ≡ false → answers_open hw l.number (opening_as kind l) (got h) ≡ false
 unanswered_as tftp hw l h is meets running = transfer_unwhole l h meets running
+unanswered_as (http isn) hw l h is meets running = absurd meets
 unanswered_as (dns id) hw l h is meets running =
     ap (λ o. answers_open hw l.number o (got h)) (lookup_opened hw id l is) ∙ lookup_unanswered hw l.number (asked_of id l) l.since h (lookup_kept hw id l h is.0 meets) running
 unanswered_as (dhcp a) hw l h is meets running =
@@ -123,6 +164,7 @@ unanswered_as ping hw l h is meets running =
 -- it is no transfer
 abbrev pub IsCore : OpenKind → Type 0
 IsCore tftp = ⊥
+IsCore (http isn) = ⊥
 IsCore (dns id) = Unit {0}
 IsCore (dhcp a) = Unit {0}
 IsCore ping = Unit {0}
@@ -130,6 +172,7 @@ IsCore ping = Unit {0}
 pub core_asks : (kind : OpenKind) (hw : Hardware) (l : Live) (h : List Entry) (call : Call) (acts : Acts) → IsCore kind → IsKindBy hw l.number kind (opening_as kind l) → Promised kind l (h ++ entry call acts ∷ []) →
     CoreAsks (MayAskFor hw l.number (opening_as kind l) (got (h ++ entry call acts ∷ []))) (first_of kind l) acts
 core_asks tftp hw l h call acts core is meets = absurd core
+core_asks (http isn) hw l h call acts core is meets = absurd core
 core_asks (dns id) hw l h call acts core is meets =
     subst (λ o. CoreAsks (MayAskFor hw l.number o (got (h ++ entry call acts ∷ []))) (query_to (look_up_of id l)) acts) (sym (lookup_opened hw id l is))
     (subst (λ (x : Lookup). CoreAsks (MayAskFor hw l.number (lookup_opening (asked_of id l) l.since) (got (h ++ entry call acts ∷ []))) (query_to x) acts) (sym (lookup_is hw l.number (asked_of id l) l.since is.0))
@@ -146,6 +189,7 @@ core_asks ping hw l h call acts core is meets =
 pub core_ends : (kind : OpenKind) (es : List Event) (l : Live) (h : List Entry) (call : Call) (acts : Acts) (cause : Cause) → IsCore kind → IsKindBy (hardware es) l.number kind (opening_as kind l) → Promised kind l (h ++ entry call acts ∷ []) →
     CoreTold es l.number (opening_as kind l) (h ++ entry call acts ∷ []) → is_ended h ≡ false → moment call ≡ time es → acts.over ≡ Some cause → CoreEnds l.number es (opening_as kind l) cause
 core_ends tftp es l h call acts cause core is meets told running at over = absurd core
+core_ends (http isn) es l h call acts cause core is meets told running at over = absurd core
 core_ends (dns id) es l h call acts cause core is meets told running at over =
     let e = lookup_opened (hardware es) id l is in
     subst (λ o. CoreEnds l.number es o cause) (sym e)
@@ -172,6 +216,7 @@ a_way f on none = let no : true ≡ false = sym on ∙ ap is_on_its_way none in 
 -- the way of its first message is that to its server
 pub first_way : (kind : OpenKind) (hw : Hardware) (l : Live) (link : Client) → IsKindBy hw l.number kind (opening_as kind l) → has_route link (first_of kind l) ≡ is_on_its_way (fate_to link (opening_as kind l))
 first_way tftp hw l link is = refl
+first_way (http isn) hw l link is = refl
 first_way (dns id) hw l link is = refl
 first_way (dhcp a) hw l link is = ap (λ (o : Opening). is_on_its_way (fate_to link o)) (sym (lease_opened hw a l is))
 first_way ping hw l link is = refl

@@ -34,11 +34,11 @@ use Rattle.nb_nodes.specs.LeaseExchanges.{lease_service}
 use Rattle.nb_nodes.specs.EchoExchanges.{ping_service}
 use Rattle.nb_machine.specs.Sendings.{acts_records}
 use Rattle.nb_laws.specs.Agreement.{moment, lookup_entry_of, lease_entry_of, ping_entry_of}
-use Rattle.nb_machine.specs.Lives.{OpenKind, tftp, dns, dhcp, ping, OpenInput, message, time as time_came, close, Exchange, exchange, Live, continued}
+use Rattle.nb_machine.specs.Lives.{OpenKind, tftp, http, dns, dhcp, ping, OpenInput, message, time as time_came, close, Exchange, exchange, Live, continued}
 use Rattle.nb_machine.specs.Transfers.{transfer_of, arrival_of, end_records, transfer_end, transfer_records, Exchanged, at_first, takes, closes}
 use Rattle.nb_machine.specs.Cores as cores
 use Rattle.nb_machine.specs.Cores.{look_up_of, ping_of, core_end, core_records, CoreExchanged, KeepsCore}
-use Rattle.nb_machine.specs.Kinds.{KeepsBy}
+use Rattle.nb_machine.specs.Kinds.{KeepsBy, is_connection}
 use Rattle.nb_openlaws.specs.Standings.{heard_port, heard_call, moment_in, ComesToOwnPort, IsOngoing}
 use Rattle.nb_openlaws.proofs.OpenRecords.{snoc_one, no_snoc}
 use Rattle.nb_openlaws.proofs.OpenEntries.{IsFit, Did, did_transfer, ReadsAs, did_core, transfer_fit, all_front, all_last, each_front}
@@ -139,9 +139,10 @@ reads_ping p server is = record {
 
 -- THE LAST EXCHANGE
 
--- the promises of the core of an open, over its entries
+-- the promises of the core of an open, over its entries; one on a connection has none
 abbrev pub Promised : OpenKind → Live → List Entry → Type 0
 Promised tftp l h = Meets (transfer_of l) l.since h
+Promised (http isn) l h = ⊥
 Promised (dns id) l h = LookupMeets (look_up_of id l) l.since (map (lookup_entry_of (host l.server)) h)
 Promised (dhcp a) l h = LeasePromises a l.since (map lease_entry_of h)
 Promised ping l h = PingMeets (ping_of l) l.since (map (ping_entry_of (ping_of l)) h)
@@ -149,6 +150,7 @@ Promised ping l h = PingMeets (ping_of l) l.since (map (ping_entry_of (ping_of l
 -- how its last entry ends it, if it does
 abbrev pub exchange_end : OpenKind → Live → Client → List Entry → Acts → Option Cause
 exchange_end tftp l link h acts = transfer_end l.server link (file (got h)) acts
+exchange_end (http isn) l link h acts = None
 exchange_end (dns id) l link h acts = core_end l.server link acts
 exchange_end (dhcp a) l link h acts = core_end l.server link acts
 exchange_end ping l link h acts = core_end l.server link acts
@@ -156,6 +158,7 @@ exchange_end ping l link h acts = core_end l.server link acts
 -- no try is made with an end: of a transfer at a time
 abbrev pub EndsUntried : OpenKind → Call → Acts → Type 0
 EndsUntried tftp call acts = IfTicked call ((cause : Cause) → acts.over ≡ Some cause → acts.tried ≡ None)
+EndsUntried (http isn) call acts = ⊥
 EndsUntried (dns id) call acts = (cause : Cause) → acts.over ≡ Some cause → acts.tried ≡ None
 EndsUntried (dhcp a) call acts = (cause : Cause) → acts.over ≡ Some cause → acts.tried ≡ None
 EndsUntried ping call acts = (cause : Cause) → acts.over ≡ Some cause → acts.tried ≡ None
@@ -264,15 +267,16 @@ last_core s kind l conv acts_in of x calls ys (cores.closes calls0 xs0 link caus
     subst (LastAs kind l) same (closed_as cause refl refl)
 
 -- of an open that has gone on so far
-pub last_as : (kind : OpenKind) (l : Live) (x : Exchange) → KeepsBy kind (continued l x) → AllByRecursion (IsOngoing kind l.number l.own) l.exchanges → ComesToOwnPort kind l.own x.came → LastAs kind l x
-last_as tftp l x k going own = last_transfer l x k.entries _ k.exchanged refl k.meets going
-last_as (dns id) l x k going own =
+pub last_as : (kind : OpenKind) (l : Live) (x : Exchange) → (is_connection kind ≡ false) → KeepsBy kind (continued l x) → AllByRecursion (IsOngoing kind l.number l.own) l.exchanges → ComesToOwnPort kind l.own x.came → LastAs kind l x
+last_as tftp l x d k going own = last_transfer l x k.entries _ k.exchanged refl k.meets going
+last_as (http isn) l x d k going own = absurd (cc)
+last_as (dns id) l x d k going own =
     last_core lookup_service (dns id) l (lookup_entry_of (host l.server)) (λ c. c.acts) (record { reads = reads_lookup id l.server l.own; ends = λ link h acts. refl; untries = λ call acts f. f }) x k.calls _ k.exchanged refl
     (lookup_fits (look_up_of id l) [] k.calls k.meets.asking) (λ h is. subst (LookupMeets (look_up_of id l) l.since) is k.meets) going own
-last_as (dhcp a) l x k going own =
+last_as (dhcp a) l x d k going own =
     last_core lease_service (dhcp a) l lease_entry_of (λ c. c.acts) (record { reads = reads_lease a l.server l.own; ends = λ link h acts. refl; untries = λ call acts f. f }) x k.calls _ k.exchanged refl
     (lease_fits a [] k.calls k.meets.sending) (λ h is. subst (LeasePromises a l.since) is k.meets) going own
-last_as ping l x k going own =
+last_as ping l x d k going own =
     last_core ping_service ping l (ping_entry_of (ping_of l)) (λ c. c.acts) (record { reads = reads_ping (ping_of l) l.server refl; ends = λ link h acts. refl; untries = λ call acts f. f }) x k.calls _ k.exchanged refl
     (ping_fits (ping_of l) [] k.calls k.meets.asking) (λ h is. subst (PingMeets (ping_of l) l.since) is k.meets) going own
 
@@ -288,14 +292,15 @@ did_so_core {S} {B} {C} s kind l conv acts_in of calls x fits promised going =
     let d = did_core s kind l.number l.server l.own conv acts_in of.reads calls l.exchanges x (all_map (λ (z : C). IsCoreFit (acts_in z)) (λ (z : C). IsFit (acts_in z)) calls (λ z h. h.0) fits) going in
     record { entries = d.entries; did = d.did; promised = promised d.entries d.calls_are }
 
-pub did_so : (kind : OpenKind) (l : Live) → KeepsBy kind l → AllByRecursion (IsOngoing kind l.number l.own) l.exchanges → DidSo kind l
-did_so tftp l k going = record { entries = k.entries; did = did_transfer l.number l.server l.own (transfer_of l) k.entries l.exchanges k.exchanged k.meets.sending going; promised = k.meets }
-did_so (dns id) l k going =
+pub did_so : (kind : OpenKind) (l : Live) → (is_connection kind ≡ false) → KeepsBy kind l → AllByRecursion (IsOngoing kind l.number l.own) l.exchanges → DidSo kind l
+did_so tftp l d k going = record { entries = k.entries; did = did_transfer l.number l.server l.own (transfer_of l) k.entries l.exchanges k.exchanged k.meets.sending going; promised = k.meets }
+did_so (http isn) l d k going = absurd (cc)
+did_so (dns id) l d k going =
     did_so_core lookup_service (dns id) l (lookup_entry_of (host l.server)) (λ c. c.acts) (record { reads = reads_lookup id l.server l.own; ends = λ link h acts. refl; untries = λ call acts f. f }) k.calls k.exchanged
     (lookup_fits (look_up_of id l) [] k.calls k.meets.asking) (λ h is. subst (LookupMeets (look_up_of id l) l.since) is k.meets) going
-did_so (dhcp a) l k going =
+did_so (dhcp a) l d k going =
     did_so_core lease_service (dhcp a) l lease_entry_of (λ c. c.acts) (record { reads = reads_lease a l.server l.own; ends = λ link h acts. refl; untries = λ call acts f. f }) k.calls k.exchanged
     (lease_fits a [] k.calls k.meets.sending) (λ h is. subst (LeasePromises a l.since) is k.meets) going
-did_so ping l k going =
+did_so ping l d k going =
     did_so_core ping_service ping l (ping_entry_of (ping_of l)) (λ c. c.acts) (record { reads = reads_ping (ping_of l) l.server refl; ends = λ link h acts. refl; untries = λ call acts f. f }) k.calls k.exchanged
     (ping_fits (ping_of l) [] k.calls k.meets.asking) (λ h is. subst (PingMeets (ping_of l) l.since) is k.meets) going

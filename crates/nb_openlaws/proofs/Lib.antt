@@ -13,6 +13,15 @@ pub mod Sendings
 pub mod KindFacts
 pub mod TransferEnds
 pub mod ExchangeReasons
+pub mod StreamPlaces
+pub mod Requests
+pub mod WebPuts
+pub mod WebTries
+pub mod WebStands
+pub mod WebSendings
+pub mod WebEnds
+pub mod WebExchanges
+pub mod WebClosings
 pub mod AllReasons
 pub mod NetworkReasons
 pub mod Puts

@@ -6,19 +6,22 @@ use Rattle.nb_terms.specs.declared.cause.Cause.{Cause}
 use Rattle.nb_defs.specs.Records.{Out}
 use Rattle.nb_tftp.proofs.BlockLemmas.{either_way}
 use Rattle.nb_tftp.specs.History.{ticked}
-use Rattle.nb_machine.specs.Lives.{OpenKind, tftp, dns, dhcp, ping, time as time_came, close, Live}
+use Rattle.nb_machine.specs.Lives.{OpenKind, tftp, http, dns, dhcp, ping, time as time_came, close, Live}
 use Rattle.nb_machine.specs.States.{State, with_live, later_by}
 use Rattle.nb_machine.specs.Takings.{Over, AllTake}
 use Rattle.nb_laws.specs.Events.{Event, waits}
-use Rattle.nb_laws.specs.Lists.{time, ms_of, made, Hardware, hardware, Opening, open_has_ended, call_at, tries, marks}
-use Rattle.nb_openlaws.specs.Standings.{heard_calls, heard_marks, live_opening, ComesToOwnPort, AreLive, lives_among, HaveOwnNumbers, AgreesState, told_tries}
+use Rattle.nb_laws.specs.Lists.{time, ms_of, made, Hardware, hardware, Opening, open_has_ended, tries, marks}
+use Rattle.nb_laws.specs.Webs.{try_marks_of}
+use Rattle.nb_streams.specs.Talking.{by_time}
+use Rattle.nb_streams.specs.Trying.{tries_at}
+use Rattle.nb_openlaws.specs.Standings.{heard_calls, heard_marks, streamed, streamed_marks, live_opening, ComesToOwnPort, AreLive, lives_among, HaveOwnNumbers, AgreesState, told_tries}
 use Rattle.nb_laws.proofs.Histories.{time_more}
 use Rattle.nb_laws.specs.Frames.{by_call}
 use Rattle.nb_machine.specs.Scripts.{net0_mac}
-use Rattle.nb_laws.proofs.Tellings.{told, no_more, live_same}
+use Rattle.nb_laws.proofs.Tellings.{told, try_marks_by, no_more, live_same}
 use Rattle.nb_openlaws.proofs.OpenRecords.{AreLater, ends_in, left}
 use Rattle.nb_openlaws.proofs.Takings.{SameAt, then_same, Grows, grown, AllCome, live_on, both_false, all_taken}
-use Rattle.nb_openlaws.proofs.UsedEvents.{IsUsed, IsFurther, live_ended, live_one, no_call, made_used, used_same, offset_used, hardware_used, has_come}
+use Rattle.nb_openlaws.proofs.UsedEvents.{IsUsed, IsFurther, BringsNone, live_ended, live_one, no_call, made_used, used_same, offset_used, hardware_used, has_come}
 
 -- THE STATE
 
@@ -34,7 +37,7 @@ all_same a b (l ∷ ls) g m w same h = (
     or_right false y e = e
 
 -- a record came that brings no open anything
-pub nothing_came : (es : List Event) (e : Event) (s : State) → IsUsed e → IsFurther e → AgreesState es s → ((j : ℕ) → call_at j es e ≡ []) → ms_of e ≡ 0 → AgreesState (es ++ e ∷ []) s
+pub nothing_came : (es : List Event) (e : Event) (s : State) → IsUsed e → IsFurther e → AgreesState es s → ((j : ℕ) → BringsNone j es e) → ms_of e ≡ 0 → AgreesState (es ++ e ∷ []) s
 nothing_came es e s u further a none still =
     let es1 = es ++ e ∷ [] in
     let same : (j : ℕ) → SameAt j es es1 = λ j. used_same j es e u (none j) in
@@ -51,6 +54,7 @@ nothing_came es e s u further a none still =
       unopened = λ j more. (same j).openings_are ∙ a.unopened j (subst (λ z. z ≤ j) made_is more);
       unended = λ j more. (same j).over_are ∙ a.unended j (subst (λ z. z ≤ j) made_is more);
       untold = λ j more. let t = a.untold j (subst (λ z. z ≤ j) made_is more) in ((same j).calls_are ∙ t.0, (same j).marks_are ∙ t.1);
+      unstreamed = λ j more. let t = a.unstreamed j (subst (λ z. z ≤ j) made_is more) in ((same j).came_are ∙ t.0, (same j).try_marks_are ∙ t.1);
     }
 
 -- the numbers that START gave, and what stays beside the settings
@@ -74,11 +78,12 @@ as_state es s t same lives a = record {
   unopened = a.unopened;
   unended = a.unended;
   untold = a.untold;
+  unstreamed = a.unstreamed;
 }
 
 -- records that tell no open, no end and no try
-pub quiet_state : (es : List Event) (outs : List Out) (s : State) → AreLater outs → ((j : ℕ) → ends_in j outs ≡ false) → ((j now : ℕ) → told_tries j now outs ≡ []) → AgreesState es s → AgreesState (es ++ told outs) s
-quiet_state es outs s later no_ends no_tries a =
+pub quiet_state : (es : List Event) (outs : List Out) (s : State) → AreLater outs → ((j : ℕ) → ends_in j outs ≡ false) → ((j now : ℕ) → told_tries j now outs ≡ []) → ((j now : ℕ) → try_marks_by j now outs ≡ []) → AgreesState es s → AgreesState (es ++ told outs) s
+quiet_state es outs s later no_ends no_tries no_marks a =
     let f = left es outs later in
     let es1 = es ++ told outs in
     let same : (j : ℕ) → SameAt j es es1 = λ j. record {
@@ -86,6 +91,8 @@ quiet_state es outs s later no_ends no_tries a =
       over_are = f.over_is j ∙ ap (λ b. open_has_ended j es || b) (no_ends j) ∙ or-false (open_has_ended j es);
       calls_are = f.calls_is j;
       marks_are = f.marks_is j ∙ no_more (marks j es) _ (no_tries j (time es));
+      came_are = f.came_is j;
+      try_marks_are = f.try_marks_is j ∙ no_more (try_marks_of j es) _ (no_marks j (time es));
     } in
     record {
       time = f.time_is ∙ a.time;
@@ -99,6 +106,7 @@ quiet_state es outs s later no_ends no_tries a =
       unopened = λ j more. (same j).openings_are ∙ a.unopened j (subst (λ z. z ≤ j) f.made_is more);
       unended = λ j more. (same j).over_are ∙ a.unended j (subst (λ z. z ≤ j) f.made_is more);
       untold = λ j more. let t = a.untold j (subst (λ z. z ≤ j) f.made_is more) in ((same j).calls_are ∙ t.0, (same j).marks_are ∙ t.1);
+      unstreamed = λ j more. let t = a.unstreamed j (subst (λ z. z ≤ j) f.made_is more) in ((same j).came_are ∙ t.0, (same j).try_marks_are ∙ t.1);
     }
 
 -- no open that lives has a number that is still to come
@@ -110,12 +118,14 @@ not_among es j (l ∷ ls) h more = both_false (l.number == j) (lives_among j ls)
 
 own_at_time : (kind : OpenKind) (own now : ℕ) → ComesToOwnPort kind own (time_came now)
 own_at_time tftp own now = tt
+own_at_time (http isn) own now = tt
 own_at_time (dns id) own now = tt
 own_at_time (dhcp a) own now = tt
 own_at_time ping own now = tt
 
 own_at_close : (kind : OpenKind) (own : ℕ) (cause : Cause) → ComesToOwnPort kind own (close cause)
 own_at_close tftp own cause = tt
+own_at_close (http isn) own cause = tt
 own_at_close (dns id) own cause = tt
 own_at_close (dhcp a) own cause = tt
 own_at_close ping own cause = tt
@@ -125,6 +135,7 @@ times_come es n ms s [] now h = tt
 times_come es n ms s (l ∷ ls) now h = (
   has_come es (waits n ms) (time_came (s.now + ms)) l tt tt h.0
       (ap (λ (os : List Opening). flat_map (λ x. ticked (time es + ms) ∷ []) os) (live_one l.number es (live_opening l) h.0.opening h.0.lives) ∙ ap (λ z. ticked (z + ms) ∷ []) now)
+      (ap (λ (os : List Opening). flat_map (λ x. by_time (time es + ms) ∷ []) os) (live_one l.number es (live_opening l) h.0.opening h.0.lives) ∙ ap (λ z. by_time (z + ms) ∷ []) now)
       (time_more es (waits n ms) ∙ ap (λ z. z + ms) now) (own_at_time l.kind l.own (s.now + ms))
       (by_call es (waits n ms) (ticked (s.now + ms)) (ap (λ (os : List Opening). flat_map (λ x. ticked (time es + ms) ∷ []) os) (live_one l.number es (live_opening l) h.0.opening h.0.lives) ∙ ap (λ z. ticked (z + ms) ∷ []) now)),
   times_come es n ms s ls now h.1,
@@ -153,6 +164,7 @@ time_agrees es n ms s put after over a all =
       unopened = λ j more. (away_same j (few j more)).openings_are ∙ a.unopened j (subst (λ z. z ≤ j) made_is more);
       unended = λ j more. (away_same j (few j more)).over_are ∙ a.unended j (subst (λ z. z ≤ j) made_is more);
       untold = λ j more. let u = a.untold j (subst (λ z. z ≤ j) made_is more) in ((away_same j (few j more)).calls_are ∙ u.0, (away_same j (few j more)).marks_are ∙ u.1);
+      unstreamed = λ j more. let u = a.unstreamed j (subst (λ z. z ≤ j) made_is more) in ((away_same j (few j more)).came_are ∙ u.0, (away_same j (few j more)).try_marks_are ∙ u.1);
     }
 
 pub closes_come : (es : List Event) (cause : Cause) (ls : List Live) → AreLive es ls → AllCome es (close cause) ls
@@ -166,6 +178,8 @@ closes_come es cause (l ∷ ls) h = (
     lives = h.0.lives;
     received = h.0.received ∙ sym (append-nil (heard_calls l.kind l.exchanges));
     tells = h.0.tells ∙ sym (append-nil (tries 1 l.since ∷ heard_marks l.kind l.number l.exchanges));
+    streams = h.0.streams ∙ sym (append-nil (streamed l.exchanges));
+    tries_stand = h.0.tries_stand ∙ sym (append-nil (tries_at 1 l.since ∷ streamed_marks l.number l.exchanges));
     goes_on = h.0.goes_on;
     now = tt;
     own = own_at_close l.kind l.own cause;
@@ -194,4 +208,5 @@ close_agrees es s cause put after over a all =
       unopened = λ j more. (t.still j (few j more)).openings_are ∙ a.unopened j (subst (λ z. z ≤ j) t.made_is more);
       unended = λ j more. (t.still j (few j more)).over_are ∙ a.unended j (subst (λ z. z ≤ j) t.made_is more);
       untold = λ j more. let u = a.untold j (subst (λ z. z ≤ j) t.made_is more) in ((t.still j (few j more)).calls_are ∙ u.0, (t.still j (few j more)).marks_are ∙ u.1);
+      unstreamed = λ j more. let u = a.unstreamed j (subst (λ z. z ≤ j) t.made_is more) in ((t.still j (few j more)).came_are ∙ u.0, (t.still j (few j more)).try_marks_are ∙ u.1);
     }

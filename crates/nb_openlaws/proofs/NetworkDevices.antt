@@ -4,17 +4,19 @@ use Rattle.std.specs.List.{AllByRecursion}
 use Rattle.std.specs.Prelude.{slice_get}
 use Rattle.nb_defs.specs.Records.{In, Out, step}
 use Rattle.nb_stack.specs.Client.{Client}
-use Rattle.nb_stack.specs.Brings.{Brought, datagram, echo_reply}
-use Rattle.nb_stack.specs.Takes.{client_after, reply_of}
+use Rattle.nb_stack.specs.Brings.{Brought, datagram, echo_reply, segment}
+use Rattle.nb_stack.specs.Takes.{client_after}
 use Rattle.nb_machine.specs.Lives.{OpenInput, exchange, Live}
 use Rattle.nb_machine.specs.CommandRecords.{reply_records}
+use Rattle.nb_machine.specs.Kinds.{reply_beside}
 use Rattle.nb_machine.specs.States.{State, net0}
 use Rattle.nb_machine.specs.Takings.{Over, AllTake, all_have, lives_on, is_over}
-use Rattle.nb_machine.specs.Network.{on_net0, Network, passes_by, brings, brings_reply, passes_time}
+use Rattle.nb_machine.specs.Network.{on_net0, Network, passes_by, brings, brings_reply, brings_segment, passes_time}
 use Rattle.nb_laws.specs.Events.{Event, hears, waits, puts}
 use Rattle.nb_openlaws.specs.Standings.{AgreesState, AgreesDevice}
 use Rattle.nb_laws.proofs.Tellings.{told}
-use Rattle.nb_openlaws.proofs.OpenRecords.{IsOf, AreOf, all_append}
+use Rattle.nb_streams.proofs.FlowLaws.{all_append}
+use Rattle.nb_openlaws.proofs.OpenRecords.{IsOf, AreOf}
 use Rattle.std.proofs.Common.{take, drop}
 use Rattle.nb_defs.specs.Records.{command, result, script}
 use Rattle.nb_stack.specs.Brings.{Brings}
@@ -75,7 +77,7 @@ follows_at es s n r put s2 over (passes_by r0 device bytes link m (on_net0 b) go
     let same = link_is es s link d got in
     let e = hears n b m in
     record {
-      device = ap (λ z. take 0 z ++ client_after link m ∷ drop 1 z) d ∙ ap (λ c. client_after c m ∷ []) (sym same) ∙ ap (λ c. c ∷ []) (sym (client_some (es ++ e ∷ []) (reply_records (reply_of link m)) (reply_some (reply_of link m)) ∙ client_hears es n b m));
+      device = ap (λ z. take 0 z ++ client_after link m ∷ drop 1 z) d ∙ ap (λ c. client_after c m ∷ []) (sym same) ∙ ap (λ c. c ∷ []) (sym (client_some (es ++ e ∷ []) (reply_records (reply_beside net0 s.live link m)) (reply_some (reply_beside net0 s.live link m)) ∙ client_hears es n b m));
       read = read_so es link b m same is;
     }
 follows_at es s n r put s2 over (brings r0 device bytes link p x before behind after l put0 over0 (on_net0 b) got is lives here front back all) a d =
@@ -87,6 +89,11 @@ follows_at es s n r put s2 over (brings_reply r0 device bytes link p x before be
     record {
       device = d ∙ ap (λ c. c ∷ []) (sym (client_some (es ++ hears n b (echo_reply p x) ∷ []) put (taken_some s.devices _ (l ∷ []) put after over all) ∙ client_hears es n b (echo_reply p x)));
       read = read_so es link b (echo_reply p x) (link_is es s link d got) is;
+    }
+follows_at es s n r put s2 over (brings_segment r0 device bytes link from p g before behind after l put0 over0 (on_net0 b) got is lives here front back all) a d =
+    record {
+      device = d ∙ ap (λ c. c ∷ []) (sym (client_some (es ++ hears n b (segment from p g) ∷ []) put (taken_some s.devices _ (l ∷ []) put after over all) ∙ client_hears es n b (segment from p g)));
+      read = read_so es link b (segment from p g) (link_is es s link d got) is;
     }
 follows_at es s n r put s2 over (passes_time ms after put0 over0 all) a d =
     record {

@@ -8,30 +8,36 @@ use Rattle.nb_defs.specs.Records.{In, Out, step}
 use Rattle.nb_ipv4.specs.PacketText.{PacketParts}
 use Rattle.nb_ipv4.specs.UdpText.{UdpParts}
 use Rattle.nb_ipv4.specs.EchoText.{EchoParts}
+use Rattle.nb_tcpseg.specs.SegmentText.{SegmentParts}
+use Rattle.nb_wire.specs.declared.address.Mac.{Mac}
+use Rattle.nb_streams.specs.Talking.{by_segment}
+use Rattle.nb_machine.specs.Connections.{arrived_segment}
+use Rattle.nb_laws.specs.Webs.{came_at}
 use Rattle.nb_stack.specs.Client.{Client}
 use Rattle.nb_stack.specs.Brings.{Brought, nothing, arp_message, datagram, echo_request, echo_reply, segment}
-use Rattle.nb_stack.specs.Takes.{client_after, reply_of}
+use Rattle.nb_stack.specs.Takes.{client_after}
 use Rattle.nb_tftp.proofs.BlockLemmas.{either_way}
 use Rattle.nb_tftp.specs.Received.{received}
 use Rattle.nb_tftp.specs.History.{came}
-use Rattle.nb_machine.specs.Lives.{OpenInput, message, time as time_came, exchange, Live, continued}
+use Rattle.nb_machine.specs.Lives.{OpenInput, message, tcp_segment, time as time_came, exchange, Live, continued}
 use Rattle.nb_machine.specs.CommandRecords.{reply_records}
-use Rattle.nb_machine.specs.Kinds.{takes_from, is_for, is_ping, is_reply_for}
+use Rattle.nb_machine.specs.Kinds.{takes_from, is_for, is_ping, is_reply_for, is_segment_for, reply_beside}
 use Rattle.nb_machine.specs.States.{State, net0, with_live}
 use Rattle.nb_machine.specs.Takings.{Over, AllTake, all_have, lives_on, is_over}
-use Rattle.nb_machine.specs.Network.{on_net0, Network, passes_by, brings, brings_reply, passes_time}
+use Rattle.nb_machine.specs.Network.{on_net0, Network, passes_by, brings, brings_reply, brings_segment, passes_time}
 use Rattle.nb_laws.specs.Events.{Event, hears, waits, used_by, written_by}
 use Rattle.nb_laws.specs.Lists.{time, ms_of, made, Hardware, hardware, call_at}
 use Rattle.nb_openlaws.specs.Standings.{AgreesLive, AreLive, has_live_number, lives_among, HaveOwnNumbers, AgreesState, told_tries}
 use Rattle.nb_laws.proofs.Histories.{time_more}
-use Rattle.nb_laws.specs.Frames.{by_call}
+use Rattle.nb_laws.specs.Frames.{by_call, by_stream}
 use Rattle.nb_machine.specs.Scripts.{net0_mac}
-use Rattle.nb_laws.proofs.Tellings.{told, live_same}
-use Rattle.nb_openlaws.proofs.OpenRecords.{AreLater, ends_in, all_append}
+use Rattle.nb_laws.proofs.Tellings.{told, try_marks_by, live_same}
+use Rattle.nb_streams.proofs.FlowLaws.{all_append}
+use Rattle.nb_openlaws.proofs.OpenRecords.{AreLater, ends_in}
 use Rattle.nb_openlaws.proofs.Takings.{SameAt, then_same, Grows, grown, grows_on, HasCome, AreOver, or_first, or_second, both_false, flip_other, all_taken}
 use Rattle.std.proofs.Common.{take, drop}
-use Rattle.nb_openlaws.proofs.UsedEvents.{IsUsed, IsFurther, live_ended, no_call, made_used, used_same, offset_used, hardware_used, has_come}
-use Rattle.nb_openlaws.proofs.HeardFrames.{for_as_told, reply_as_told, heard_by, one_heard, own_of_datagram, one_echoed, own_of_reply, both_true, none_datagram, none_reply, none_for, found, none_at}
+use Rattle.nb_openlaws.proofs.UsedEvents.{IsUsed, IsFurther, BringsNone, live_ended, no_call, made_used, used_same, offset_used, hardware_used, has_come}
+use Rattle.nb_openlaws.proofs.HeardFrames.{for_as_told, reply_as_told, heard_by, streamed_by, segment_as_told, own_of_segment, none_segment, one_heard, own_of_datagram, one_echoed, own_of_reply, both_true, none_datagram, none_reply, none_for, found, none_at}
 use Rattle.nb_openlaws.proofs.LiveStates.{all_same, nothing_came, as_state, quiet_state, times_come, time_agrees}
 
 -- SOMETHING COMES TO ONE OF THEM
@@ -81,7 +87,7 @@ apart_after devices input l before behind put after over (lives_on l0 ls0 after0
 apart_after devices input l before behind put after over (is_over l0 ls0 after0 link put0 more over0 cause got keeps some all_have) h = apart_without before l behind h
 
 one_agrees : (es : List Event) (e : Event) (s : State) (input : OpenInput) (before : List Live) (l : Live) (behind : List Live) (put : List Out) (after : List Live) (over : List Over) → IsUsed e → IsFurther e → ms_of e ≡ 0 → AgreesState es s →
-    s.live ≡ before ++ l ∷ behind → HasCome (es ++ e ∷ []) input l → AllByRecursion (λ x. call_at x.number es e ≡ []) before → AllByRecursion (λ x. call_at x.number es e ≡ []) behind →
+    s.live ≡ before ++ l ∷ behind → HasCome (es ++ e ∷ []) input l → AllByRecursion (λ x. BringsNone x.number es e) before → AllByRecursion (λ x. BringsNone x.number es e) behind →
     AllTake s.devices input (l ∷ []) put after over → AgreesState ((es ++ e ∷ []) ++ told put) (with_live s (before ++ (after ++ behind)))
 one_agrees es e s input before l behind put after over u further still a lives come front back all =
     let es1 = es ++ e ∷ [] in
@@ -91,9 +97,9 @@ one_agrees es e s input before l behind put after over u further still a lives c
     let apart0 : HaveOwnNumbers (before ++ l ∷ behind) = subst HaveOwnNumbers lives a.apart in
     let own = back_of es before (l ∷ behind) each0 in
     let t = all_taken s.devices input (l ∷ []) put after over all es1 (come, tt) (refl, tt) in
-    let none_else : (j : ℕ) → (k == j) ≡ false → call_at j es e ≡ [] = λ j other.
-    either_way (lives_among j before) (λ some. found (λ z. call_at z es e ≡ []) j before front some)
-    (λ no. either_way (lives_among j behind) (λ some. found (λ z. call_at z es e ≡ []) j behind back some)
+    let none_else : (j : ℕ) → (k == j) ≡ false → BringsNone j es e = λ j other.
+    either_way (lives_among j before) (λ some. found (λ z. BringsNone z es e) j before front some)
+    (λ no. either_way (lives_among j behind) (λ some. found (λ z. BringsNone z es e) j behind back some)
     (λ none. no_call j es e u (a.others j (ap (lives_among j) lives ∙ among_more j before (l ∷ behind) ∙ both_false (lives_among j before) (lives_among j (l ∷ behind)) no (both_false (k == j) (lives_among j behind) other none))))) in
     let other_same : (j : ℕ) → (k == j) ≡ false → SameAt j es es2 = λ j other. then_same j es es1 es2 (used_same j es e u (none_else j other)) (t.still j (both_false (k == j) false other refl)) in
     let made_is : made es2 ≡ made es = t.made_is ∙ made_used es e u in
@@ -121,6 +127,7 @@ one_agrees es e s input before l behind put after over u further still a lives c
       unopened = λ j more. (other_same j (later j more)).openings_are ∙ a.unopened j (subst (λ z. z ≤ j) made_is more);
       unended = λ j more. (other_same j (later j more)).over_are ∙ a.unended j (subst (λ z. z ≤ j) made_is more);
       untold = λ j more. let x = a.untold j (subst (λ z. z ≤ j) made_is more) in ((other_same j (later j more)).calls_are ∙ x.0, (other_same j (later j more)).marks_are ∙ x.1);
+      unstreamed = λ j more. let x = a.unstreamed j (subst (λ z. z ≤ j) made_is more) in ((other_same j (later j more)).came_are ∙ x.0, (other_same j (later j more)).try_marks_are ∙ x.1);
     }
 
 reply_later : (bytes : List ℕ) → AreLater (reply_records bytes)
@@ -135,6 +142,10 @@ reply_tries : (j now : ℕ) (bytes : List ℕ) → told_tries j now (reply_recor
 reply_tries j now [] = refl
 reply_tries j now (b ∷ bytes) = refl
 
+reply_try_marks : (j now : ℕ) (bytes : List ℕ) → try_marks_by j now (reply_records bytes) ≡ []
+reply_try_marks j now [] = refl
+reply_try_marks j now (b ∷ bytes) = refl
+
 -- the record brings this message for that open alone
 pub one_comes : (es : List Event) (s : State) (n : ℕ) (b : List ℕ) (p : PacketParts) (d : UdpParts) (l : Live) → AgreesState es s → AgreesLive es l → is_for net0 p d l ≡ true →
     HasCome (es ++ hears n b (datagram p d) ∷ []) (message n d.src_port d.body s.now) l
@@ -143,7 +154,7 @@ one_comes es s n b p d l a own here =
     let takes = (both_true ((l.device == net0) && (l.own == d.dst_port)) (takes_from l.kind l p d) here).1 in
     let heard : call_at l.number es e ≡ came (received n d.src_port d.body) s.now ∷ [] =
     heard_by es n b (datagram p d) l own ∙ ap (λ z. cond z (came (received n d.src_port d.body) (time es) ∷ []) []) (for_as_told l p d own.on_net0 ∙ here) ∙ ap (λ now. came (received n d.src_port d.body) now ∷ []) a.time in
-    has_come es e (message n d.src_port d.body s.now) l tt tt own (heard ∙ one_heard l.kind l p d n s.now takes) (time_more es e ∙ add-zero (time es) ∙ a.time) (own_of_datagram l.kind l p d n s.now takes)
+    has_come es e (message n d.src_port d.body s.now) l tt tt own (heard ∙ one_heard l.kind l p d n s.now takes) (streamed_by es n b (datagram p d) l own) (time_more es e ∙ add-zero (time es) ∙ a.time) (own_of_datagram l.kind l p d n s.now takes)
     (by_call es e (came (received n d.src_port d.body) s.now) heard)
 
 pub one_replies : (es : List Event) (s : State) (n : ℕ) (b : List ℕ) (p : PacketParts) (x : EchoParts) (l : Live) → AgreesState es s → AgreesLive es l → is_reply_for net0 p x l ≡ true →
@@ -155,14 +166,24 @@ one_replies es s n b p x l a own here =
     let pinging = (both_true (is_ping l.kind) (l.device == net0) more.0).0 in
     let heard : call_at l.number es e ≡ came (received n 0 x.body) s.now ∷ [] =
     heard_by es n b (echo_reply p x) l own ∙ ap (λ z. cond z (came (received n 0 x.body) (time es) ∷ []) []) (reply_as_told l p x own.on_net0 ∙ here) ∙ ap (λ now. came (received n 0 x.body) now ∷ []) a.time in
-    has_come es e (message n x.ident x.body s.now) l tt tt own (heard ∙ one_echoed l.kind n x.ident s.now x.body pinging) (time_more es e ∙ add-zero (time es) ∙ a.time)
+    has_come es e (message n x.ident x.body s.now) l tt tt own (heard ∙ one_echoed l.kind n x.ident s.now x.body pinging) (streamed_by es n b (echo_reply p x) l own) (time_more es e ∙ add-zero (time es) ∙ a.time)
     (own_of_reply l.kind l.own n x.ident s.now x.body (eqb-true l.own x.ident more.1)) (by_call es e (came (received n 0 x.body) s.now) heard)
+
+pub one_segment : (es : List Event) (s : State) (n : ℕ) (b : List ℕ) (from : Mac) (p : PacketParts) (g : SegmentParts) (l : Live) → AgreesState es s → AgreesLive es l → is_segment_for net0 p g l ≡ true →
+    HasCome (es ++ hears n b (segment from p g) ∷ []) (tcp_segment n g s.now) l
+one_segment es s n b from p g l a own here =
+    let e = hears n b (segment from p g) in
+    let comes : came_at l.number es e ≡ by_segment (arrived_segment n g) s.now ∷ [] =
+    streamed_by es n b (segment from p g) l own ∙ ap (λ z. cond z (by_segment (arrived_segment n g) (time es) ∷ []) []) (segment_as_told l p g own.on_net0 ∙ here) ∙ ap (λ now. by_segment (arrived_segment n g) now ∷ []) a.time in
+    has_come es e (tcp_segment n g s.now) l tt tt own (heard_by es n b (segment from p g) l own) comes (time_more es e ∙ add-zero (time es) ∙ a.time) (own_of_segment l.kind l.own n s.now g)
+    (by_stream es e (by_segment (arrived_segment n g) s.now) comes)
 
 -- the event that a record is
 abbrev pub network_event : (s : State) (n : ℕ) (r : In) (put : List Out) (s2 : State) (over : List Over) → Network s n r put s2 over → Event
 network_event s n r put s2 over (passes_by r0 device bytes link m (on_net0 b) got is none) = hears n b m
 network_event s n r put s2 over (brings r0 device bytes link p d before behind after l put0 over0 (on_net0 b) got is lives here front back all) = hears n b (datagram p d)
 network_event s n r put s2 over (brings_reply r0 device bytes link p x before behind after l put0 over0 (on_net0 b) got is lives here front back all) = hears n b (echo_reply p x)
+network_event s n r put s2 over (brings_segment r0 device bytes link from p g before behind after l put0 over0 (on_net0 b) got is lives here front back all) = hears n b (segment from p g)
 network_event s n r put s2 over (passes_time ms after put0 over0 all) = waits n ms
 
 -- the event that a record is, of which the machine's network says this
@@ -174,6 +195,20 @@ pub record Used (es : List Event) (r : In) (n : ℕ) (put : List Out) (s2 : Stat
   pub is_step : written_by event ≡ step n
   pub agrees : AgreesState ((es ++ event ∷ []) ++ told put) s2
   pub ended : AreOver ((es ++ event ∷ []) ++ told put) over
+
+-- something comes to one open alone
+one_used : (es : List Event) (e : Event) (s : State) (n : ℕ) (r : In) (input : OpenInput) (before : List Live) (l : Live) (behind : List Live) (put : List Out) (after : List Live) (over : List Over) → IsUsed e → IsFurther e → ms_of e ≡ 0 →
+    used_by e ≡ r ∷ [] → written_by e ≡ step n → AgreesState es s → s.live ≡ before ++ l ∷ behind → HasCome (es ++ e ∷ []) input l → AllByRecursion (λ x. BringsNone x.number es e) before → AllByRecursion (λ x. BringsNone x.number es e) behind →
+    AllTake s.devices input (l ∷ []) put after over → Used es r n put (with_live s (before ++ after ++ behind)) over
+one_used es e s n r input before l behind put after over u further still is_record is_step a lives come front back all = record {
+  event = e;
+  used = u;
+  further = further;
+  is_record = is_record;
+  is_step = is_step;
+  agrees = subst (λ z. AgreesState ((es ++ e ∷ []) ++ told put) (with_live s z)) (sym (append_assoc before after behind)) (one_agrees es e s input before l behind put after over u further still a lives come front back all);
+  ended = (all_taken s.devices input (l ∷ []) put after over all (es ++ e ∷ []) (come, tt) (refl, tt)).ended;
+}
 
 mac_after : (link : Client) (m : Brought) → (client_after link m).mac ≡ link.mac
 mac_after link nothing = refl
@@ -191,7 +226,8 @@ mac_passed (x ∷ xs) link m got = let same : x ≡ link = cc in mac_after link 
 pub network_agrees : (es : List Event) (s : State) (n : ℕ) (r : In) (put : List Out) (s2 : State) (over : List Over) → Network s n r put s2 over → AgreesState es s → Used es r n put s2 over
 network_agrees es s n r put s2 over (passes_by r0 device bytes link m (on_net0 b) got is none) a =
     let e = hears n b m in
-    let outs = reply_records (reply_of link m) in
+    let reply = reply_beside net0 s.live link m in
+    let outs = reply_records reply in
     record {
       event = e;
       used = tt;
@@ -199,40 +235,25 @@ network_agrees es s n r put s2 over (passes_by r0 device bytes link m (on_net0 b
       is_record = refl;
       is_step = refl;
       agrees = as_state ((es ++ e ∷ []) ++ told outs) s s2 (record { now = refl; opens = refl; offset = refl; mac = mac_passed s.devices link m got; identity = refl }) refl
-          (quiet_state (es ++ e ∷ []) outs s (reply_later (reply_of link m)) (λ j. reply_ends j (reply_of link m)) (λ j now. reply_tries j now (reply_of link m))
+          (quiet_state (es ++ e ∷ []) outs s (reply_later reply) (λ j. reply_ends j reply) (λ j now. reply_tries j now reply) (λ j now. reply_try_marks j now reply)
           (nothing_came es e s tt tt a (none_at es e s tt a (none_for es n b m s.live a.each none)) refl));
       ended = tt;
     }
 network_agrees es s n r put s2 over (brings r0 device bytes link p d before behind after l put0 over0 (on_net0 b) got is lives here front back all) a =
-    let e = hears n b (datagram p d) in
     let each0 : AreLive es (before ++ l ∷ behind) = subst (AreLive es) lives a.each in
     let own = back_of es before (l ∷ behind) each0 in
-    let come = one_comes es s n b p d l a own.0 here in
-    record {
-      event = e;
-      used = tt;
-      further = tt;
-      is_record = refl;
-      is_step = refl;
-      agrees = subst (λ z. AgreesState ((es ++ e ∷ []) ++ told put) (with_live s z)) (sym (append_assoc before after behind)) (one_agrees es e s (message n d.src_port d.body s.now) before l behind put after over tt tt refl a lives come
-          (none_datagram es n b p d before (front_of es before (l ∷ behind) each0) front) (none_datagram es n b p d behind own.1 back) all);
-      ended = (all_taken s.devices (message n d.src_port d.body s.now) (l ∷ []) put after over all (es ++ e ∷ []) (come, tt) (refl, tt)).ended;
-    }
+    one_used es (hears n b (datagram p d)) s n r (message n d.src_port d.body s.now) before l behind put after over tt tt refl refl refl a lives (one_comes es s n b p d l a own.0 here)
+    (none_datagram es n b p d before (front_of es before (l ∷ behind) each0) front) (none_datagram es n b p d behind own.1 back) all
 network_agrees es s n r put s2 over (brings_reply r0 device bytes link p x before behind after l put0 over0 (on_net0 b) got is lives here front back all) a =
-    let e = hears n b (echo_reply p x) in
     let each0 : AreLive es (before ++ l ∷ behind) = subst (AreLive es) lives a.each in
     let own = back_of es before (l ∷ behind) each0 in
-    let come = one_replies es s n b p x l a own.0 here in
-    record {
-      event = e;
-      used = tt;
-      further = tt;
-      is_record = refl;
-      is_step = refl;
-      agrees = subst (λ z. AgreesState ((es ++ e ∷ []) ++ told put) (with_live s z)) (sym (append_assoc before after behind)) (one_agrees es e s (message n x.ident x.body s.now) before l behind put after over tt tt refl a lives come
-          (none_reply es n b p x before (front_of es before (l ∷ behind) each0) front) (none_reply es n b p x behind own.1 back) all);
-      ended = (all_taken s.devices (message n x.ident x.body s.now) (l ∷ []) put after over all (es ++ e ∷ []) (come, tt) (refl, tt)).ended;
-    }
+    one_used es (hears n b (echo_reply p x)) s n r (message n x.ident x.body s.now) before l behind put after over tt tt refl refl refl a lives (one_replies es s n b p x l a own.0 here)
+    (none_reply es n b p x before (front_of es before (l ∷ behind) each0) front) (none_reply es n b p x behind own.1 back) all
+network_agrees es s n r put s2 over (brings_segment r0 device bytes link from p g before behind after l put0 over0 (on_net0 b) got is lives here front back all) a =
+    let each0 : AreLive es (before ++ l ∷ behind) = subst (AreLive es) lives a.each in
+    let own = back_of es before (l ∷ behind) each0 in
+    one_used es (hears n b (segment from p g)) s n r (tcp_segment n g s.now) before l behind put after over tt tt refl refl refl a lives (one_segment es s n b from p g l a own.0 here)
+    (none_segment es n b from p g before (front_of es before (l ∷ behind) each0) front) (none_segment es n b from p g behind own.1 back) all
 network_agrees es s n r put s2 over (passes_time ms after put0 over0 all) a =
     record {
       event = waits n ms;
@@ -245,8 +266,9 @@ network_agrees es s n r put s2 over (passes_time ms after put0 over0 all) a =
     }
 
 pub event_is : (es : List Event) (s : State) (n : ℕ) (r : In) (put : List Out) (s2 : State) (over : List Over) (net : Network s n r put s2 over) (a : AgreesState es s) → (network_agrees es s n r put s2 over net a).event ≡ network_event s n r put s2 over net
-unfolding network_agrees
+unfolding network_agrees one_used
 event_is es s n r put s2 over (passes_by r0 device bytes link m (on_net0 b) got is none) a = refl
 event_is es s n r put s2 over (brings r0 device bytes link p d before behind after l put0 over0 (on_net0 b) got is lives here front back all) a = refl
 event_is es s n r put s2 over (brings_reply r0 device bytes link p x before behind after l put0 over0 (on_net0 b) got is lives here front back all) a = refl
+event_is es s n r put s2 over (brings_segment r0 device bytes link from p g before behind after l put0 over0 (on_net0 b) got is lives here front back all) a = refl
 event_is es s n r put s2 over (passes_time ms after put0 over0 all) a = refl

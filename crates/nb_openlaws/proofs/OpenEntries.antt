@@ -212,11 +212,11 @@ all_last P [] x h = h.0
 all_last P (y ∷ xs) x h = all_last P xs x h.1
 
 -- how it goes on: no end is asked, and each message finds a way
-record NoEnd (over : Option Cause) (lost : Bool) : Type 0 where
-  none : over ≡ None
-  routed : lost ≡ false
+pub record NoEnd (over : Option Cause) (lost : Bool) : Type 0 where
+  pub none : over ≡ None
+  pub routed : lost ≡ false
 
-no_end_of : (over : Option Cause) (lost : Bool) (cause : Cause) → earlier over (cond lost (Some cause) None) ≡ None → NoEnd over lost
+pub no_end_of : (over : Option Cause) (lost : Bool) (cause : Cause) → earlier over (cond lost (Some cause) None) ≡ None → NoEnd over lost
 no_end_of None false cause e = record { none = refl; routed = refl }
 no_end_of None true cause e = absurd (cc)
 no_end_of (Some c) lost cause e = absurd (cc)

@@ -1,7 +1,6 @@
 -- Records that opens put: which open's they are, and what they leave as it was.
-use Rattle.std.proofs.Common.{◌≡◌, ℕ, zero, suc, ◌+◌, ◌==◌, Bool, true, false, cond, ◌||◌, List, [], ◌∷◌, ◌++◌, length, Option, Some, None, refl, sym, ◌∙◌, ap, subst, append_assoc, append-nil, add-zero, arith}
+use Rattle.std.proofs.Common.{◌≡◌, ℕ, ◌+◌, ◌==◌, Bool, true, false, cond, ◌||◌, List, [], ◌∷◌, ◌++◌, length, Option, Some, None, refl, sym, ◌∙◌, ap, subst, append_assoc, append-nil, add-zero, arith}
 use Rattle.std.specs.List.{list_any, AllByRecursion}
-use Rattle.std.specs.Prelude.{slice_set}
 use Rattle.std.specs.Option.{is_some}
 use Rattle.std.proofs.lemmas.List.{length-append}
 use Rattle.std.proofs.Math.Bool.{or-false, or_assoc}
@@ -13,26 +12,26 @@ use Rattle.nb_stack.specs.Client.{Client}
 use Rattle.nb_tftp.specs.History.{Call, came, ticked, Entry}
 use Rattle.nb_nodes.specs.Exchanges.{Service}
 use Rattle.nb_machine.specs.Sendings.{has_route, send_records, sends_records, acts_records, advance_records, try_records}
-use Rattle.nb_machine.specs.Lives.{OpenKind, tftp, dns, dhcp, ping, close, Exchange, exchange, Live, continued}
+use Rattle.nb_machine.specs.Lives.{OpenKind, tftp, http, dns, dhcp, ping, close, Exchange, exchange, Live, continued}
 use Rattle.nb_machine.specs.Transfers.{arrival_of, end_records, Exchanged, at_first, takes, closes}
 use Rattle.nb_machine.specs.Cores as cores
 use Rattle.nb_machine.specs.Cores.{CoreExchanged}
+use Rattle.nb_streams.proofs.FlowLaws.{all_append}
+use Rattle.nb_streams.specs.Sending.{closing_segment}
+use Rattle.nb_streams.specs.Talking.{Talker, Talk}
+use Rattle.nb_streams.specs.TalkPromises.{Sends, Put, phase_of, close_put}
+use Rattle.nb_streams.specs.Trying.{tries_at}
+use Rattle.nb_tcp.specs.Messages.{outgoing_message}
+use Rattle.nb_machine.specs.Connections.{Connection, connection_of, segment_records, talk_of, talk_end, put_records, PutsAt, KeepsAt, EachExchange}
+use Rattle.nb_machine.specs.Webs.{web_at}
 use Rattle.nb_machine.specs.Kinds.{KeepsBy, Keeps}
 use Rattle.nb_machine.specs.Takings.{end_told, end_among}
 use Rattle.nb_laws.specs.Events.{Event, puts}
 use Rattle.nb_laws.specs.Lists.{time, made, port_offset, hardware, mark_at, opens_by, opening_at, openings, is_end_of, open_has_ended, calls, tries, marks}
+use Rattle.nb_laws.specs.Webs.{brought_to, told_try_mark, try_marks_of}
 use Rattle.nb_openlaws.specs.Standings.{told_try, told_tries}
-use Rattle.nb_laws.proofs.Tellings.{told, made_more, openings_more, calls_more, marks_more, over_more, no_more}
+use Rattle.nb_laws.proofs.Tellings.{told, try_marks_by, made_more, openings_more, calls_more, came_more, try_marks_more, marks_more, over_more, no_more}
 use Rattle.nb_laws.proofs.Histories.{time_more, offset_more, hardware_more}
-
-pub all_append : {A : Type 0} (P : A → Type 0) (xs ys : List A) → AllByRecursion P xs → AllByRecursion P ys → AllByRecursion P (xs ++ ys)
-all_append P [] ys p q = q
-all_append P (x ∷ xs) ys p q = (p.0, all_append P xs ys p.1 q)
-
-pub all_set : {A : Type 0} (P : A → Type 0) (xs : List A) (k : ℕ) (x : A) → AllByRecursion P xs → P x → AllByRecursion P (slice_set xs k x)
-all_set P [] k x p q = tt
-all_set P (y ∷ ys) zero x p q = (q, p.1)
-all_set P (y ∷ ys) (suc k) x p q = (p.0, all_set P ys k x p.1 q)
 
 -- a record that open k puts: a frame, a try, a place, its end
 abbrev pub IsOf : ℕ → Out → Type 0
@@ -112,6 +111,8 @@ pub record Left (a : List Event) (outs : List Out) : Type 0 where
   pub over_is : (k : ℕ) → open_has_ended k (a ++ told outs) ≡ (open_has_ended k a || ends_in k outs)
   pub calls_is : (k : ℕ) → calls k (a ++ told outs) ≡ calls k a
   pub marks_is : (k : ℕ) → marks k (a ++ told outs) ≡ marks k a ++ told_tries k (time a) outs
+  pub came_is : (k : ℕ) → brought_to k (a ++ told outs) ≡ brought_to k a
+  pub try_marks_is : (k : ℕ) → try_marks_of k (a ++ told outs) ≡ try_marks_of k a ++ try_marks_by k (time a) outs
 
 left_none : (a : List Event) → Left a []
 left_none a = let e : a ++ [] ≡ a = append-nil a in record {
@@ -123,6 +124,8 @@ left_none a = let e : a ++ [] ≡ a = append-nil a in record {
   over_is = λ k. ap (λ z. open_has_ended k z) e ∙ sym (or-false (open_has_ended k a));
   calls_is = λ k. ap (λ z. calls k z) e;
   marks_is = λ k. ap (λ z. marks k z) e ∙ sym (append-nil (marks k a));
+  came_is = λ k. ap (λ z. brought_to k z) e;
+  try_marks_is = λ k. ap (λ z. try_marks_of k z) e ∙ sym (append-nil (try_marks_of k a));
 }
 
 pub left : (a : List Event) (outs : List Out) → AreLater outs → Left a outs
@@ -145,6 +148,11 @@ left a (o ∷ outs) h =
           ∙ ap (λ z. marks k next ++ told_tries k z outs) time_one
           ∙ ap (λ z. z ++ told_tries k (time a) outs) (marks_more k a (puts o) ∙ ap (λ z. marks k a ++ z) (told_mark k a o))
           ∙ append_assoc (marks k a) (told_try k (time a) o) (told_tries k (time a) outs);
+      came_is = λ k. ap (λ z. brought_to k z) e ∙ rest.came_is k ∙ came_more k a (puts o) ∙ append-nil (brought_to k a);
+      try_marks_is = λ k. ap (λ z. try_marks_of k z) e ∙ rest.try_marks_is k
+          ∙ ap (λ z. try_marks_of k next ++ try_marks_by k z outs) time_one
+          ∙ ap (λ z. z ++ try_marks_by k (time a) outs) (try_marks_more k a (puts o))
+          ∙ append_assoc (try_marks_of k a) (told_try_mark k (time a) o) (try_marks_by k (time a) outs);
     }
 
 -- WHOSE THEY ARE
@@ -166,6 +174,15 @@ other_try k j now _ h e = refl
 pub other_tries : (k j now : ℕ) (outs : List Out) → AreOf k outs → (k == j) ≡ false → told_tries j now outs ≡ []
 other_tries k j now [] h e = refl
 other_tries k j now (o ∷ outs) h e = ap (λ z. z ++ told_tries j now outs) (other_try k j now o h.0 e) ∙ other_tries k j now outs h.1 e
+
+other_try_mark : (k j now : ℕ) (o : Out) → IsOf k o → (k == j) ≡ false → told_try_mark j now o ≡ []
+other_try_mark k j now (tried number count) h e = ap (λ z. cond (z == j) (tries_at count now ∷ []) []) h ∙ ap (λ b. cond b (tries_at count now ∷ []) []) e
+other_try_mark k j now (step number) h e = refl
+other_try_mark k j now _ h e = refl
+
+pub other_try_marks : (k j now : ℕ) (outs : List Out) → AreOf k outs → (k == j) ≡ false → try_marks_by j now outs ≡ []
+other_try_marks k j now [] h e = refl
+other_try_marks k j now (o ∷ outs) h e = ap (λ z. z ++ try_marks_by j now outs) (other_try_mark k j now o h.0 e) ∙ other_try_marks k j now outs h.1 e
 
 other_end : (k j : ℕ) (o : Out) → IsOf k o → (k == j) ≡ false → is_end_record j o ≡ false
 other_end k j (ended number cause) h e = ap (λ z. z == j) h ∙ e
@@ -224,10 +241,22 @@ of_end k (Some cause) = (refl, tt)
 of_exchange : (net : Client) (k : ℕ) (acts : Acts) (x : Option Cause) → AreOf k (acts_records net k acts ++ end_records k x)
 of_exchange net k acts x = all_append (IsOf k) (acts_records net k acts) (end_records k x) (of_acts net k acts) (of_end k x)
 
--- what was put when this came: records of this open, at a close its end alone
+-- frames alone
+abbrev pub IsFrame : Out → Type 0
+IsFrame (sent bytes) = Unit {0}
+IsFrame (step number) = ⊥
+IsFrame _ = ⊥
+
+-- what is put at a close: frames, of an open that has a connection, and the end
+pub record PutsClose (k : ℕ) (cause : Cause) (put : List Out) : Type 0 where
+  pub frames : List Out
+  pub alone : AllByRecursion IsFrame frames
+  pub put_is : put ≡ frames ++ ended k cause ∷ []
+
+-- what was put when this came: records of this open, at a close its end last
 pub record IsPutBy (k : ℕ) (x : Exchange) : Type 0 where
   pub of : AreOf k x.put
-  pub closes : (cause : Cause) → x.came ≡ close cause → x.put ≡ ended k cause ∷ []
+  pub closes : (cause : Cause) → x.came ≡ close cause → PutsClose k cause x.put
 
 pub snoc_one : {A : Type 0} (xs ys : List A) (x y : A) → xs ++ x ∷ [] ≡ ys ++ y ∷ [] → (xs ≡ ys) × (x ≡ y)
 snoc_one [] [] x y e = (refl, cc)
@@ -248,7 +277,7 @@ by_entry k (came m now) link acts x = record { of = of_exchange link k acts x; c
 by_entry k (ticked now) link acts x = record { of = of_exchange link k acts x; closes = λ cause e. absurd (cc) }
 
 by_close : (k : ℕ) (link : Client) (cause : Cause) → IsPutBy k (exchange (close cause) link (ended k cause ∷ []))
-by_close k link cause = record { of = (refl, tt); closes = λ c e. let same : cause ≡ c = cc in ap (λ z. ended k z ∷ []) same }
+by_close k link cause = record { of = (refl, tt); closes = λ c e. let same : cause ≡ c = cc in record { frames = []; alone = tt; put_is = ap (λ z. ended k z ∷ []) same } }
 
 last_of_transfer : (k server : ℕ) (es : List Entry) (ys xs : List Exchange) (x : Exchange) → Exchanged k server es ys → ys ≡ xs ++ x ∷ [] → IsPutBy k x
 last_of_transfer k server es ys xs x at_first e = absurd (no_snoc xs x e)
@@ -263,12 +292,51 @@ last_of_core s k server cs ys xs x (cores.takes_time cs0 xs0 link now acts h) e 
     subst (IsPutBy k) (snoc_one xs0 xs _ x e).1 (record { of = of_exchange link k acts _; closes = λ cause no. absurd (cc) })
 last_of_core s k server cs ys xs x (cores.closes cs0 xs0 link cause h) e = subst (IsPutBy k) (snoc_one xs0 xs _ x e).1 (by_close k link cause)
 
+-- an open on a connection
+of_segments : (c : Connection) (link : Client) (sends : Sends) → AreOf c.number (segment_records c link sends)
+of_segments c link [] = tt
+of_segments c link (s ∷ sends) =
+    all_append (IsOf c.number) (send_records link c.number s.1 (outgoing_message c.link s.0)) (segment_records c link sends) (of_send link c.number s.1 (outgoing_message c.link s.0)) (of_segments c link sends)
+
+of_put : (c : Connection) (link : Client) (p : Put) → AreOf c.number (put_records c link p)
+of_put c link p =
+    all_append (IsOf c.number) (advance_records c.number p.advance ++ segment_records c link p.sends) (end_records c.number (talk_end c link p))
+    (all_append (IsOf c.number) (advance_records c.number p.advance) (segment_records c link p.sends) (of_advance c.number p.advance) (of_segments c link p.sends)) (of_end c.number (talk_end c link p))
+
+pub frame_by : (b : Bool) (bytes : List ℕ) → AllByRecursion IsFrame (cond b (sent bytes ∷ []) [] ++ [])
+frame_by true bytes = (tt, tt)
+frame_by false bytes = tt
+
+-- its close is one segment at most, and the end
+pub closed_talk : {T : Type 0} (isn : ℕ) (c : Connection) (link : Client) (d : Talk T) (cause : Cause) → PutsClose c.number cause (put_records c link (close_put isn d cause))
+closed_talk isn c link d cause =
+    let sends = (close_put isn d cause).sends in
+    record {
+      frames = segment_records c link sends;
+      alone = frame_by (has_route link (outgoing_message c.link (closing_segment isn (phase_of isn d)))) _;
+      put_is = refl;
+    }
+
+puts_talk : {T : Type 0} (t : Talker T) (c : Connection) (before : List Exchange) (x : Exchange) → KeepsAt t c before x → IsPutBy c.number x
+puts_talk t c before x h = record {
+  of = subst (AreOf c.number) (sym h.records) (of_put c x.link h.put);
+  closes = λ cause is.
+      let p : h.put ≡ close_put c.link.isn (talk_of t c before) cause = subst (λ z. PutsAt t c (talk_of t c before) z h.put) is h.puts in
+      subst (PutsClose c.number cause) (ap (put_records c x.link) (sym p) ∙ sym h.records) (closed_talk c.link.isn c x.link (talk_of t c before) cause);
+}
+
+-- a fact of the last exchange
+pub last_exchange : (P : List Exchange → Exchange → Type 0) (before xs : List Exchange) (x : Exchange) → EachExchange P before (xs ++ x ∷ []) → P (before ++ xs) x
+last_exchange P before [] x h = subst (λ z. P z x) (sym (append-nil before)) h.0
+last_exchange P before (y ∷ xs) x h = subst (λ z. P z x) (append_assoc before (y ∷ []) xs) (last_exchange P (before ++ y ∷ []) xs x h.1)
+
 -- of each kind
 pub kept_puts : (l : Live) (x : Exchange) → Keeps (continued l x) → IsPutBy l.number x
 kept_puts l x h = by l.kind h
   where
     by : (kind : OpenKind) → KeepsBy kind (continued l x) → IsPutBy l.number x
     by tftp k = last_of_transfer l.number l.server k.entries _ l.exchanges x k.exchanged refl
+    by (http isn) k = puts_talk (web_at l.target) (connection_of isn l) l.exchanges x (last_exchange (KeepsAt (web_at l.target) (connection_of isn l)) [] l.exchanges x k)
     by (dns id) k = last_of_core _ l.number l.server k.calls _ l.exchanges x k.exchanged refl
     by (dhcp a) k = last_of_core _ l.number l.server k.calls _ l.exchanges x k.exchanged refl
     by ping k = last_of_core _ l.number l.server k.calls _ l.exchanges x k.exchanged refl

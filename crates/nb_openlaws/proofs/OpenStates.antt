@@ -16,18 +16,22 @@ use Rattle.nb_dhcp.specs.Messages.{message_text}
 use Rattle.nb_ping.specs.Pings.{echo_request}
 use Rattle.nb_machine.specs.Cores.{look_up_of, ping_of}
 use Rattle.nb_machine.specs.Transfers.{transfer_of}
-use Rattle.nb_machine.specs.Lives.{OpenKind, tftp, dns, dhcp, ping, Live, open_record, end_record}
+use Rattle.nb_machine.specs.Connections.{connection_of, syn_message}
+use Rattle.nb_streams.specs.Trying.{tries_at}
+use Rattle.nb_laws.specs.Webs.{brought_to, told_try_mark, try_marks_of}
+use Rattle.nb_machine.specs.Lives.{OpenKind, tftp, http, dns, dhcp, ping, Live, open_record, end_record}
 use Rattle.nb_machine.specs.Kinds.{first_records}
 use Rattle.nb_machine.specs.States.{State, net0, with_opened, with_one_made}
 use Rattle.nb_machine.specs.Scripts.{net0_mac}
 use Rattle.nb_laws.specs.Events.{Event, puts}
 use Rattle.nb_laws.specs.Lists.{time, made, port_offset, Hardware, hardware, opening_at, openings, open_has_ended, calls, tries, marks}
-use Rattle.nb_openlaws.specs.Standings.{heard_calls, heard_marks, told_try, told_tries, IsKindBy, IsOngoing, live_opening, AgreesLive, AreLive, lives_among, HaveOwnNumbers, AgreesState}
+use Rattle.nb_openlaws.specs.Standings.{heard_calls, heard_marks, streamed, streamed_marks, told_try, told_tries, IsKindBy, IsOngoing, live_opening, AgreesLive, AreLive, lives_among, HaveOwnNumbers, AgreesState}
 use Rattle.nb_laws.specs.Agreement.{IsStill, AreStill}
 use Rattle.nb_laws.proofs.Histories.{time_more, offset_more, hardware_more}
-use Rattle.nb_laws.proofs.Tellings.{told, made_more, openings_more, calls_more, marks_more, over_more, no_more, live_same, same_number}
+use Rattle.nb_laws.proofs.Tellings.{told, try_marks_by, made_more, openings_more, calls_more, came_more, try_marks_more, marks_more, over_more, no_more, live_same, same_number}
 use Rattle.nb_laws.proofs.Asides.{own_send}
-use Rattle.nb_openlaws.proofs.OpenRecords.{AreOf, IsLater, AreLater, is_end_record, ends_in, left, all_append, of_later, of_send, other_tries, other_ends}
+use Rattle.nb_streams.proofs.FlowLaws.{all_append}
+use Rattle.nb_openlaws.proofs.OpenRecords.{AreOf, IsLater, AreLater, is_end_record, ends_in, left, of_later, of_send, other_tries, other_try_marks, other_ends}
 use Rattle.nb_openlaws.proofs.Takings.{SameAt, then_same, or_first, or_second, both_false}
 use Rattle.nb_openlaws.proofs.UsedEvents.{live_ended}
 use Rattle.nb_openlaws.proofs.LiveStates.{quiet_state}
@@ -61,8 +65,17 @@ still_tries : (j now : ℕ) (outs : List Out) → AreStill outs → told_tries j
 still_tries j now [] h = refl
 still_tries j now (o ∷ outs) h = ap (λ z. z ++ told_tries j now outs) (still_try j now o h.0) ∙ still_tries j now outs h.1
 
+still_try_mark : (j now : ℕ) (o : Out) → IsStill o → told_try_mark j now o ≡ []
+still_try_mark j now (tried number count) h = absurd h
+still_try_mark j now (step number) h = refl
+still_try_mark j now _ h = refl
+
+still_try_marks : (j now : ℕ) (outs : List Out) → AreStill outs → try_marks_by j now outs ≡ []
+still_try_marks j now [] h = refl
+still_try_marks j now (o ∷ outs) h = ap (λ z. z ++ try_marks_by j now outs) (still_try_mark j now o h.0) ∙ still_try_marks j now outs h.1
+
 pub still_state : (es : List Event) (outs : List Out) (s : State) → AreStill outs → AgreesState es s → AgreesState (es ++ told outs) s
-still_state es outs s h a = quiet_state es outs s (still_later outs h) (λ j. still_ends j outs h) (λ j now. still_tries j now outs h) a
+still_state es outs s h a = quiet_state es outs s (still_later outs h) (λ j. still_ends j outs h) (λ j now. still_tries j now outs h) (λ j now. still_try_marks j now outs h) a
 
 -- AN OPEN BEGINS
 
@@ -87,6 +100,8 @@ opens_elsewhere es l j other = record {
   over_are = over_more j es (puts (open_record l)) ∙ or-false (open_has_ended j es);
   calls_are = calls_more j es (puts (open_record l)) ∙ append-nil (calls j es);
   marks_are = marks_more j es (puts (open_record l)) ∙ append-nil (marks j es);
+  came_are = came_more j es (puts (open_record l)) ∙ append-nil (brought_to j es);
+  try_marks_are = try_marks_more j es (puts (open_record l)) ∙ append-nil (try_marks_of j es);
 }
 
 -- what the history says of a state in which this open was made
@@ -97,6 +112,7 @@ record Opened (es es2 : List Event) (s : State) (l : Live) : Type 0 where
   hardware_is : hardware es2 ≡ hardware es
   opening_is : openings l.number es2 ≡ live_opening l ∷ []
   calls_is : calls l.number es2 ≡ []
+  came_is : brought_to l.number es2 ≡ []
   elsewhere : (j : ℕ) → (l.number == j) ≡ false → SameAt j es es2
 
 made_one : (es : List Event) (s : State) (l : Live) (put : List Out) → IsNext s l → AreOf l.number put → AgreesState es s → Opened es ((es ++ puts (open_record l) ∷ []) ++ told put) s l
@@ -111,11 +127,14 @@ made_one es s l put next of a =
       hardware_is = f.hardware_is ∙ hardware_more es (puts (open_record l));
       opening_is = f.openings_is k ∙ opens_here es s l next a;
       calls_is = f.calls_is k ∙ calls_more k es (puts (open_record l)) ∙ append-nil (calls k es) ∙ (a.untold k (omega (arith, a.opens, next.number_is))).0;
+      came_is = f.came_is k ∙ came_more k es (puts (open_record l)) ∙ append-nil (brought_to k es) ∙ (a.unstreamed k (omega (arith, a.opens, next.number_is))).0;
       elsewhere = λ j other. then_same j es es1 (es1 ++ told put) (opens_elsewhere es l j other) (record {
         openings_are = f.openings_is j;
         over_are = f.over_is j ∙ ap (λ b. open_has_ended j es1 || b) (other_ends k j put of other) ∙ or-false (open_has_ended j es1);
         calls_are = f.calls_is j;
         marks_are = f.marks_is j ∙ no_more (marks j es1) _ (other_tries k j (time es1) put of other);
+        came_are = f.came_is j;
+        try_marks_are = f.try_marks_is j ∙ no_more (try_marks_of j es1) _ (other_try_marks k j (time es1) put of other);
       });
     }
 
@@ -131,6 +150,8 @@ others_live es es2 s l (x ∷ ls) w m same e h =
         lives = t.over_are ∙ h.0.lives;
         received = t.calls_are ∙ h.0.received;
         tells = t.marks_are ∙ h.0.tells;
+        streams = t.came_are ∙ h.0.streams;
+        tries_stand = t.try_marks_are ∙ h.0.tries_stand;
         goes_on = h.0.goes_on;
       },
       others_live es es2 s l ls w m same e h.1,
@@ -155,9 +176,9 @@ pub hardware_now : (es : List Event) (s : State) → AgreesState es s → record
 hardware_now es s a = rw (sym a.mac_is, sym a.identity_is) refl
 
 -- it lives, and has had its first try
-pub opened_state : (es : List Event) (s : State) (l : Live) (put : List Out) → IsNext s l → AreOf l.number put → ends_in l.number put ≡ false → ((now : ℕ) → told_tries l.number now put ≡ tries 1 now ∷ []) → AgreesState es s →
+pub opened_state : (es : List Event) (s : State) (l : Live) (put : List Out) → IsNext s l → AreOf l.number put → ends_in l.number put ≡ false → ((now : ℕ) → told_tries l.number now put ≡ tries 1 now ∷ []) → ((now : ℕ) → try_marks_by l.number now put ≡ tries_at 1 now ∷ []) → AgreesState es s →
     AgreesState (es ++ told (open_record l ∷ put)) (with_opened s l)
-opened_state es s l put next of no_end first a =
+opened_state es s l put next of no_end first first_mark a =
     let k = l.number in
     let es1 = es ++ puts (open_record l) ∷ [] in
     let es2 = es1 ++ told put in
@@ -184,6 +205,10 @@ opened_state es s l put next of no_end first a =
           tells = f.marks_is k ∙ ap (λ z. z ++ told_tries k (time es1) put) (marks_more k es (puts (open_record l)) ∙ append-nil (marks k es) ∙ (a.untold k (omega (arith, now_made))).1)
               ∙ first (time es1) ∙ ap (λ t. tries 1 t ∷ []) (time_more es (puts (open_record l)) ∙ add-zero (time es) ∙ a.time ∙ sym next.since_is)
               ∙ ap (λ z. tries 1 l.since ∷ z) (sym (ap (heard_marks l.kind k) next.bare));
+          streams = o.came_is ∙ sym (ap streamed next.bare);
+          tries_stand = f.try_marks_is k ∙ ap (λ z. z ++ try_marks_by k (time es1) put) (try_marks_more k es (puts (open_record l)) ∙ append-nil (try_marks_of k es) ∙ (a.unstreamed k (omega (arith, now_made))).1)
+              ∙ first_mark (time es1) ∙ ap (λ t. tries_at 1 t ∷ []) (time_more es (puts (open_record l)) ∙ add-zero (time es) ∙ a.time ∙ sym next.since_is)
+              ∙ ap (λ z. tries_at 1 l.since ∷ z) (sym (ap (streamed_marks k) next.bare));
           goes_on = subst (AllByRecursion (IsOngoing l.kind k l.own)) (sym next.bare) tt;
         },
         tt,
@@ -193,6 +218,7 @@ opened_state es s l put next of no_end first a =
       unopened = λ j more. (o.elsewhere j (other j more)).openings_are ∙ a.unopened j (few j more);
       unended = λ j more. (o.elsewhere j (other j more)).over_are ∙ a.unended j (few j more);
       untold = λ j more. let u = a.untold j (few j more) in ((o.elsewhere j (other j more)).calls_are ∙ u.0, (o.elsewhere j (other j more)).marks_are ∙ u.1);
+      unstreamed = λ j more. let u = a.unstreamed j (few j more) in ((o.elsewhere j (other j more)).came_are ∙ u.0, (o.elsewhere j (other j more)).try_marks_are ∙ u.1);
     })
 
 -- it found no route, and has ended
@@ -222,16 +248,20 @@ failed_state es s l cause next a =
       unopened = λ j more. (o.elsewhere j (other j more)).openings_are ∙ a.unopened j (few j more);
       unended = λ j more. (o.elsewhere j (other j more)).over_are ∙ a.unended j (few j more);
       untold = λ j more. let u = a.untold j (few j more) in ((o.elsewhere j (other j more)).calls_are ∙ u.0, (o.elsewhere j (other j more)).marks_are ∙ u.1);
+      unstreamed = λ j more. let u = a.unstreamed j (few j more) in ((o.elsewhere j (other j more)).came_are ∙ u.0, (o.elsewhere j (other j more)).try_marks_are ∙ u.1);
     })
   where
     or_true : (b : Bool) → (b || true) ≡ true
     or_true true = refl
     or_true false = refl
 
-first_so : (link : Client) (l : Live) (b : Bool) (put out : List Out) → AreOf l.number out → ends_in l.number out ≡ false → ((now : ℕ) → b ≡ true → told_tries l.number now out ≡ tries 1 now ∷ []) → cond b (Some out) None ≡ Some put →
-    AreOf l.number put × (ends_in l.number put ≡ false) × ((now : ℕ) → told_tries l.number now put ≡ tries 1 now ∷ [])
-first_so link l true put out of no_end first e = let same : out ≡ put = cc in (subst (AreOf l.number) same of, subst (λ z. ends_in l.number z ≡ false) same no_end, λ now. subst (λ z. told_tries l.number now z ≡ tries 1 now ∷ []) same (first now refl))
-first_so link l false put out of no_end first e = absurd (cc)
+-- records that open l begins with: its own, no end, and one try
+abbrev pub BeginsSo : Live → List Out → Type 0
+BeginsSo l put = AreOf l.number put × (ends_in l.number put ≡ false) × ((now : ℕ) → told_tries l.number now put ≡ tries 1 now ∷ []) × ((now : ℕ) → try_marks_by l.number now put ≡ tries_at 1 now ∷ [])
+
+first_so : (l : Live) (b : Bool) (put out : List Out) → (b ≡ true → BeginsSo l out) → cond b (Some out) None ≡ Some put → BeginsSo l put
+first_so l true put out begins e = let same : out ≡ put = cc in subst (BeginsSo l) same (begins refl)
+first_so l false put out begins e = absurd (cc)
 
 send_ends : (k : ℕ) (link : Client) (m : SendTo) → ends_in k (send_records link k (Some 1) m) ≡ false
 send_ends k link m = by (has_route link m) (put_on link m (way_of link m))
@@ -240,16 +270,22 @@ send_ends k link m = by (has_route link m) (put_on link m (way_of link m))
     by true bytes = refl
     by false bytes = refl
 
-message_so : (link : Client) (l : Live) (put : List Out) (m : SendTo) → cond (has_route link m) (Some (send_records link l.number (Some 1) m)) None ≡ Some put →
-    AreOf l.number put × (ends_in l.number put ≡ false) × ((now : ℕ) → told_tries l.number now put ≡ tries 1 now ∷ [])
-message_so link l put m e = first_so link l (has_route link m) put (send_records link l.number (Some 1) m) (of_send link l.number (Some 1) m) (send_ends l.number link m) (λ now is. own_send l.number now link (Some 1) m is) e
+first_mark : (k now : ℕ) (b : Bool) (bytes : List ℕ) → b ≡ true → try_marks_by k now (cond b (tried k 1 ∷ sent bytes ∷ []) []) ≡ tries_at 1 now ∷ []
+first_mark k now true bytes e = ap (λ z. cond z (tries_at 1 now ∷ []) [] ++ []) (same_number k)
+first_mark k now false bytes e = absurd (cc)
+
+message_so : (link : Client) (l : Live) (put : List Out) (m : SendTo) → cond (has_route link m) (Some (send_records link l.number (Some 1) m)) None ≡ Some put → BeginsSo l put
+message_so link l put m e =
+    first_so l (has_route link m) put (send_records link l.number (Some 1) m)
+    (λ is. (of_send link l.number (Some 1) m, send_ends l.number link m, λ now. own_send l.number now link (Some 1) m is, λ now. first_mark l.number now (has_route link m) (put_on link m (way_of link m)) is)) e
 
 -- what an open begins with is its first try
-pub begun_so : (link : Client) (l : Live) (put : List Out) → first_records l.kind l link ≡ Some put → AreOf l.number put × (ends_in l.number put ≡ false) × ((now : ℕ) → told_tries l.number now put ≡ tries 1 now ∷ [])
+pub begun_so : (link : Client) (l : Live) (put : List Out) → first_records l.kind l link ≡ Some put → BeginsSo l put
 begun_so link l put e = by l.kind e
   where
-    by : (kind : OpenKind) → first_records kind l link ≡ Some put → AreOf l.number put × (ends_in l.number put ≡ false) × ((now : ℕ) → told_tries l.number now put ≡ tries 1 now ∷ [])
+    by : (kind : OpenKind) → first_records kind l link ≡ Some put → BeginsSo l put
     by tftp e = message_so link l put (request_of (transfer_of l)) e
+    by (http isn) e = message_so link l put (syn_message (connection_of isn l)) e
     by (dns id) e = message_so link l put (query_to (look_up_of id l)) e
     by (dhcp a) e = message_so link l put (to_servers (message_text a None)) e
     by ping e = message_so link l put (echo_request (ping_of l)) e

@@ -1,25 +1,30 @@
 -- Something comes to opens that live, one after another: what the history says of each of them then.
 use Rattle.std.proofs.Common.{◌≡◌, ℕ, ◌<◌, ◌==◌, Bool, true, false, ◌||◌, List, [], ◌∷◌, ◌++◌, Some, None, refl, sym, ◌∙◌, ap, subst, append_assoc, append-nil, map, ne_eqb}
-use Rattle.std.specs.List.{list_any, AllByRecursion}
+use Rattle.std.specs.List.{flat_map, list_any, AllByRecursion}
 use Rattle.std.specs.Option.{is_some}
 use Rattle.std.proofs.lemmas.List.{map-append}
 use Rattle.std.proofs.lemmas.List.Concat.{flat_map-append}
 use Rattle.std.proofs.lemmas.Bool.{eqb-true, eqb-false}
 use Rattle.std.proofs.Math.Bool.{or-false}
 use Rattle.nb_terms.specs.declared.cause.Cause.{Cause}
-use Rattle.nb_defs.specs.Records.{Out}
+use Rattle.nb_defs.specs.Records.{Out, step, sent, ended}
 use Rattle.nb_stack.specs.Client.{Client}
 use Rattle.nb_tftp.proofs.BlockLemmas.{either_way}
-use Rattle.nb_machine.specs.Lives.{OpenInput, message, time as time_came, close, Exchange, exchange, Live, continued}
+use Rattle.nb_machine.specs.Lives.{OpenInput, message, tcp_segment, time as time_came, close, Exchange, exchange, Live, continued}
+use Rattle.nb_streams.specs.Trying.{TryMark, comes_in, tries_at}
+use Rattle.nb_webs.specs.Webs.{call_of}
+use Rattle.nb_machine.specs.Connections.{came_on}
 use Rattle.nb_machine.specs.States.{net0}
 use Rattle.nb_machine.specs.Takings.{end_among, Over, AllTake, all_have, lives_on, is_over}
 use Rattle.nb_laws.specs.Events.{Event, puts}
 use Rattle.nb_laws.specs.Frames.{IsDue, stays_due}
 use Rattle.nb_laws.specs.Lists.{time, made, port_offset, hardware, Opening, openings, open_has_ended, calls, tries, marks, mark_of}
+use Rattle.nb_laws.specs.Webs.{brought_to, told_try_mark, try_marks_of}
 use Rattle.nb_openlaws.specs.OpenEndings.{HadWay}
-use Rattle.nb_openlaws.specs.Standings.{heard_call, moment_in, told_tries, heard_calls, exchange_marks, heard_marks, live_opening, IsKindBy, ComesToOwnPort, IsOngoing, AgreesLive, AreLive, lives_among, HaveOwnNumbers}
-use Rattle.nb_laws.proofs.Tellings.{told, no_more}
-use Rattle.nb_openlaws.proofs.OpenRecords.{all_append, AreOf, ends_in, left, of_later, other_tries, other_ends, end_among_is, IsPutBy, kept_puts}
+use Rattle.nb_openlaws.specs.Standings.{heard_call, moment_in, told_try, told_tries, streamed, exchange_try_marks, streamed_marks, heard_calls, exchange_marks, heard_marks, live_opening, IsKindBy, ComesToOwnPort, IsOngoing, AgreesLive, AreLive, lives_among, HaveOwnNumbers}
+use Rattle.nb_laws.proofs.Tellings.{told, try_marks_by, no_more}
+use Rattle.nb_streams.proofs.FlowLaws.{all_append}
+use Rattle.nb_openlaws.proofs.OpenRecords.{AreOf, ends_in, left, of_later, other_tries, other_try_marks, other_ends, end_among_is, IsFrame, PutsClose, IsPutBy, kept_puts}
 
 -- the history says the same of open j
 pub record SameAt (j : ℕ) (a b : List Event) : Type 0 where
@@ -27,6 +32,8 @@ pub record SameAt (j : ℕ) (a b : List Event) : Type 0 where
   pub over_are : open_has_ended j b ≡ open_has_ended j a
   pub calls_are : calls j b ≡ calls j a
   pub marks_are : marks j b ≡ marks j a
+  pub came_are : brought_to j b ≡ brought_to j a
+  pub try_marks_are : try_marks_of j b ≡ try_marks_of j a
 
 pub then_same : (j : ℕ) (a b c : List Event) → SameAt j a b → SameAt j b c → SameAt j a c
 then_same j a b c p q = record {
@@ -34,6 +41,8 @@ then_same j a b c p q = record {
   over_are = q.over_are ∙ p.over_are;
   calls_are = q.calls_are ∙ p.calls_are;
   marks_are = q.marks_are ∙ p.marks_are;
+  came_are = q.came_are ∙ p.came_are;
+  try_marks_are = q.try_marks_are ∙ p.try_marks_are;
 }
 
 -- a longer history says the same of what stood before
@@ -59,14 +68,20 @@ way_stays k a b o g h = record {
 -- it came now
 abbrev pub IsNow : OpenInput → ℕ → Type 0
 IsNow (message rec port body now) t = t ≡ now
+IsNow (tcp_segment rec g now) t = t ≡ now
 IsNow (time_came now) t = t ≡ now
 IsNow (close cause) t = Unit {0}
 
 -- the record used last has brought it, unless it is closed from above
 abbrev pub IsDueBy : OpenInput → ℕ → List Event → Type 0
 IsDueBy (message rec port body now) k es = IsDue k es
+IsDueBy (tcp_segment rec g now) k es = IsDue k es
 IsDueBy (time_came now) k es = IsDue k es
 IsDueBy (close cause) k es = Unit {0}
+
+-- what came, as its connection's tries have it
+abbrev pub came_marks : OpenInput → List TryMark
+came_marks input = map (λ c. comes_in (call_of c)) (came_on input)
 
 -- it has come to an open, which hasn't taken it yet
 pub record HasCome (es : List Event) (input : OpenInput) (l : Live) : Type 0 where
@@ -77,6 +92,8 @@ pub record HasCome (es : List Event) (input : OpenInput) (l : Live) : Type 0 whe
   pub lives : open_has_ended l.number es ≡ false
   pub received : calls l.number es ≡ heard_calls l.kind l.exchanges ++ heard_call l.kind input
   pub tells : marks l.number es ≡ (tries 1 l.since ∷ heard_marks l.kind l.number l.exchanges) ++ map mark_of (heard_call l.kind input)
+  pub streams : brought_to l.number es ≡ streamed l.exchanges ++ came_on input
+  pub tries_stand : try_marks_of l.number es ≡ (tries_at 1 l.since ∷ streamed_marks l.number l.exchanges) ++ came_marks input
   pub goes_on : AllByRecursion (IsOngoing l.kind l.number l.own) l.exchanges
   pub now : IsNow input (time es)
   pub own : ComesToOwnPort l.kind l.own input
@@ -92,6 +109,7 @@ pub record AgreesOver (es : List Event) (o : Over) : Type 0 where
   pub opening : openings o.live.number es ≡ live_opening o.live ∷ []
   pub over : open_has_ended o.live.number es ≡ true
   pub received : calls o.live.number es ≡ heard_calls o.live.kind o.live.exchanges
+  pub streams : brought_to o.live.number es ≡ streamed o.live.exchanges
 
 abbrev pub AreOver : List Event → List Over → Type 0
 AreOver es os = AllByRecursion (AgreesOver es) os
@@ -105,6 +123,8 @@ live_on a b l g made_are hardware_are s h = record {
   lives = s.over_are ∙ h.lives;
   received = s.calls_are ∙ h.received;
   tells = s.marks_are ∙ h.tells;
+  streams = s.came_are ∙ h.streams;
+  tries_stand = s.try_marks_are ∙ h.tries_stand;
   goes_on = h.goes_on;
 }
 
@@ -115,6 +135,7 @@ over_on a b o made_are hardware_are s h = record {
   opening = s.openings_are ∙ h.opening;
   over = s.over_are ∙ h.over;
   received = s.calls_are ∙ h.received;
+  streams = s.came_are ∙ h.streams;
 }
 
 pub due_told : (k : ℕ) (es : List Event) (outs : List Out) → IsDue k es → IsDue k (es ++ told outs)
@@ -123,6 +144,7 @@ due_told k es (o ∷ outs) d = subst (λ z. IsDue k z) (append_assoc es (puts o 
 
 due_on : (input : OpenInput) (k : ℕ) (es : List Event) (outs : List Out) → IsDueBy input k es → IsDueBy input k (es ++ told outs)
 due_on (message rec port body now) k es outs d = due_told k es outs d
+due_on (tcp_segment rec g now) k es outs d = due_told k es outs d
 due_on (time_came now) k es outs d = due_told k es outs d
 due_on (close cause) k es outs d = tt
 
@@ -136,16 +158,46 @@ come_on es put input l made_are hardware_are times_are s h = record {
   lives = s.over_are ∙ h.lives;
   received = s.calls_are ∙ h.received;
   tells = s.marks_are ∙ h.tells;
+  streams = s.came_are ∙ h.streams;
+  tries_stand = s.try_marks_are ∙ h.tries_stand;
   goes_on = h.goes_on;
   now = subst (IsNow input) (sym times_are) h.now;
   own = h.own;
   due = due_on input l.number es put h.due;
 }
 
+-- no try is told at a close
+frame_try : (k now : ℕ) (o : Out) → IsFrame o → told_try k now o ≡ []
+frame_try k now (sent bytes) h = refl
+frame_try k now (step number) h = absurd h
+frame_try k now _ h = absurd h
+
+frame_try_mark : (k now : ℕ) (o : Out) → IsFrame o → told_try_mark k now o ≡ []
+frame_try_mark k now (sent bytes) h = refl
+frame_try_mark k now (step number) h = absurd h
+frame_try_mark k now _ h = absurd h
+
+frames_tell : {A : Type 0} (f : Out → List A) (outs more : List Out) → ((o : Out) → IsFrame o → f o ≡ []) → AllByRecursion IsFrame outs → flat_map f more ≡ [] → flat_map f (outs ++ more) ≡ []
+frames_tell f [] more none h rest = rest
+frames_tell f (o ∷ outs) more none h rest = ap (λ z. z ++ flat_map f (outs ++ more)) (none o h.0) ∙ frames_tell f outs more none h.1 rest
+
+closing_tries : (k t : ℕ) (cause : Cause) (put : List Out) → PutsClose k cause put → told_tries k t put ≡ []
+closing_tries k t cause put c = ap (λ z. told_tries k t z) c.put_is ∙ frames_tell (told_try k t) c.frames (ended k cause ∷ []) (frame_try k t) c.alone refl
+
+closing_try_marks : (k t : ℕ) (cause : Cause) (put : List Out) → PutsClose k cause put → try_marks_by k t put ≡ []
+closing_try_marks k t cause put c = ap (λ z. try_marks_by k t z) c.put_is ∙ frames_tell (told_try_mark k t) c.frames (ended k cause ∷ []) (frame_try_mark k t) c.alone refl
+
 tries_now : (k t : ℕ) (came : OpenInput) (link : Client) (put : List Out) → IsNow came t → IsPutBy k (exchange came link put) → told_tries k t put ≡ told_tries k (moment_in came) put
 tries_now k t (message rec port body now) link put e p = ap (λ z. told_tries k z put) e
+tries_now k t (tcp_segment rec g now) link put e p = ap (λ z. told_tries k z put) e
 tries_now k t (time_came now) link put e p = ap (λ z. told_tries k z put) e
-tries_now k t (close cause) link put e p = ap (λ z. told_tries k t z) (p.closes cause refl) ∙ sym (ap (λ z. told_tries k 0 z) (p.closes cause refl))
+tries_now k t (close cause) link put e p = let c = p.closes cause refl in closing_tries k t cause put c ∙ sym (closing_tries k 0 cause put c)
+
+try_marks_now : (k t : ℕ) (came : OpenInput) (link : Client) (put : List Out) → IsNow came t → IsPutBy k (exchange came link put) → try_marks_by k t put ≡ try_marks_by k (moment_in came) put
+try_marks_now k t (message rec port body now) link put e p = ap (λ z. try_marks_by k z put) e
+try_marks_now k t (tcp_segment rec g now) link put e p = ap (λ z. try_marks_by k z put) e
+try_marks_now k t (time_came now) link put e p = ap (λ z. try_marks_by k z put) e
+try_marks_now k t (close cause) link put e p = let c = p.closes cause refl in closing_try_marks k t cause put c ∙ sym (closing_try_marks k 0 cause put c)
 
 -- an open has taken what came, and lives on
 pub one_takes : (es : List Event) (came : OpenInput) (l : Live) (link : Client) (put : List Out) → HasCome es came l → IsPutBy l.number (exchange came link put) → end_among l.number put ≡ None →
@@ -165,6 +217,11 @@ one_takes es came l link put c p none =
           ∙ append_assoc (tries 1 l.since ∷ heard_marks l.kind k l.exchanges) (map mark_of (heard_call l.kind came)) (told_tries k (time es) put)
           ∙ ap (λ z. tries 1 l.since ∷ (heard_marks l.kind k l.exchanges ++ (map mark_of (heard_call l.kind came) ++ z))) (tries_now k (time es) came link put c.now p)
           ∙ ap (λ z. tries 1 l.since ∷ z) (sym (flat_map-append (exchange_marks l.kind k) l.exchanges (x ∷ []) ∙ ap (λ z. heard_marks l.kind k l.exchanges ++ z) (append-nil (exchange_marks l.kind k x))));
+      streams = f.came_is k ∙ c.streams ∙ sym (flat_map-append (λ (y : Exchange). came_on y.came) l.exchanges (x ∷ []) ∙ ap (λ z. streamed l.exchanges ++ z) (append-nil (came_on came)));
+      tries_stand = f.try_marks_is k ∙ ap (λ z. z ++ try_marks_by k (time es) put) c.tries_stand
+          ∙ append_assoc (tries_at 1 l.since ∷ streamed_marks k l.exchanges) (came_marks came) (try_marks_by k (time es) put)
+          ∙ ap (λ z. tries_at 1 l.since ∷ (streamed_marks k l.exchanges ++ (came_marks came ++ z))) (try_marks_now k (time es) came link put c.now p)
+          ∙ ap (λ z. tries_at 1 l.since ∷ z) (sym (flat_map-append (exchange_try_marks k) l.exchanges (x ∷ []) ∙ ap (λ z. streamed_marks k l.exchanges ++ z) (append-nil (exchange_try_marks k x))));
       goes_on = all_append (IsOngoing l.kind k l.own) l.exchanges (x ∷ []) c.goes_on ((none, c.own), tt);
     }
 
@@ -181,6 +238,7 @@ one_ends es came l link put cause c p some =
       opening = f.openings_is k ∙ c.opening;
       over = f.over_is k ∙ ap (λ b. b || ends_in k put) c.lives ∙ end_among_is k put ∙ ap is_some some;
       received = f.calls_is k ∙ c.received ∙ sym (flat_map-append (λ (y : Exchange). heard_call l.kind y.came) l.exchanges (x ∷ []) ∙ ap (λ z. heard_calls l.kind l.exchanges ++ z) (append-nil (heard_call l.kind came)));
+      streams = f.came_is k ∙ c.streams ∙ sym (flat_map-append (λ (y : Exchange). came_on y.came) l.exchanges (x ∷ []) ∙ ap (λ z. streamed l.exchanges ++ z) (append-nil (came_on came)));
     }
 
 -- records of an open leave all others as they were
@@ -192,6 +250,8 @@ others_same es k j put of e =
       over_are = f.over_is j ∙ ap (λ b. open_has_ended j es || b) (other_ends k j put of e) ∙ or-false (open_has_ended j es);
       calls_are = f.calls_is j;
       marks_are = f.marks_is j ∙ no_more (marks j es) _ (other_tries k j (time es) put of e);
+      came_are = f.came_is j;
+      try_marks_are = f.try_marks_is j ∙ no_more (try_marks_of j es) _ (other_try_marks k j (time es) put of e);
     }
 
 -- NUMBERS
@@ -254,7 +314,7 @@ all_taken devices came ls put after over all_have es come apart = subst (λ z. T
   ended = tt;
   theirs = λ j none. refl;
   apart = tt;
-  still = λ j none. record { openings_are = refl; over_are = refl; calls_are = refl; marks_are = refl };
+  still = λ j none. record { openings_are = refl; over_are = refl; calls_are = refl; marks_are = refl; came_are = refl; try_marks_are = refl };
   none_new = λ j none. refl;
   gone = λ j some none. absurd (cc);
 })

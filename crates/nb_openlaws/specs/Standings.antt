@@ -5,15 +5,20 @@ use Rattle.std.specs.List.{flat_map, list_any, AllByRecursion}
 use Rattle.nb_defs.specs.Records.{Out, step, sent, text, command, result, script, opened, tried, advanced, ended, graph, part, done}
 use Rattle.nb_tftp.specs.Received.{received}
 use Rattle.nb_tftp.specs.History.{Call, came, ticked}
-use Rattle.nb_machine.specs.Findings.{query_id}
+use Rattle.nb_streams.specs.Talking.{Came}
+use Rattle.nb_streams.specs.Trying.{TryMark, comes_in, tries_at}
+use Rattle.nb_webs.specs.Webs.{NoTask, call_of}
+use Rattle.nb_machine.specs.Connections.{came_on}
+use Rattle.nb_machine.specs.Findings.{first_word, query_id}
 use Rattle.nb_laws.specs.Agreement.{AreStill}
 use Rattle.nb_laws.specs.Silence.{AreSilent}
 use Rattle.nb_laws.specs.Cores.{asker_by}
 use Rattle.nb_laws.specs.Events.{Event}
 use Rattle.nb_laws.specs.Histories.{client}
+use Rattle.nb_laws.specs.Webs.{brought_to, told_try_mark, try_marks_of}
 use Rattle.nb_laws.specs.Lists as lists
 use Rattle.nb_laws.specs.Lists.{made, port_offset, Hardware, hardware, Opening, openings, open_has_ended, live, calls, Mark, tries, marks, mark_of}
-use Rattle.nb_machine.specs.Lives.{OpenKind, tftp, dns, dhcp, ping, kind_number, OpenInput, message, time, close, Exchange, Live}
+use Rattle.nb_machine.specs.Lives.{OpenKind, tftp, http, dns, dhcp, ping, kind_number, OpenInput, message, tcp_segment, time, close, Exchange, Live}
 use Rattle.nb_machine.specs.States.{State, net0}
 use Rattle.nb_machine.specs.Scripts.{net0_mac}
 use Rattle.nb_machine.specs.Takings.{end_among}
@@ -27,13 +32,15 @@ live_opening l = record { kind = kind_number l.kind; server = l.server; port = l
 -- the port that a message came from, as the history has it: an echo comes from none
 abbrev pub heard_port : OpenKind → ℕ → ℕ
 heard_port tftp port = port
+heard_port (http isn) port = port
 heard_port (dns id) port = port
 heard_port (dhcp a) port = port
 heard_port ping port = 0
 
--- what came, as the history has it; a close is none of its events
+-- what came, as the history has it; a segment comes to a connection, and a close is none of its events
 abbrev pub heard_call : OpenKind → OpenInput → List Call
 heard_call kind (message rec port body now) = came (received rec (heard_port kind port) body) now ∷ []
+heard_call kind (tcp_segment rec g now) = []
 heard_call kind (time now) = ticked now ∷ []
 heard_call kind (close cause) = []
 
@@ -43,6 +50,7 @@ heard_calls kind xs = flat_map (λ x. heard_call kind x.came) xs
 -- when it came
 abbrev pub moment_in : OpenInput → ℕ
 moment_in (message rec port body now) = now
+moment_in (tcp_segment rec g now) = now
 moment_in (time now) = now
 moment_in (close cause) = 0
 
@@ -72,10 +80,22 @@ exchange_marks kind k x = map mark_of (heard_call kind x.came) ++ told_tries k (
 abbrev pub heard_marks : OpenKind → ℕ → List Exchange → List Mark
 heard_marks kind k xs = flat_map (exchange_marks kind k) xs
 
--- An open of a kind, as its OPEN tells it: a look-up's query has its number, and a lease its asker, by START's key; a name server is
--- asked at its port 53, a lease of all hosts, from port 68 to port 67, and a ping has no port.
+-- what came to its connection, of segments and times
+abbrev pub streamed : List Exchange → List (Came NoTask)
+streamed xs = flat_map (λ x. came_on x.came) xs
+
+-- what an exchange of open k is to its connection: what came, and then the tries that it tells
+abbrev pub exchange_try_marks : ℕ → Exchange → List TryMark
+exchange_try_marks k x = map (λ c. comes_in (call_of c)) (came_on x.came) ++ flat_map (told_try_mark k (moment_in x.came)) x.put
+
+abbrev pub streamed_marks : ℕ → List Exchange → List TryMark
+streamed_marks k xs = flat_map (exchange_try_marks k) xs
+
+-- An open of a kind, as its OPEN tells it: a connection's SYN has its number, a look-up's query its number, and a lease its asker, by
+-- START's key; a name server is asked at its port 53, a lease of all hosts, from port 68 to port 67, and a ping has no port.
 abbrev pub IsKindBy : Hardware → ℕ → OpenKind → Opening → Type 0
 IsKindBy h k tftp o = Unit {0}
+IsKindBy h k (http isn) o = isn ≡ first_word h.identity k
 IsKindBy h k (dns id) o = (id ≡ query_id h.identity k) × (o.port ≡ 53)
 IsKindBy h k (dhcp a) o = (a ≡ asker_by h k) × (o.server ≡ 4294967295) × (o.port ≡ 67) × (o.own ≡ 68) × (o.target ≡ [])
 IsKindBy h k ping o = (o.port ≡ 0) × (o.target ≡ [])
@@ -83,9 +103,11 @@ IsKindBy h k ping o = (o.port ≡ 0) × (o.target ≡ [])
 -- a message for a ping has its identifier
 abbrev pub ComesToOwnPort : OpenKind → (own : ℕ) → OpenInput → Type 0
 ComesToOwnPort tftp own input = Unit {0}
+ComesToOwnPort (http isn) own input = Unit {0}
 ComesToOwnPort (dns id) own input = Unit {0}
 ComesToOwnPort (dhcp a) own input = Unit {0}
 ComesToOwnPort ping own (message rec port body now) = port ≡ own
+ComesToOwnPort ping own (tcp_segment rec g now) = Unit {0}
 ComesToOwnPort ping own (time now) = Unit {0}
 ComesToOwnPort ping own (close cause) = Unit {0}
 
@@ -102,6 +124,8 @@ pub record AgreesLive (es : List Event) (l : Live) : Type 0 where
   pub lives : open_has_ended l.number es ≡ false
   pub received : calls l.number es ≡ heard_calls l.kind l.exchanges
   pub tells : marks l.number es ≡ tries 1 l.since ∷ heard_marks l.kind l.number l.exchanges
+  pub streams : brought_to l.number es ≡ streamed l.exchanges
+  pub tries_stand : try_marks_of l.number es ≡ tries_at 1 l.since ∷ streamed_marks l.number l.exchanges
   pub goes_on : AllByRecursion (IsOngoing l.kind l.number l.own) l.exchanges
 
 abbrev pub AreLive : List Event → List Live → Type 0
@@ -132,6 +156,7 @@ pub record AgreesState (es : List Event) (s : State) : Type 0 where
   pub unopened : (k : ℕ) → made es ≤ k → openings k es ≡ []
   pub unended : (k : ℕ) → made es ≤ k → open_has_ended k es ≡ false
   pub untold : (k : ℕ) → made es ≤ k → (calls k es ≡ []) × (marks k es ≡ [])
+  pub unstreamed : (k : ℕ) → made es ≤ k → (brought_to k es ≡ []) × (try_marks_of k es ≡ [])
 
 -- the one device is the history's client
 abbrev pub AgreesDevice : List Event → State → Type 0

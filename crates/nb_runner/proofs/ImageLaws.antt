@@ -16,11 +16,11 @@ use Rattle.nb_imagecmd.specs.declared.asking.Asking.{Asking}
 use Rattle.nb_imagecmd.specs.declared.commands.ImageCommand.{ImageCommand}
 use Rattle.nb_imagecmd.specs.declared.commands.ImageCommand.TheVariants as command
 use Rattle.nb_imagecmd.specs.declared.error.ImageFailure.{ImageFailure}
-use Rattle.nb_imagecmd.specs.declared.error.ImageFailure.TheVariants.{ManyScripts, NoScheme}
+use Rattle.nb_imagecmd.specs.declared.error.ImageFailure.TheVariants.{ManyScripts}
 use Rattle.nb_imagecmd.specs.declared.outcome.ImageOutcome.{ImageOutcome}
 use Rattle.nb_imagecmd.specs.declared.outcome.ImageOutcome.TheVariants as outcome
 use Rattle.nb_imagecmd.specs.declared.outcome.ScriptImage.{ScriptImage}
-use Rattle.nb_imagecmd.specs.Asking.{MayBeFetched, asked_by, asked_file, asked_name, asking_of, has_long_path, is_file, target_host, target_path}
+use Rattle.nb_imagecmd.specs.Asking.{MayBeFetched, asked_by, asked_file, asked_name, asking_of, has_long_path, is_file}
 use Rattle.nb_imagecmd.specs.CarryingOut.{IfAsks, asking_answer, select_at, execute_at, set_args_at, image_effect}
 use Rattle.nb_imagecmd.specs.Executing.{ImageAnswer, selected_with, executed_kind, executed_image, executed_selected, is_too_deep, taken_from, script_taken}
 use Rattle.nb_imagecmd.specs.Freeing.{is_kept, are_all_listed}
@@ -29,13 +29,8 @@ use Rattle.nb_imagecmd.specs.Stat.{is_at, stat_line, stat_lines}
 use Rattle.nb_imagecmd.proofs.ShortLemmas.{command_names_short, line_short}
 use Rattle.nb_uri.specs.declared.target.UriTarget.{UriTarget}
 use Rattle.nb_uri.specs.declared.target.UriTarget.TheVariants.{Tftp, Http, Iscsi}
-use Rattle.nb_tftpmsg.specs.Texts.{HasNoZero}
 use Rattle.nb_uri.specs.declared.target.UriError.{UriError}
-use Rattle.nb_uri.specs.Resolutions.{HasCleanPath, resolution}
-use Rattle.nb_machine.specs.Effects.{Surroundings, asked_effect, at_host, fails_for}
-use Rattle.nb_machine.specs.Errands.{fetches_then}
-use Rattle.nb_runner.specs.CommandWords.{FitsFile, IsAskedWell}
-use Rattle.nb_runner.specs.Intents.{is_of_tftp}
+use Rattle.nb_uri.specs.Resolutions.{resolution}
 use Rattle.nb_runner.specs.Handings.{IsShortImage, AreShortImages}
 use Rattle.nb_runner.specs.ImageDeeds.{FitsOutcome, HasShortArgs, IsUnmoved, MayFollow}
 use Rattle.nb_runner.proofs.HandingLemmas.{all_remove}
@@ -208,27 +203,3 @@ script_well i replace depth list short = by (is_too_deep replace depth) refl
 
 pub takes_well : (i : ℕ) (replace : Bool) (depth : ℕ) (list left : ImageList) (script : ScriptImage) → AreShortImages list.images → script_taken i replace depth list ≡ Ok (script, left) → TakesWell replace depth left
 takes_well i replace depth list left script short is = subst (λ (r : Result (ScriptImage × ImageList) ImageFailure). TakenWell replace depth r) is (script_well i replace depth list short)
-
--- A FILE THAT IS ASKED FOR
-
--- a server of TFTP is asked as any host is
-pub asks_host : (target : UriTarget) (x : Surroundings) (asking : Asking) → is_of_tftp target ≡ true → asked_effect target x asking ≡ at_host x.opens x.table (target_host target) (fetches_then asking)
-asks_host (Tftp host port path whole) x asking is = refl
-asks_host (Http host port path whole) x asking is = absurd (cc)
-asks_host (Iscsi host port lun name whole) x asking is = absurd (cc)
-
-pub asks_none : (target : UriTarget) (x : Surroundings) (asking : Asking) → is_of_tftp target ≡ false → asked_effect target x asking ≡ fails_for NoScheme
-asks_none (Tftp host port path whole) x asking is = absurd (cc)
-asks_none (Http host port path whole) x asking is = refl
-asks_none (Iscsi host port lun name whole) x asking is = refl
-
-path_fits : (target : UriTarget) → is_of_tftp target ≡ true → HasCleanPath target → has_long_path target ≡ false → HasNoZero (target_path target) × (length (target_path target) ≤ 1024)
-path_fits (Tftp host port path whole) is clean few = (clean, ltb-false 1024 (length path) few)
-path_fits (Http host port path whole) is clean few = absurd (cc)
-path_fits (Iscsi host port lun name whole) is clean few = absurd (cc)
-
--- and its file fits
-pub file_fits : (asking : Asking) → is_of_tftp asking.target ≡ true → IsAskedWell asking → FitsFile asking
-file_fits asking is h =
-    let path = path_fits asking.target is h.fetched.clean h.fetched.path in
-    record { clean = path.0; path = path.1; name = h.fetched.named; args = h.args }

@@ -1,16 +1,16 @@
 -- What a command read from words comes to.
-use Rattle.std.specs.Prelude.{ℕ, ◌<◌, ◌≤◌, length, IfSome}
+use Rattle.std.specs.Prelude.{◌≡◌, ℕ, ◌<◌, ◌≤◌, true, length, IfSome}
 use Rattle.nb_defs.specs.Causes.{ok}
 use Rattle.nb_defs.specs.Commands.{CommandOutcome, refused, prints_text}
-use Rattle.nb_tftpmsg.specs.Texts.{HasNoZero}
 use Rattle.nb_imagecmd.specs.declared.asking.Asking.{Asking}
-use Rattle.nb_imagecmd.specs.Asking.{MayBeFetched, target_path}
+use Rattle.nb_imagecmd.specs.Asking.{MayBeFetched}
 use Rattle.nb_command.specs.declared.command_plan.CommandPlan.{CommandPlan}
 use Rattle.nb_command.specs.declared.command_plan.CommandPlan.TheVariants as plan
 use Rattle.nb_command.specs.declared.outcome.Outcome.{Outcome}
 use Rattle.nb_command.specs.declared.outcome.Outcome.TheVariants as outcome
 use Rattle.nb_command.specs.declared.outcome.Job.TheVariants as job
 use Rattle.nb_machine.specs.Effects.{Effect, says, goes, sleeps, shuts_device, leaves_with, sleeping_for}
+use Rattle.nb_dns.specs.WrittenNames.{is_lookup_name}
 use Rattle.nb_machine.specs.Errands as defs
 use Rattle.nb_runner.specs.declared.command.Deed.{Deed}
 use Rattle.nb_runner.specs.declared.command.Deed.TheVariants as deed
@@ -33,6 +33,7 @@ errand_of errand.Echo = defs.echoes_then
 abbrev pub onward_of : Onward → defs.Onward
 onward_of (onward.File wanted) = defs.fetches_now (wanted_of wanted)
 onward_of (onward.Echo server) = defs.echoes_now server.0
+onward_of (onward.Name errand name by) = defs.looks_up_now (errand_of errand) name by.0
 
 abbrev pub done_of : Done → CommandOutcome
 done_of d = record { prints = d.prints; cause = d.cause; leaves = d.leaves }
@@ -133,28 +134,22 @@ IsLocalOutcome (outcome.Wait (job.Ping text)) = ⊥
 IsLocalOutcome (outcome.Wait (job.Lookup setting text)) = ⊥
 IsLocalOutcome (outcome.Images o) = ⊥
 
--- a file that is asked for of a TFTP server: its path is one that a transfer takes, and its name and arguments are an image's
-pub record FitsFile (asking : Asking) : Type 0 where
-  pub clean : HasNoZero (target_path asking.target)
-  pub path : length (target_path asking.target) ≤ 1024
-  pub name : length asking.name ≤ 255
-  pub args : length asking.args ≤ 4160
-
--- an open may be made for it
-pub record CanFetch (opens : ℕ) (w : Wanted) : Type 0 where
-  pub few : opens < 16384
-  pub fits : FitsFile w.asking
-
 -- a file that a command asks for
 pub record IsAskedWell (asking : Asking) : Type 0 where
   pub fetched : MayBeFetched asking
   pub args : length asking.args ≤ 4160
 
+-- an open may be made for it
+pub record CanFetch (opens : ℕ) (w : Wanted) : Type 0 where
+  pub few : opens < 16384
+  pub fits : IsAskedWell w.asking
+
 -- a file that is asked for fits
 abbrev pub FitsErrand : Errand → Type 0
-FitsErrand (errand.File asking) = FitsFile asking
+FitsErrand (errand.File asking) = IsAskedWell asking
 FitsErrand errand.Echo = Unit {0}
 
 abbrev pub FitsOnward : Onward → Type 0
-FitsOnward (onward.File wanted) = FitsFile wanted.asking
+FitsOnward (onward.File wanted) = IsAskedWell wanted.asking
 FitsOnward (onward.Echo server) = Unit {0}
+FitsOnward (onward.Name errand name by) = (is_lookup_name name ≡ true) × FitsErrand errand

@@ -1,5 +1,5 @@
 -- What a command asks for, as the code has it, and what it comes to by that.
-use Rattle.std.specs.Prelude.{◌≡◌, ℕ, Bool, true, false, List, ◌<◌}
+use Rattle.std.specs.Prelude.{◌≡◌, ℕ, true, List, ◌<◌}
 use Rattle.nb_runner.specs.declared.query.Query.{Query as Asked}
 use Rattle.nb_runner.specs.declared.query.Query.TheVariants as asked
 use Rattle.nb_runner.specs.CommandWords.{errand_of, FitsErrand, wanted_of, CanFetch}
@@ -11,8 +11,6 @@ use Rattle.nb_runner.specs.declared.intent.Intent.TheVariants as intent
 use Rattle.nb_settings.specs.Tables.{TableLists}
 use Rattle.nb_command.specs.Addresses.{address_table}
 use Rattle.nb_uri.specs.Addresses.{four_decimals}
-use Rattle.nb_uri.specs.declared.target.UriTarget.{UriTarget}
-use Rattle.nb_uri.specs.declared.target.UriTarget.TheVariants.{Tftp, Http, Iscsi}
 use Rattle.std.specs.Option.{option_map_or}
 use Rattle.nb_machine.specs.Effects.{Effect, says, asks, changed, inquires}
 
@@ -45,9 +43,3 @@ abbrev pub IsAskable : ℕ → Intent → Type 0
 IsAskable opens (intent.Over cause) = Unit {0}
 IsAskable opens (intent.Asks query) = (opens < 16384) × CanAsk query
 IsAskable opens (intent.Fetches wanted) = CanFetch opens wanted
-
--- of all servers those of TFTP are asked
-abbrev pub is_of_tftp : UriTarget → Bool
-is_of_tftp (Tftp host port path whole) = true
-is_of_tftp (Http host port path whole) = false
-is_of_tftp (Iscsi host port lun name whole) = false

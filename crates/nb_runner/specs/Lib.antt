@@ -1,5 +1,6 @@
 pub mod CommandWords
 pub mod FirstScript
+pub mod Following
 pub mod Handings
 pub mod ImageDeeds
 pub mod Intents

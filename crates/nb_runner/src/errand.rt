@@ -1,13 +1,13 @@
 //! What a command fetches or asks, before its server's address is known and after that.
 
 ghost use Rattle.std.specs.Prelude.{◌≡◌};
-ghost use Rattle.nb_imagecmd.specs.Asking.{target_host, target_path, target_port};
+ghost use Rattle.nb_imagecmd.specs.Asking.{target_host, target_text, target_port};
 ghost use Rattle.nb_runner.specs.CommandWords.{errand_of, onward_of, FitsErrand, FitsOnward};
 ghost use Rattle.nb_machine.specs.Errands.{onward};
 
 use nb_imagecmd::Asking;
 use nb_uri::UriTarget;
-use nb_wire::Ip4;
+use nb_wire::{Ip4, Text};
 
 /// A file that a command asks for, of a server whose address is known.
 #[derive(Drop)]
@@ -34,6 +34,8 @@ pub enum Onward {
     File(Wanted),
     /// It is asked for an echo.
     Echo(Ip4),
+    /// A name server is asked for the address of another server's name, of which this is asked then.
+    Name { errand: Errand, name: Text, by: Ip4 },
 }
 
 impl Errand {
@@ -63,13 +65,20 @@ impl Wanted {
 
     /// What the server is asked for.
     pub fn path(&self) -> &[u8]
-        ensures { result.now ≡ target_path self.now.asking.target }
+        ensures { result.now ≡ target_text self.now.asking.target }
     {
         match &self.asking.target {
             UriTarget::Tftp { path, .. } => path.as_slice(),
-            UriTarget::Http { path, .. } => path.as_slice(),
+            UriTarget::Http { whole, .. } => whole.as_slice(),
             UriTarget::Iscsi { name, .. } => name.as_slice(),
         }
+    }
+
+    /// The server, by its address or its name, as the URI has it.
+    pub fn host(&self) -> &[u8]
+        ensures { result.now ≡ target_host self.now.asking.target }
+    {
+        host_of(&self.asking.target)
     }
 }
 

@@ -3,15 +3,16 @@
 ghost use Rattle.std.specs.Prelude.{◌≡◌, ◌<◌, ◌≤◌, ◌==◌, ◌++◌, ◌∷◌, ℕ, List, length, true, false, Some, None, Ok, IfOk, OnOk, OnErr};
 ghost use Rattle.nb_settings.specs.Tables.{look};
 ghost use Rattle.nb_settings.specs.declared.setting.OwnedKey.TheVariants.{Tag};
-ghost use Rattle.nb_runner.specs.CommandWords.{errand_of, onward_of, FitsErrand, FitsOnward, IsAskedWell, IsForInquiry, IsForLease};
-ghost use Rattle.nb_machine.specs.Effects.{Surroundings, asked_effect, at_host, inquires, looked_up_effect, name_effect, named_host, onward_effect, plan_effect, plan_table, plan_up, unless_full};
-ghost use Rattle.nb_runner.specs.Intents.{query_of, intent_effect, is_of_tftp, looked_up_table, CanAsk, IsAskable};
+ghost use Rattle.nb_runner.specs.CommandWords.{IsAskedWell, IsForInquiry, IsForLease};
+ghost use Rattle.nb_machine.specs.Effects.{Surroundings, asked_effect, inquires, looked_up_effect, name_effect, plan_effect, plan_table, plan_up, unless_full};
+ghost use Rattle.nb_runner.specs.Intents.{query_of, intent_effect, looked_up_table, CanAsk, IsAskable};
 ghost use Rattle.nb_machine.specs.Queries.{dns_in, with_domain, domain_bytes};
 ghost use Rattle.nb_runner.specs.World.{IsLinkOfState, state_of, with_state, world_with};
 
 use crate::World;
 use crate::command::{MAX_OPENS, full_opens};
-use crate::errand::{Errand, Onward, Wanted, host_of};
+use crate::errand::{Errand, Wanted};
+use crate::following::{next_at_host, next_file};
 use crate::query::Query;
 use crate::settings::DNS;
 use crate::texts::copy;
@@ -23,7 +24,7 @@ use nb_imagecmd::Asking;
 use nb_record::{Cause, NoMemory};
 use nb_settings::{Key, Table};
 use nb_terms::Plain;
-use nb_uri::{UriTarget, number};
+use nb_uri::number;
 use nb_wire::{Ip4, Text};
 use std::alloc::Global;
 
@@ -52,7 +53,7 @@ fn domain(table: &Table) -> &[u8]
 }
 
 /// A host's name, with `domain` after it where it has no dot.
-fn with_domain(alloc: Global, table: &Table, text: &[u8]) -> Result<Text, NoMemory>
+pub(crate) fn with_domain(alloc: Global, table: &Table, text: &[u8]) -> Result<Text, NoMemory>
     ensures { IfOk result (λ name. name ≡ with_domain table.now text.now) }
 {
     let mut name = Vec::from_slice(alloc, text)?;
@@ -65,7 +66,7 @@ fn with_domain(alloc: Global, table: &Table, text: &[u8]) -> Result<Text, NoMemo
 }
 
 /// The name server, if one is known.
-fn dns_in(table: &Table) -> Option<Ip4>
+pub(crate) fn dns_in(table: &Table) -> Option<Ip4>
     ensures { result ≡ dns_in table.now }
 {
     nonzero(setting_address(table, None, &DNS))
@@ -82,67 +83,6 @@ fn unless_full(opens: u16, query: Query) -> Intent
         return Intent::Over(full_opens());
     }
     Intent::Asks(query)
-}
-
-/// What is asked of a server whose address is known, where one more open may be made.
-fn intend_onward(opens: u16, onward: Onward) -> Intent
-    requires few { opens ≤ 16384 }
-    requires fits { FitsOnward onward }
-    ensures value { intent_effect result ≡ unless_full opens (onward_effect (onward_of onward)) }
-    ensures may { IsAskable opens result }
-{
-    if opens == MAX_OPENS {
-        return Intent::Over(full_opens());
-    }
-    match onward {
-        Onward::File(wanted) => Intent::Fetches(wanted),
-        Onward::Echo(server) => Intent::Asks(Query::Echo(server)),
-    }
-}
-
-/// A name server is asked for the address of a host's name.
-fn intend_named(
-    alloc: Global,
-    opens: u16,
-    table: &Table,
-    text: &[u8],
-    errand: Errand,
-) -> Result<Intent, NoMemory>
-    requires few { opens ≤ 16384 }
-    requires fits { FitsErrand errand }
-    ensures value { IfOk result (λ i. intent_effect i ≡ named_host opens table.now (errand_of errand) (with_domain table.now text.now)) }
-    ensures may { IfOk result (λ i. IsAskable opens i) }
-{
-    let name = with_domain(alloc, table, text)?;
-    if !is_name(name.as_slice()) {
-        return Ok(Intent::Over(Plain::BadName.cause()));
-    }
-    if opens == MAX_OPENS {
-        return Ok(Intent::Over(full_opens()));
-    }
-    match dns_in(table) {
-        Some(by) => Ok(Intent::Asks(Query::Host { errand, name, by })),
-        None => Ok(Intent::Over(Plain::NoServer.cause())),
-    }
-}
-
-/// What is asked of a host: four decimals are its address, and a name is looked up.
-fn intend_host(
-    alloc: Global,
-    opens: u16,
-    table: &Table,
-    text: &[u8],
-    errand: Errand,
-) -> Result<Intent, NoMemory>
-    requires few { opens ≤ 16384 }
-    requires fits { FitsErrand errand }
-    ensures value { IfOk result (λ i. intent_effect i ≡ at_host opens table.now text.now (errand_of errand)) }
-    ensures may { IfOk result (λ i. IsAskable opens i) }
-{
-    match number(text) {
-        Some(server) => Ok(intend_onward(opens, errand.at(server))),
-        None => intend_named(alloc, opens, table, text, errand),
-    }
 }
 
 /// The address of a host's name for a setting.
@@ -234,22 +174,7 @@ pub(crate) fn intend_file(
     ensures value { (x : Surroundings) → x.opens ≡ opens → x.table ≡ table.now → IfOk result (λ i. intent_effect i ≡ asked_effect asking.target x asking) }
     ensures may { IfOk result (λ i. IsAskable opens i) }
 {
-    if !is_of_tftp(&asking.target) {
-        return Ok(Intent::Over(Plain::NoScheme.cause()));
-    }
-    let host = copy(alloc, host_of(&asking.target))?;
-    intend_host(alloc, opens, table, host.as_slice(), Errand::File(asking))
-}
-
-/// Of all servers only those of TFTP are asked yet.
-fn is_of_tftp(target: &UriTarget) -> bool
-    ensures { result ≡ is_of_tftp target.now }
-{
-    match target {
-        UriTarget::Tftp { .. } => true,
-        UriTarget::Http { .. } => false,
-        UriTarget::Iscsi { .. } => false,
-    }
+    Ok(next_file(alloc, opens, table, asking)?.intent())
 }
 
 impl World {
@@ -283,13 +208,9 @@ impl World {
         match plan {
             CommandPlan::Dhcp(_) => intend_lease(alloc, opens, plan, &mut self.state),
             CommandPlan::Ping { host } => {
-                intend_host(
-                    alloc,
-                    opens,
-                    &self.state.table,
-                    host.as_slice(),
-                    Errand::Echo,
-                )
+                let table = &self.state.table;
+                let next = next_at_host(alloc, opens, table, host.as_slice(), Errand::Echo)?;
+                Ok(next.intent())
             }
             CommandPlan::Nslookup { name, host } => {
                 let table = &mut self.state.table;

@@ -6,6 +6,7 @@
 mod command;
 mod errand;
 mod first_script;
+mod following;
 mod handing;
 mod images;
 mod intent;
@@ -21,6 +22,7 @@ mod world;
 pub use command::{Deed, Done, MAX_OPENS, full_opens};
 pub use errand::{Errand, Onward, Wanted};
 pub use first_script::{Unread, read_script};
+pub use following::Following;
 pub use handing::Handing;
 pub use images::{Conclusion, ImageDeed, selected};
 pub use intent::Intent;

@@ -1,5 +1,8 @@
 //! What of a message isn't its body.
 
+ghost use Rattle.std.specs.Prelude.{◌≡◌, ◌==◌, if◌then◌else◌};
+
+use nb_ipv4::PROTO_TCP;
 use nb_terms::SendTo;
 use nb_wire::Ip4;
 
@@ -32,4 +35,12 @@ impl Envelope {
             own_port: message.own_port,
         }
     }
+}
+
+// How much of a message's body has to lie in its first part: a segment's header without options (RFC 9293).
+#[inline(always)]
+pub(crate) fn head_len(proto: u8) -> usize
+    ensures { result ≡ if proto == 6 then 20 else 0 }
+{
+    if proto == PROTO_TCP { 20 } else { 0 }
 }

@@ -1,9 +1,7 @@
 //! The link and network layer.
 
-ghost use Rattle.std.specs.Prelude.{◌≡◌, ◌==◌, if◌then◌else◌};
-
 use crate::address::{Addr, EVERYONE, is_own};
-use crate::envelope::Envelope;
+use crate::envelope::{Envelope, head_len};
 use crate::message::Message;
 use crate::neighbours::{Neighbour, Neighbours};
 use crate::ports::{Port, Ports};
@@ -72,6 +70,13 @@ impl Stack {
         ensures { result ≡ self.now.mac }
     {
         self.mac
+    }
+
+    /// The client's address, if it has one.
+    pub fn address(&self) -> Option<Addr>
+        ensures { result ≡ self.now.address }
+    {
+        self.address
     }
 
     /// Gives the client this address, or none.
@@ -485,11 +490,4 @@ impl Stack {
             to: packet.src,
         }
     }
-}
-
-// How much of a message's body has to lie in its first part.
-fn head_len(proto: u8) -> usize
-    ensures { result ≡ if proto == 6 then 20 else 0 }
-{
-    if proto == PROTO_TCP { 20 } else { 0 }
 }

@@ -1,20 +1,33 @@
 -- The records of what the graph tells its outside in a call, and whether a message among it found no route.
-use Rattle.std.specs.Prelude.{ℕ, ◌==◌, ◌||◌, Bool, false, not, List, [], ◌∷◌, Some, None, if◌then◌else◌}
+use Rattle.std.specs.Prelude.{ℕ, ◌==◌, ◌||◌, Bool, false, not, List, [], ◌∷◌, ◌++◌, take, drop, Option, Some, None, if◌then◌else◌}
 use Rattle.std.specs.List.{flat_map, list_any}
 use Rattle.nb_defs.specs.Records.{Out, graph, advanced}
 use Rattle.nb_ledger.specs.Flat.{Notice, event, message}
 use Rattle.nb_stack.specs.Client.{Client}
 use Rattle.nb_nodes.specs.Tags.{tag_number}
 use Rattle.nb_nodes.specs.declared.tag.Tag.TheVariants.{Advance, Try, Bytes, Address}
+use Rattle.nb_conns.specs.StreamTags.{stream_tag_number}
+use Rattle.nb_conns.specs.declared.stream_tag.StreamTag.TheVariants.{TwoSegments}
 use Rattle.nb_teller.specs.declared.speaker.Speaker.{Speaker}
 use Rattle.nb_teller.specs.Speakers.{datagram_of}
 use Rattle.nb_machine.specs.Sendings.{send_records, has_route}
 
--- a message, by its tag: what was found has no record; else it says that the place has grown, or is a datagram, which may be a try
+-- two segments, of which the first has so many bytes and isn't a try; the second is a try of this number, unless that is 0
+abbrev pub try_by : ℕ → Option ℕ
+try_by number = if number == 0 then None else Some number
+
+abbrev pub two_segments : Client → Speaker → ℕ → ℕ → List ℕ → List Out
+two_segments net who number count bytes =
+    send_records net who.number None (datagram_of who 0 (take count bytes))
+    ++ send_records net who.number (try_by number) (datagram_of who 0 (drop count bytes))
+
+-- a message, by its tag: what was found has no record; else it says that the place has grown, is two segments, or is a datagram or a
+-- segment, which may be a try
 abbrev pub message_records : Client → Speaker → ℕ → ℕ → ℕ → List ℕ → List Out
 message_records net who tag a b bytes =
     if (tag == tag_number Bytes) || (tag == tag_number Address) then []
     else if tag == tag_number Advance then advanced who.number a ∷ []
+    else if tag == stream_tag_number TwoSegments then two_segments net who a b bytes
     else send_records net who.number (if tag == tag_number Try then Some a else None) (datagram_of who b bytes)
 
 abbrev pub notice_records : Client → Speaker → Notice → List Out
@@ -29,6 +42,8 @@ abbrev pub message_lacks_route : Client → Speaker → ℕ → ℕ → List ℕ
 message_lacks_route net who tag b bytes =
     if (tag == tag_number Bytes) || (tag == tag_number Address) then false
     else if tag == tag_number Advance then false
+    else if tag == stream_tag_number TwoSegments
+    then not (has_route net (datagram_of who 0 (take b bytes))) || not (has_route net (datagram_of who 0 (drop b bytes)))
     else not (has_route net (datagram_of who b bytes))
 
 abbrev pub lacks_route : Client → Speaker → Notice → Bool

@@ -10,7 +10,7 @@ mod spelled;
 mod teller;
 
 pub use desk::{Desk, Room, lent};
-pub use put::{has_route, put_over, put_reply, put_result, put_step, put_told};
+pub use put::{put_over, put_reply, put_result, put_step, put_told};
 pub use speaker::{Carrier, Speaker, UDP};
 pub use spelled::Spelled;
 pub use teller::Teller;

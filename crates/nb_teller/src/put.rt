@@ -1,4 +1,4 @@
-ghost use Rattle.std.specs.Prelude.{◌≡◌, ◌≤◌, ℕ, List, [], ◌∷◌, length};
+ghost use Rattle.std.specs.Prelude.{◌≡◌, ◌≤◌, ℕ, List, [], ◌∷◌, length, MatchBool};
 ghost use Rattle.nb_defs.specs.Records.{out_texts, step, ended, result as result_record};
 ghost use Rattle.nb_record.specs.Logged.{Puts};
 ghost use Rattle.nb_ledger.specs.Flat.{Notice};
@@ -9,13 +9,17 @@ ghost use Rattle.nb_machine.specs.Sendings.{try_records, send_records, has_route
 ghost use Rattle.nb_machine.specs.CommandRecords.{reply_records};
 ghost use Rattle.nb_teller.specs.Put.{IsFrameOrNothing};
 ghost use Rattle.nb_teller.specs.Tellings.{told_records};
-ghost use Rattle.nb_teller.specs.Speakers.{carrier_number, datagram_of};
+ghost use Rattle.nb_teller.specs.Speakers.{carrier_number, datagram_of, least_body, CanCarry};
 
 use crate::desk::Room;
-use crate::speaker::Speaker;
+use crate::speaker::{Carrier, Speaker};
 use crate::spelled::Spelled;
+use nb_nodes::MAX_BODY;
 use nb_record::{Cause, Log, OutRec};
 use nb_stack::{Envelope, Fate, Stack};
+
+/// The bytes of a segment's header without options (RFC 9293, section 3.1).
+const SEGMENT_HEAD: usize = 20;
 
 /// Puts that the step of this record begins.
 #[inline(always)]
@@ -71,15 +75,27 @@ fn envelope(who: &Speaker, port: u16) -> Envelope
     }
 }
 
-/// Whether datagrams of this speaker find a route.
-pub fn has_route(net: &Stack, who: &Speaker, room: &mut Room) -> bool
-    ensures { (port : ℕ) (bytes : List ℕ) → result ≡ has_route net.now (datagram_of who.now port bytes) }
+/// How much of a message's body has to lie in its first part: a segment's header without options (RFC 9293).
+#[inline(always)]
+fn head_len(who: &Speaker) -> usize
+    ensures { result ≡ least_body who.now.carrier }
 {
-    let fate = net.send_parts(&envelope(who, 0), b"", b"", &mut room.out());
-    fate != Fate::NoRoute
+    match who.carrier {
+        Carrier::Udp => 0,
+        Carrier::Icmp => 0,
+        Carrier::Tcp => SEGMENT_HEAD,
+    }
 }
 
-/// Puts a datagram's frame, or the ARP request for its next hop, after its try. Returns whether it was put: nothing is
+/// Whether a message of this speaker may have this body.
+#[inline(always)]
+pub(crate) fn can_carry(who: &Speaker, body: &[u8]) -> bool
+    ensures { MatchBool result (CanCarry who.now body.now) (CanCarry who.now body.now → ⊥) }
+{
+    head_len(who) <= body.len() && body.len() <= MAX_BODY
+}
+
+/// Puts a message's frame, or the ARP request for its next hop, after its try. Returns whether it was put: nothing is
 /// where it finds no route.
 #[inline(always)]
 pub(crate) fn put_datagram(
@@ -91,12 +107,13 @@ pub(crate) fn put_datagram(
     room: &mut Room,
     log: &mut Log,
 ) -> bool
-    requires short { length body.now ≤ 1480 }
+    requires can { CanCarry who.now body.now }
     ensures put { result ≡ has_route net.now (datagram_of who.now port body.now) }
     ensures records { Puts log.old log.new (out_texts (send_records net.now who.now.number tried (datagram_of who.now port body.now))) }
 {
     let mut out = room.out();
-    if let Fate::NoRoute = net.send_parts(&envelope(who, port), b"", body, &mut out) {
+    let (first, second) = body.split_at(head_len(who));
+    if let Fate::NoRoute = net.send_parts(&envelope(who, port), first, second, &mut out) {
         return false;
     }
     put_try(who.number, tried, log);

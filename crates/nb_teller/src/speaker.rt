@@ -13,6 +13,8 @@ pub enum Carrier {
     Udp,
     /// ICMP (RFC 792).
     Icmp,
+    /// TCP (RFC 9293).
+    Tcp,
 }
 
 /// Whose messages leave.
@@ -57,6 +59,7 @@ impl Carrier {
         match self {
             Carrier::Udp => UDP,
             Carrier::Icmp => 1,
+            Carrier::Tcp => 6,
         }
     }
 }

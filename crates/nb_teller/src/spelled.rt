@@ -5,7 +5,7 @@ ghost use Rattle.nb_ledger.specs.Flat as notice;
 ghost use Rattle.nb_opens.specs.Notices.{close_of, or_else};
 ghost use Rattle.nb_machine.specs.Sendings.{send_records, has_route};
 ghost use Rattle.nb_teller.specs.Spelling.{first_there, FindsNothing, HasSpelled, IsBlank, SpellsMore};
-ghost use Rattle.nb_teller.specs.Speakers.{datagram_of};
+ghost use Rattle.nb_teller.specs.Speakers.{datagram_of, CanCarry};
 
 use crate::desk::Room;
 use crate::put::put_datagram;
@@ -158,7 +158,7 @@ impl Spelled {
         body: &[u8],
         room: &mut Room,
     )
-        requires short { length body.now ≤ 1480 }
+        requires can { CanCarry who.now body.now }
         ensures closed { self.new.closed ≡ self.old.closed }
         ensures found { FindsNothing self.old self.new }
         ensures stuck { self.new.is_stuck

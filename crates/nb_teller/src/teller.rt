@@ -1,18 +1,22 @@
-ghost use Rattle.std.specs.Prelude.{◌≡◌, ◌==◌, ◌++◌, [], ℕ, List, false, None, Some, IfOk, OnOk};
+ghost use Rattle.std.specs.Prelude.{◌≡◌, ◌==◌, ◌++◌, [], ℕ, List, false, not, None, Some, IfOk, OnOk};
 ghost use Rattle.nb_nodes.specs.Tags.{tag_number};
 ghost use Rattle.nb_nodes.specs.declared.tag.Tag.TheVariants as tag;
 ghost use Rattle.nb_stack.specs.Client.{Client};
 ghost use Rattle.nb_teller.specs.declared.speaker.Speaker.{Speaker as TheSpeaker};
-ghost use Rattle.nb_machine.specs.Sendings.{send_records};
+ghost use Rattle.nb_machine.specs.Sendings.{has_route, send_records};
 ghost use Rattle.nb_teller.specs.Spelling.{heard_by, IsBlank, IsWholeSpelling, SpellsMessage};
-ghost use Rattle.nb_teller.specs.Tellings.{message_records};
+ghost use Rattle.nb_teller.specs.Tellings.{message_lacks_route, message_records, try_by};
+ghost use Rattle.nb_conns.specs.StreamTags.{stream_tag_number};
+ghost use Rattle.nb_conns.specs.declared.stream_tag.StreamTag.TheVariants as stream_tag;
 ghost use Rattle.nb_teller.specs.Speakers.{datagram_of};
 
 use crate::desk::Room;
+use crate::put::can_carry;
 use crate::speaker::Speaker;
 use crate::spelled::Spelled;
+use nb_conns::StreamTag;
 use nb_graph::{Msg, Outside, Port};
-use nb_nodes::{MAX_BODY, Tag};
+use nb_nodes::Tag;
 use nb_record::{Event, NoMemory};
 use nb_stack::Stack;
 use nb_wire::Ip4;
@@ -103,12 +107,14 @@ fn send_datagram(
 )
     requires sends { (b : ℕ) (bytes : List ℕ) → message_records net.now who.now msg.now.tag msg.now.a b bytes
         ≡ send_records net.now who.now.number tried (datagram_of who.now b bytes) }
+    requires lacks { (b : ℕ) (bytes : List ℕ) → message_lacks_route net.now who.now msg.now.tag b bytes
+        ≡ not (has_route net.now (datagram_of who.now b bytes)) }
     requires tag { ((msg.now.tag == tag_number tag.Bytes) ≡ false) × ((msg.now.tag == tag_number tag.Address) ≡ false) }
     ensures { SpellsMessage net.now who.now told.old told.new msg.now.tag msg.now.a msg.now.b
         (msg.now.first.now ++ msg.now.second.now) }
 {
     match u16::try_from(msg.b) {
-        Ok(port) if msg.first.len() <= MAX_BODY && msg.second.is_empty() => {
+        Ok(port) if can_carry(who, msg.first) && msg.second.is_empty() => {
             told.put_datagram(net, who, tried, port, msg.first, room)
         }
         _ => told.lose(),
@@ -119,6 +125,8 @@ fn send_datagram(
 fn send_try(told: &mut Spelled, net: &Stack, who: &Speaker, room: &mut Room, msg: &Msg<'_>)
     requires sends { (b : ℕ) (bytes : List ℕ) → message_records net.now who.now msg.now.tag msg.now.a b bytes
         ≡ send_records net.now who.now.number (Some msg.now.a) (datagram_of who.now b bytes) }
+    requires lacks { (b : ℕ) (bytes : List ℕ) → message_lacks_route net.now who.now msg.now.tag b bytes
+        ≡ not (has_route net.now (datagram_of who.now b bytes)) }
     requires tag { ((msg.now.tag == tag_number tag.Bytes) ≡ false) × ((msg.now.tag == tag_number tag.Address) ≡ false) }
     ensures { SpellsMessage net.now who.now told.old told.new msg.now.tag msg.now.a msg.now.b
         (msg.now.first.now ++ msg.now.second.now) }
@@ -127,6 +135,30 @@ fn send_try(told: &mut Spelled, net: &Stack, who: &Speaker, room: &mut Room, msg
         Ok(number) => send_datagram(told, net, who, room, Some(number), msg),
         Err(_) => told.lose(),
     }
+}
+
+/// Two segments leave, of which the second may be a try.
+#[inline(never)]
+fn send_two(told: &mut Spelled, net: &Stack, who: &Speaker, room: &mut Room, msg: &Msg<'_>)
+    requires tag { msg.now.tag ≡ stream_tag_number stream_tag.TwoSegments }
+    ensures { SpellsMessage net.now who.now told.old told.new msg.now.tag msg.now.a msg.now.b
+        (msg.now.first.now ++ msg.now.second.now) }
+{
+    let are_segments = can_carry(who, msg.first) && can_carry(who, msg.second);
+    match u8::try_from(msg.a) {
+        Ok(number) if are_segments && msg.first.len() == msg.b as usize => {
+            told.put_datagram(net, who, None, 0, msg.first, room);
+            told.put_datagram(net, who, try_of(number), 0, msg.second, room);
+        }
+        _ => told.lose(),
+    }
+}
+
+/// Of which number it is a try; none where that is 0.
+fn try_of(number: u8) -> Option<u8>
+    ensures { result ≡ try_by number }
+{
+    if number == 0 { None } else { Some(number) }
 }
 
 /// Bytes are delivered.
@@ -158,6 +190,9 @@ impl<'a> Outside for Teller<'a> {
             Ok(Tag::Try) => send_try(&mut self.told, net, who, self.room, msg),
             Ok(Tag::Bytes) => send_bytes(&mut self.told, msg),
             Ok(Tag::Address) => self.told.put_address(Ip4(msg.a)),
+            Err(_) if msg.tag == u8::from(StreamTag::TwoSegments) => {
+                send_two(&mut self.told, net, who, self.room, msg)
+            }
             _ => self.told.lose(),
         }
     }

@@ -309,6 +309,7 @@ fn no_33rd_image(rt: HostRuntime) -> Result<(), Fail> {
         name: Text::from_vec(Vec::from_slice(alloc, b"b")?),
         args: Text::from_vec(Vec::new(alloc)),
         after: After::Run { replace: false },
+        moves: 0,
     };
     let refused = arrive(
         alloc,

@@ -1,12 +1,12 @@
 -- Within an entry only what an open puts in a call stands beside the records of the graph.
-use Rattle.std.proofs.Common.{◌≡◌, ℕ, List, [], ◌∷◌, ◌++◌, refl, sym, ◌∙◌, ap, subst, append_assoc, append-nil}
+use Rattle.std.proofs.Common.{◌≡◌, ℕ, Bool, true, false, List, [], ◌∷◌, ◌++◌, refl, sym, ◌∙◌, ap, subst, append_assoc, append-nil}
 use Rattle.std.specs.List.{AllByRecursion}
 use Rattle.nb_defs.specs.Records.{Out, step, sent, text, command, result, script, opened, tried, advanced, ended, graph, part, done}
 use Rattle.nb_ledger.specs.Flat.{flat}
 use Rattle.nb_ledger.specs.declared.event.GraphEvent.{GraphEvent}
 use Rattle.nb_ledger.specs.GraphRun.{GraphState}
 use Rattle.nb_traced.specs.Holdings.{Holdings, lowest_of, serials}
-use Rattle.nb_traced.specs.Pieces.{IsApart, IsCallOn, IsOfOpen, event_records}
+use Rattle.nb_traced.specs.Pieces.{IsApart, IsCallOn, IsOfOpen, StandOnEntries, event_records, is_entry_of, none_more, happens_then, puts_then}
 use Rattle.nb_traced.specs.Outputs.{Arrived, Traced, own_serials, at_first, apart, replies, commands, makes, opens, calls, ends, ends_with_all, gives_up}
 use Rattle.nb_traced.specs.LowestObjects.{GraphSoFar, graph_so_far, graph_by}
 use Rattle.nb_traced.specs.Entries.{IsOutside}
@@ -60,14 +60,13 @@ put_aside k before (script what depth cause) h n = absurd h
 put_aside k before (part kind index offset bytes) h n = absurd h
 put_aside k before (done status) h n = absurd h
 
-puts_each : (k : ℕ) (before outs : List Out) → AllByRecursion (IsOfOpen k) outs → EachAside before outs
-puts_each k before [] h = tt
-puts_each k before (o ∷ outs) h = (put_aside k before o h.0, puts_each k (before ++ o ∷ []) outs h.1)
+on_entries_each : (k x : ℕ) (entered : Bool) (before outs : List Out) (es : List GraphEvent) → StandOnEntries k x entered outs es → EachAside before outs
+on_entries_each k x entered before _ _ (none_more _) = tt
+on_entries_each k x entered before _ _ (happens_then _ e outs es h) = (λ h. absurd h, on_entries_each k x (is_entry_of x e) (before ++ graph (flat e) ∷ []) outs es h)
+on_entries_each k x entered before _ _ (puts_then _ o outs es is own h) = (put_aside k before o own, on_entries_each k x true (before ++ o ∷ []) outs es h)
 
 call_aside : {before : List Out} (k : ℕ) (ids : List ℕ) (x : ℕ) (added : List Out) (s t : GraphState) → {by : _} → IsCallOn k ids x by added s t → AreAsideAfter before added
-call_aside {before = before} k ids x added s t c =
-    subst (AreAsideAfter before) (sym c.all)
-    (both_aside (events_aside c.front) (both_aside (record { each = puts_each k (before ++ event_records c.front) c.puts c.of_open }) (events_aside c.back)))
+call_aside {before = before} k ids x added s t c = record { each = on_entries_each k x false before added c.events c.stand }
 
 -- records that say nothing of opens
 apart_runs : (g : GraphSoFar) (o : Out) → IsApart o → (graph_by g o).running ≡ g.running

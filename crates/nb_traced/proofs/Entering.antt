@@ -13,15 +13,16 @@ use Rattle.nb_ledger.specs.GraphRun.{GraphState}
 use Rattle.nb_frames.specs.Frames.{is_one_of}
 use Rattle.nb_frames.specs.Within.{IsEventWithin}
 use Rattle.nb_traced.specs.Holdings.{Holdings, lowest_of, serials}
-use Rattle.nb_traced.specs.Pieces.{AreInner, BeginsBy, IsCallOn, IsInnerEvent, IsMaking, IsOutsideWay, event_records}
+use Rattle.nb_traced.specs.Pieces.{AreInner, BeginsBy, EntersFirst, IsCallOn, IsInnerEvent, IsMaking, IsOutsideWay, StandOnEntries, event_records, is_entry_of, none_more, happens_then, puts_then}
 use Rattle.nb_traced.specs.Outputs.{Arrived, Traced, arrived, last_step, own_serials, at_first, apart, replies, commands, makes, opens, calls, ends, ends_with_all, gives_up}
 use Rattle.nb_traced.specs.LowestObjects.{GraphSoFar, graph_so_far, graph_by, graph_moves, is_it, no_graph}
 use Rattle.nb_traced.specs.Entries.{EntryArrival, came_to, entries, entries_from, entry_at, entry_in}
-use Rattle.nb_traced.proofs.EventLemmas.{all_each, all_first, all_last, all_map}
+use Rattle.nb_traced.proofs.EventLemmas.{all_each, all_map}
+use Rattle.nb_traced.proofs.OnEntries.{BeginsWith, begins_with}
 use Rattle.nb_traced.proofs.Serials.{not_one, one_in_either}
-use Rattle.nb_traced.proofs.RecordLemmas.{aparts_aside, puts_aside}
+use Rattle.nb_traced.proofs.RecordLemmas.{aparts_aside, put_aside}
 use Rattle.nb_traced.proofs.Seeing.{IsNotOfGraph, lowest_stays, number_is}
-use Rattle.nb_traced.proofs.Calling.{asides_not_graph, asides_unopened, events_unopened}
+use Rattle.nb_traced.proofs.Calling.{asides_not_graph, not_graph_aside, unopened_aside}
 use Rattle.nb_traced.proofs.Rules.{beside, kept, none_some, some_same, waiting_free}
 
 pub entries_append : (k : ℕ) (g : GraphSoFar) (xs ys : List Out) → entries_from k g (xs ++ ys) ≡ entries_from k g xs ++ entries_from k (fold graph_by g xs) ys
@@ -136,54 +137,52 @@ came_this k n outs w same = ap (λ b. cond b (record { number = last_step outs; 
 
 -- A CALL
 
+-- no event of these is an entry of that object from outside
+inners_on_entries : (k n x : ℕ) (l : Option ℕ) (g : GraphSoFar) (entered : Bool) (outs : List Out) (es : List GraphEvent) → g.lowest k ≡ l → StandOnEntries n x entered outs es → AllByRecursion (IsInnerOf l) es →
+    entries_from k g outs ≡ []
+unfolding entries_from
+inners_on_entries k n x l g entered _ _ is (none_more _) h = refl
+inners_on_entries k n x l g entered _ _ is (happens_then _ e outs es stand) h =
+    ap (λ z. z ++ entries_from k (graph_moves g (flat e)) outs) (inner_none k g e (subst (λ z. IsInnerOf z e) (sym is) h.0))
+    ∙ inners_on_entries k n x l (graph_moves g (flat e)) (is_entry_of x e) outs es (lowest_stays k g (graph (flat e) ∷ []) (tt, tt) ∙ is) stand h.1
+inners_on_entries k n x l g entered _ _ is (puts_then _ o outs es true_is own stand) h =
+    ap (λ z. z ++ entries_from k (graph_by g o) outs) (entry_other k g o (not_graph_aside o (put_aside n o own)))
+    ∙ inners_on_entries k n x l (graph_by g o) true outs es (lowest_stays k g (o ∷ []) (unopened_aside k o (put_aside n o own), tt) ∙ is) stand h
+
 module _ (k n x : ℕ) (ids : List ℕ) (by : Option Way) (outs added : List Out) (s t : GraphState) (c : IsCallOn n ids x by added s t) where
   abbrev the_graph : GraphSoFar
   the_graph = graph_so_far outs
 
-  abbrev at_puts : GraphSoFar
-  at_puts = fold graph_by the_graph (event_records c.front)
-
-  abbrev after_puts : GraphSoFar
-  after_puts = fold graph_by at_puts c.puts
-
-  split : entries_from k the_graph added ≡ entries_from k the_graph (event_records c.front) ++ entries_from k after_puts (event_records c.back)
-  split =
-      ap (entries_from k the_graph) c.all ∙ entries_append k the_graph (event_records c.front) (c.puts ++ event_records c.back)
-      ∙ ap (λ z. entries_from k the_graph (event_records c.front) ++ z) (entries_append k at_puts c.puts (event_records c.back)
-      ∙ ap (λ z. z ++ entries_from k after_puts (event_records c.back)) (others_none k at_puts c.puts (asides_not_graph c.puts (puts_aside n c.puts c.of_open))))
-
-  lowest_same : after_puts.lowest k ≡ the_graph.lowest k
-  lowest_same = lowest_stays k at_puts c.puts (asides_unopened k c.puts (puts_aside n c.puts c.of_open)) ∙ lowest_stays k the_graph (event_records c.front) (events_unopened k c.front)
-
-  back_none : (l : Option ℕ) → the_graph.lowest k ≡ l → AllByRecursion (IsInnerOf l) c.back → entries_from k after_puts (event_records c.back) ≡ []
-  back_none l is h = inners_none k l after_puts c.back (lowest_same ∙ is) h
-
   -- another open's
-  others_enter : (l : Option ℕ) → the_graph.lowest k ≡ l → AllByRecursion (IsInnerOf l) (c.front ++ c.back) → entries_from k the_graph added ≡ []
-  others_enter l is h =
-      split ∙ ap (λ z. z ++ entries_from k after_puts (event_records c.back)) (inners_none k l the_graph c.front is (all_first (IsInnerOf l) c.front c.back h))
-      ∙ back_none l is (all_last (IsInnerOf l) c.front c.back h)
+  others_enter : (l : Option ℕ) → the_graph.lowest k ≡ l → AllByRecursion (IsInnerOf l) c.events → entries_from k the_graph added ≡ []
+  others_enter l is h = inners_on_entries k n x l the_graph false added c.events is c.stand h
 
   -- its own
-  front_enters : (w : Option Way) → BeginsBy x w c.front → the_graph.lowest k ≡ Some x → n ≡ k → entries_from k the_graph (event_records c.front) ≡ came_to k (arrived outs n w)
-  front_enters None begins is same = inners_none k (Some x) the_graph c.front is begins
-  front_enters (Some w) (p, front, object, out) is same =
-      ap (λ z. entries_from k the_graph (event_records z)) front ∙ entered_once k x the_graph p w is object out
+  own_first : (w : Way) → EntersFirst x w c.events → the_graph.lowest k ≡ Some x → n ≡ k → entries_from k the_graph added ≡ came_to k (arrived outs n (Some w))
+  own_first w f is same =
+      let b : BeginsWith n x (Entered f.port w) f.rest added = begins_with n x added c.events (Entered f.port w) f.rest c.stand f.first in
+      let this : Out = graph (flat (Entered f.port w)) in
+      ap (entries_from k the_graph) b.first ∙ entries_append k the_graph (this ∷ []) b.behind
+      ∙ ap (λ z. entries_from k the_graph (this ∷ []) ++ z) (inners_on_entries k n x (Some x) (fold graph_by the_graph (this ∷ [])) (is_entry_of x (Entered f.port w)) b.behind f.rest
+      (lowest_stays k the_graph (this ∷ []) (tt, tt) ∙ is) b.stand f.inner)
+      ∙ append-nil (entries_from k the_graph (this ∷ [])) ∙ entered_once k x the_graph f.port w is f.object f.outside
       ∙ ap (λ m. record { number = m; way = way_number w } ∷ []) (number_is outs) ∙ sym (came_this k n outs w same)
 
+  own_by : (w : Option Way) → BeginsBy x w c.events → the_graph.lowest k ≡ Some x → n ≡ k → entries_from k the_graph added ≡ came_to k (arrived outs n w)
+  own_by None begins is same = others_enter (Some x) is begins
+  own_by (Some w) begins is same = own_first w begins is same
+
   own_enters : the_graph.lowest k ≡ Some x → n ≡ k → entries_from k the_graph added ≡ came_to k (arrived outs n by)
-  own_enters is same =
-      split ∙ ap (λ z. entries_from k the_graph (event_records c.front) ++ z) (back_none (Some x) is c.inner) ∙ append-nil (entries_from k the_graph (event_records c.front))
-      ∙ front_enters by c.begins is same
+  own_enters is same = own_by by c.begins is same
 
   -- its events are none of another open's lowest object
   inner_of : (owner : ℕ → Option ℕ) (l : Option ℕ) → the_graph.lowest k ≡ l → ((j y : ℕ) → the_graph.lowest j ≡ Some y → owner y ≡ Some j) → ((y : ℕ) → is_one_of ids y ≡ true → (owner y ≡ Some n) ⊎ (owner y ≡ None)) →
-      (n ≡ k → ⊥) → AllByRecursion (IsInnerOf l) (c.front ++ c.back)
-  inner_of owner None is lowests whose other = all_each (IsInnerOf None) (c.front ++ c.back) (λ e. tt)
+      (n ≡ k → ⊥) → AllByRecursion (IsInnerOf l) c.events
+  inner_of owner None is lowests whose other = all_each (IsInnerOf None) c.events (λ e. tt)
   inner_of owner (Some y) is lowests whose other =
       let theirs : owner y ≡ Some k = lowests k y is in
       let not_own : is_one_of ids y ≡ false = not_one ids y (λ e. elim (whose y e) [ inl f ↦ other (some_same n k (sym f ∙ theirs)) | inr f ↦ none_some (owner y) k f theirs ]) in
-      all_map (IsEventWithin (is_one_of ids)) (IsInnerEvent y) (c.front ++ c.back) (λ e w. within_inner (is_one_of ids) y e not_own w) c.within
+      all_map (IsEventWithin (is_one_of ids)) (IsInnerEvent y) c.events (λ e w. within_inner (is_one_of ids) y e not_own w) c.within
 
   call_enters : (owner : ℕ → Option ℕ) → ((j y : ℕ) → the_graph.lowest j ≡ Some y → owner y ≡ Some j) → the_graph.lowest n ≡ Some x → ((y : ℕ) → is_one_of ids y ≡ true → (owner y ≡ Some n) ⊎ (owner y ≡ None)) →
       entries_from k the_graph added ≡ came_to k (arrived outs n by)

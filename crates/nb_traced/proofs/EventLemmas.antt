@@ -63,17 +63,10 @@ aparts_none (o ∷ outs) h = ap (λ z. z ++ events_in outs) (apart_none o h.0) �
 pub spells_apart : (outs : List Out) → AllByRecursion IsApart outs → Spells [] outs
 spells_apart outs h = record { are = sym (aparts_none outs h) }
 
-put_none : (k : ℕ) (o : Out) → IsOfOpen k o → event_in o ≡ []
+pub put_none : (k : ℕ) (o : Out) → IsOfOpen k o → event_in o ≡ []
 put_none k (graph happens) h = absurd h
 put_none k (step number) h = refl
 put_none k _ h = refl
-
-puts_none : (k : ℕ) (outs : List Out) → AllByRecursion (IsOfOpen k) outs → events_in outs ≡ []
-puts_none k [] h = refl
-puts_none k (o ∷ outs) h = ap (λ z. z ++ events_in outs) (put_none k o h.0) ∙ puts_none k outs h.1
-
-pub spells_puts : (k : ℕ) (outs : List Out) → AllByRecursion (IsOfOpen k) outs → Spells [] outs
-spells_puts k outs h = record { are = sym (puts_none k outs h) }
 
 pub spells_ended : (k : ℕ) (cause : _) → Spells [] (ended k cause ∷ [])
 spells_ended k cause = record { are = refl }

@@ -1,5 +1,5 @@
 -- Where the records of an output lead the graph.
-use Rattle.std.proofs.Common.{ℕ, List, [], ◌∷◌, ◌++◌, map, Option, refl, sym, ◌∙◌, ap, subst, append_assoc}
+use Rattle.std.proofs.Common.{ℕ, false, List, [], ◌∷◌, ◌++◌, map, Option, refl, sym, ◌∙◌, ap, subst, append_assoc}
 use Rattle.std.proofs.lemmas.List.{map-append}
 use Rattle.nb_terms.specs.declared.cause.Cause.{Cause}
 use Rattle.nb_defs.specs.Records.{Out, step, sent, command, opened, ended}
@@ -12,7 +12,8 @@ use Rattle.nb_traced.specs.Holdings.{Holdings, no_state}
 use Rattle.nb_traced.specs.Pieces.{IsCallOn, event_records}
 use Rattle.nb_traced.specs.Outputs.{Arrived, Traced, at_first, apart, replies, commands, makes, opens, calls, ends, ends_with_all, gives_up}
 use Rattle.nb_traced.specs.Runs.{LeadsBy, HasLedTo, events_in}
-use Rattle.nb_traced.proofs.EventLemmas.{Spells, spells_events, spells_append, spells_apart, spells_puts, events_append}
+use Rattle.nb_traced.proofs.EventLemmas.{Spells, spells_events, spells_apart, events_append}
+use Rattle.nb_traced.proofs.OnEntries.{spells_on_entries}
 
 pub leads_none : (s : GraphState) → LeadsBy s [] s
 leads_none s = record { events = []; are = refl; run = refl }
@@ -27,13 +28,8 @@ leads_then s t u xs ys a b = record {
 pub leads_by : (s t : GraphState) (es : List GraphEvent) (outs : List Out) → Spells es outs → GraphRunOf s es t → LeadsBy s outs t
 leads_by s t es outs spells run = record { events = es; are = spells.are; run = run }
 
--- the events of a call
-pub spells_call : (k x : ℕ) (ids : List ℕ) (by : Option Way) (added : List Out) (s t : GraphState) → (c : IsCallOn k ids x by added s t) → Spells (c.front ++ c.back) added
-spells_call k x ids by added s t c =
-    subst (λ z. Spells (c.front ++ c.back) z) (sym c.all) (spells_append (spells_events c.front) (spells_append (spells_puts k c.puts c.of_open) (spells_events c.back)))
-
 pub call_leads : (k x : ℕ) (ids : List ℕ) (by : Option Way) (added : List Out) (s t : GraphState) → IsCallOn k ids x by added s t → LeadsBy s added t
-call_leads k x ids by added s t c = leads_by s t (c.front ++ c.back) added (spells_call k x ids by added s t c) c.run
+call_leads k x ids by added s t c = leads_by s t c.events added (spells_on_entries k x false added c.events c.stand) c.run
 
 pub ended_leads : (k : ℕ) (cause : Cause) (s : GraphState) → LeadsBy s (ended k cause ∷ []) s
 ended_leads k cause s = record { events = []; are = refl; run = refl }

@@ -1,4 +1,5 @@
 pub mod EventLemmas
+pub mod OnEntries
 pub mod Leading
 pub mod Serials
 pub mod StateLemmas

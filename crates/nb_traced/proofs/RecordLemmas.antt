@@ -65,7 +65,7 @@ pub aparts_no_command : (outs : List Out) → AllByRecursion IsApart outs → Ha
 aparts_no_command [] h = tt
 aparts_no_command (o ∷ outs) h = (apart_no_command o h.0, aparts_no_command outs h.1)
 
-put_aside : (k : ℕ) (o : Out) → IsOfOpen k o → IsAside o
+pub put_aside : (k : ℕ) (o : Out) → IsOfOpen k o → IsAside o
 put_aside k (sent bytes) h = tt
 put_aside k (tried number count) h = tt
 put_aside k (advanced number place) h = tt
@@ -80,18 +80,10 @@ put_aside k (script what depth cause) h = absurd h
 put_aside k (part kind index offset bytes) h = absurd h
 put_aside k (done status) h = absurd h
 
-pub puts_aside : (k : ℕ) (outs : List Out) → AllByRecursion (IsOfOpen k) outs → AreAside outs
-puts_aside k [] h = tt
-puts_aside k (o ∷ outs) h = (put_aside k o h.0, puts_aside k outs h.1)
-
-put_no_command : (k : ℕ) (o : Out) → IsOfOpen k o → IsCommand o → ⊥
+pub put_no_command : (k : ℕ) (o : Out) → IsOfOpen k o → IsCommand o → ⊥
 put_no_command k (command depth line place expanded words) h c = h
 put_no_command k (step number) h c = c
 put_no_command k _ h c = c
-
-pub puts_no_command : (k : ℕ) (outs : List Out) → AllByRecursion (IsOfOpen k) outs → HaveNoCommand outs
-puts_no_command k [] h = tt
-puts_no_command k (o ∷ outs) h = (put_no_command k o h.0, puts_no_command k outs h.1)
 
 pub events_no_command : (es : List GraphEvent) → HaveNoCommand (event_records es)
 events_no_command [] = tt
@@ -125,7 +117,7 @@ close_none_then ids xs ys none = close_append ids xs ys ∙ ap (λ z. first_or z
 pub close_in_last : (ids : List ℕ) (xs ys : List Out) (c : Option Cause) → first_close_of ids xs ≡ None → first_close_of ids ys ≡ c → first_close_of ids (xs ++ ys) ≡ c
 close_in_last ids xs ys c none is = close_none_then ids xs ys none ∙ is
 
-close_aside : (ids : List ℕ) (o : Out) → IsAside o → close_cause ids o ≡ None
+pub close_aside : (ids : List ℕ) (o : Out) → IsAside o → close_cause ids o ≡ None
 close_aside ids (graph happens) h = absurd h
 close_aside ids (step number) h = refl
 close_aside ids _ h = refl
@@ -135,7 +127,7 @@ closes_aside ids [] h = refl
 closes_aside ids (o ∷ outs) h = ap (λ z. first_or z (first_close_of ids outs)) (close_aside ids o h.0) ∙ closes_aside ids outs h.1
 
 -- events of others
-close_other : (ids : List ℕ) (own : ℕ → Bool) (e : GraphEvent) → IsEventWithin own e → ((x : ℕ) → own x ≡ true → is_one_of ids x ≡ false) → close_cause ids (graph (flat e)) ≡ None
+pub close_other : (ids : List ℕ) (own : ℕ → Bool) (e : GraphEvent) → IsEventWithin own e → ((x : ℕ) → own x ≡ true → is_one_of ids x ≡ false) → close_cause ids (graph (flat e)) ≡ None
 close_other ids own (Made x kind) w apart = refl
 close_other ids own (Held x) w apart = refl
 close_other ids own (LetGo x) w apart = refl
@@ -169,7 +161,7 @@ closes_making ids (e ∷ es) w = ap (λ z. first_or z (first_close_of ids (event
 
 -- ENDS
 
-no_end_aside : (k : ℕ) (o : Out) → IsAside o → IsNoEnd k o
+pub no_end_aside : (k : ℕ) (o : Out) → IsAside o → IsNoEnd k o
 no_end_aside k (ended number cause) h = absurd h
 no_end_aside k (step number) h = tt
 no_end_aside k _ h = tt

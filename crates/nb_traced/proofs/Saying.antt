@@ -1,31 +1,29 @@
 -- What each record of a traced output says of those before it.
-use Rattle.std.proofs.Common.{◌≡◌, ◌⊎◌, inl, inr, ℕ, true, List, [], ◌∷◌, ◌++◌, Option, Some, None, refl, sym, ◌∙◌, ap, subst, append_assoc, append-nil}
+use Rattle.std.proofs.Common.{◌≡◌, inl, inr, ℕ, Bool, true, false, List, [], ◌∷◌, ◌++◌, Option, Some, None, refl, sym, ◌∙◌, ap, subst, append_assoc, append-nil}
 use Rattle.std.specs.List.{AllByRecursion}
-use Rattle.std.proofs.lemmas.Bool.{false≢true}
+use Rattle.std.proofs.lemmas.Bool.{eqb-true, false≢true}
 use Rattle.nb_terms.specs.declared.cause.Cause.{Cause}
 use Rattle.nb_defs.specs.Records.{Out, step, sent, text, command, result, script, opened, tried, advanced, ended, graph, part, done}
 use Rattle.nb_ledger.specs.Flat.{flat}
-use Rattle.nb_ledger.specs.declared.port.Port.{Port}
 use Rattle.nb_ledger.specs.declared.event.Way.{Way}
 use Rattle.nb_ledger.specs.declared.event.GraphEvent.{GraphEvent}
-use Rattle.nb_ledger.specs.declared.event.GraphEvent.TheVariants.{Entered}
+use Rattle.nb_ledger.specs.declared.event.GraphEvent.TheVariants.{Made, Held, LetGo, Plugged, Entered, Left, Dropped, Closed, Unplugged, Freed}
 use Rattle.nb_ledger.specs.GraphRun.{GraphState}
 use Rattle.nb_frames.specs.Frames.{is_one_of}
 use Rattle.nb_traced.specs.Holdings.{Holdings, Kin, GraphObject, lowest_of, serials}
-use Rattle.nb_traced.specs.Pieces.{AreGone, EndsEntering, IsApart, IsCallOn, IsOfOpen, event_records, first_close_of}
+use Rattle.nb_traced.specs.Pieces.{AreGone, IsApart, IsCallOn, IsOfOpen, StandOnEntries, event_records, first_close_of, is_entry_of, none_more, happens_then, puts_then}
 use Rattle.nb_traced.specs.Outputs.{Arrived, Traced, own_serials, at_first, apart, replies, commands, makes, opens, calls, ends, ends_with_all, gives_up}
 use Rattle.nb_traced.specs.Runs.{HasLedTo, LeadsBy}
-use Rattle.nb_traced.specs.Openings.{HasPieces, EndsAs, WasFreed, IsNoEnd, HasNoEnd, IsOfLiving, LeavesNone, IsNumberedBelow}
+use Rattle.nb_traced.specs.Openings.{HasOpened, HasPieces, EndsAs, WasFreed, IsNoEnd, HasNoEnd, IsOfLiving, LeavesNone, IsNumberedBelow}
 use Rattle.nb_traced.specs.LowestObjects.{GraphSoFar, graph_so_far, graph_by, first_in}
 use Rattle.nb_traced.specs.Places.{FrameStands, IsWithinOpen, by_open, by_step}
-use Rattle.nb_traced.proofs.EventLemmas.{event_records_append}
 use Rattle.nb_traced.proofs.Serials.{at_serial, each_serial, one_in_first}
 use Rattle.nb_traced.proofs.StateLemmas.{runners}
-use Rattle.nb_traced.proofs.RecordLemmas.{close_in_last, goes_on_then, was_freed}
+use Rattle.nb_traced.proofs.RecordLemmas.{close_in_last, goes_on_then, no_end_aside, put_aside, was_freed}
 use Rattle.nb_traced.proofs.Leading.{has_led, leads_then}
-use Rattle.nb_traced.proofs.Seeing.{so_far_append}
+use Rattle.nb_traced.proofs.Seeing.{IsNoOpening, so_far_append}
 use Rattle.nb_traced.proofs.Keeping.{Kept, Lives, HeldBy, lowest_then, opened_then, all_named_raised, Called}
-use Rattle.nb_traced.proofs.Calling.{called, events_unopened}
+use Rattle.nb_traced.proofs.Calling.{called, unopened_aside}
 use Rattle.nb_traced.proofs.Rules.{beside, has_pieces, kept, newest_is}
 
 -- an OPEN has its objects, of which the lowest is the newest of all that live, and its number is above all before it
@@ -117,25 +115,6 @@ put_same k g (script what depth cause) h = absurd h
 put_same k g (part kind index offset bytes) h = absurd h
 put_same k g (done status) h = absurd h
 
-put_no_end : (k : ℕ) (o : Out) → IsOfOpen k o → IsNoEnd k o
-put_no_end k (sent bytes) h = tt
-put_no_end k (tried number count) h = tt
-put_no_end k (advanced number place) h = tt
-put_no_end k (graph happens) h = absurd h
-put_no_end k (opened number kind server port own target) h = absurd h
-put_no_end k (ended number cause) h = absurd h
-put_no_end k (step number) h = absurd h
-put_no_end k (text bytes) h = absurd h
-put_no_end k (command depth line place expanded words) h = absurd h
-put_no_end k (result cause) h = absurd h
-put_no_end k (script what depth cause) h = absurd h
-put_no_end k (part kind index offset bytes) h = absurd h
-put_no_end k (done status) h = absurd h
-
-events_go_on : (k : ℕ) (es : List GraphEvent) → HasNoEnd k (event_records es)
-events_go_on k [] = tt
-events_go_on k (e ∷ es) = (tt, events_go_on k es)
-
 within_then : (k : ℕ) (outs : List Out) (o : Out) → IsWithinOpen k outs → IsOfOpen k o → IsWithinOpen k (outs ++ o ∷ [])
 within_then k outs o w h =
     let same : graph_so_far (outs ++ o ∷ []) ≡ graph_so_far outs = so_far_append outs (o ∷ []) ∙ put_same k (graph_so_far outs) o h in
@@ -143,7 +122,7 @@ within_then k outs o w h =
       pieces = w.pieces;
       since = w.since ++ o ∷ [];
       begun = opened_then outs (o ∷ []) k w.pieces w.since w.begun;
-      goes_on = goes_on_then k outs (o ∷ []) w.goes_on (put_no_end k o h, tt);
+      goes_on = goes_on_then k outs (o ∷ []) w.goes_on (no_end_aside k o (put_aside k o h), tt);
       within = record {
         object = w.within.object;
         outer = w.within.outer;
@@ -167,40 +146,64 @@ put_says k outs (script what depth cause) w h = absurd h
 put_says k outs (part kind index offset bytes) w h = absurd h
 put_says k outs (done status) w h = absurd h
 
-puts_say : (k : ℕ) (outs puts : List Out) → IsWithinOpen k outs → AllByRecursion (IsOfOpen k) puts → EachSays outs puts
-puts_say k outs [] w h = tt
-puts_say k outs (o ∷ puts) w h = (put_says k outs o w h.0, puts_say k (outs ++ o ∷ []) puts (within_then k outs o w h.0) h.1)
+-- an open that has begun in these records, and hasn't ended, with its lowest object
+record GoesOnSo (k x : ℕ) (outs : List Out) : Type 0 where
+  pieces : List GraphObject
+  since : List Out
+  begun : HasOpened outs k pieces since
+  goes_on : HasNoEnd k outs
+  lowest : (graph_so_far outs).lowest k ≡ Some x
 
--- the object that is entered last runs
-entered_runs : (outs : List Out) (front init : List GraphEvent) (p : Port) (way : Way) → front ≡ init ++ (Entered p way ∷ []) →
-    (graph_so_far (outs ++ event_records front)).running ≡ p.obj.0 ∷ (graph_so_far (outs ++ event_records init)).running
-entered_runs outs front init p way all =
-    ap (λ z. (graph_so_far (outs ++ event_records z)).running) all ∙ ap (λ z. (graph_so_far (outs ++ z)).running) (event_records_append init (Entered p way ∷ []))
-    ∙ ap (λ z. (graph_so_far z).running) (sym (append_assoc outs (event_records init) (event_records (Entered p way ∷ []))))
-    ∙ ap (λ g. g.running) (so_far_append (outs ++ event_records init) (event_records (Entered p way ∷ [])))
+on_then : (k x : ℕ) (outs : List Out) (o : Out) → GoesOnSo k x outs → IsNoEnd k o → IsNoOpening k o → GoesOnSo k x (outs ++ o ∷ [])
+on_then k x outs o g no_end no_opening = record {
+  pieces = g.pieces;
+  since = g.since ++ o ∷ [];
+  begun = opened_then outs (o ∷ []) k g.pieces g.since g.begun;
+  goes_on = goes_on_then k outs (o ∷ []) g.goes_on (no_end, tt);
+  lowest = lowest_then outs (o ∷ []) k (no_opening, tt) ∙ g.lowest;
+}
+
+entered_within : (k x : ℕ) (outs : List Out) (e : GraphEvent) → is_entry_of x e ≡ true → GoesOnSo k x (outs ++ graph (flat e) ∷ []) → IsWithinOpen k (outs ++ graph (flat e) ∷ [])
+entered_within k x outs (Entered p way) is g = record {
+  pieces = g.pieces;
+  since = g.since;
+  begun = g.begun;
+  goes_on = g.goes_on;
+  within = record {
+    object = x;
+    outer = (graph_so_far outs).running;
+    is_lowest = g.lowest;
+    runs = ap (λ (h : GraphSoFar). h.running) (so_far_append outs (graph (flat (Entered p way)) ∷ [])) ∙ ap (λ z. z ∷ (graph_so_far outs).running) (eqb-true p.obj.0 x is);
+  };
+}
+entered_within k x outs (Made y kind) is g = absurd (false≢true is)
+entered_within k x outs (Held y) is g = absurd (false≢true is)
+entered_within k x outs (LetGo y) is g = absurd (false≢true is)
+entered_within k x outs (Plugged p q) is g = absurd (false≢true is)
+entered_within k x outs (Left p) is g = absurd (false≢true is)
+entered_within k x outs (Dropped p) is g = absurd (false≢true is)
+entered_within k x outs (Closed p cause) is g = absurd (false≢true is)
+entered_within k x outs (Unplugged p q) is g = absurd (false≢true is)
+entered_within k x outs (Freed y) is g = absurd (false≢true is)
+
+on_entries_say : (k x : ℕ) (entered : Bool) (before outs : List Out) (es : List GraphEvent) → StandOnEntries k x entered outs es → GoesOnSo k x before → (entered ≡ true → IsWithinOpen k before) →
+    EachSays before outs
+on_entries_say k x entered before _ _ (none_more _) g w = tt
+on_entries_say k x entered before _ _ (happens_then _ e outs es h) g w =
+    let next : GoesOnSo k x (before ++ graph (flat e) ∷ []) = on_then k x before (graph (flat e)) g tt tt in
+    (tt, on_entries_say k x (is_entry_of x e) (before ++ graph (flat e) ∷ []) outs es h next (λ is. entered_within k x before e is next))
+on_entries_say k x entered before _ _ (puts_then _ o outs es is own h) g w = (
+  put_says k before o (w is) own,
+  on_entries_say k x true (before ++ o ∷ []) outs es h (on_then k x before o g (no_end_aside k o (put_aside k o own)) (unopened_aside k o (put_aside k o own))) (λ t. within_then k before o (w is) own),
+)
 
 module _ (outs : List Out) (s0 : GraphState) (owner : ℕ → Option ℕ) (o : Kin) (l : Lives outs s0 owner o) (ids : List ℕ) (by : Option Way) (added : List Out) (s t : GraphState)
     (c : IsCallOn o.number ids (lowest_of (own_serials o)) by added s t) where
-  stands_within : EndsEntering (lowest_of (own_serials o)) c.front → IsWithinOpen o.number (outs ++ event_records c.front)
-  stands_within e = record {
-    pieces = o.pieces;
-    since = l.since ++ event_records c.front;
-    begun = opened_then outs (event_records c.front) o.number o.pieces l.since l.begun;
-    goes_on = goes_on_then o.number outs (event_records c.front) l.goes_on (events_go_on o.number c.front);
-    within = record {
-      object = lowest_of (own_serials o);
-      outer = (graph_so_far (outs ++ event_records e.init)).running;
-      is_lowest = lowest_then outs (event_records c.front) o.number (events_unopened o.number c.front) ∙ l.lowest;
-      runs = entered_runs outs c.front e.init e.port e.way e.all ∙ ap (λ z. z ∷ (graph_so_far (outs ++ event_records e.init)).running) e.object;
-    };
-  }
-
-  inside_says : (c.puts ≡ []) ⊎ EndsEntering (lowest_of (own_serials o)) c.front → EachSays (outs ++ event_records c.front) c.puts
-  inside_says (inl none) = subst (EachSays (outs ++ event_records c.front)) (sym none) tt
-  inside_says (inr e) = puts_say o.number (outs ++ event_records c.front) c.puts (stands_within e) c.of_open
-
   call_says : EachOut outs added
-  call_says = subst (EachOut outs) (sym c.all) (each_append (each_events c.front) (each_append (record { each = inside_says c.inside }) (each_events c.back)))
+  call_says = record {
+    each = on_entries_say o.number (lowest_of (own_serials o)) false outs added c.events c.stand
+        (record { pieces = o.pieces; since = l.since; begun = l.begun; goes_on = l.goes_on; lowest = l.lowest }) (λ e. absurd (false≢true e));
+  }
 
   -- ITS END
 

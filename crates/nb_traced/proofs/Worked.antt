@@ -1,8 +1,8 @@
 -- The worked output of two pings is traced.
-use Rattle.std.proofs.Common.{◌≡◌, inl, inr, ℕ, ◌+◌, ◌-◌, ◌≤◌, Bool, true, false, List, [], ◌∷◌, ◌++◌, fold, Option, Some, None, refl, sym, ◌∙◌, ap, subst, arith, if◌then◌else◌}
-use Rattle.std.proofs.lemmas.Bool.{cases_eq, ne_eqb, false≢true}
+use Rattle.std.proofs.Common.{◌≡◌, inl, inr, ℕ, ◌+◌, ◌-◌, ◌≤◌, ◌==◌, Bool, true, false, List, [], ◌∷◌, ◌++◌, fold, Option, Some, None, refl, sym, ◌∙◌, ap, subst, arith, if◌then◌else◌}
+use Rattle.std.proofs.lemmas.Bool.{cases_eq, eq-eqb, ne_eqb, false≢true}
 use Rattle.nb_terms.specs.declared.cause.Cause.{Cause}
-use Rattle.nb_defs.specs.Records.{step, command}
+use Rattle.nb_defs.specs.Records.{step, sent, command, tried}
 use Rattle.nb_ledger.specs.declared.port.Port.{Port}
 use Rattle.nb_ledger.specs.declared.port.PortState.TheVariants as port
 use Rattle.nb_ledger.specs.declared.event.Way.{Way}
@@ -13,9 +13,10 @@ use Rattle.nb_ledger.specs.GraphRun.{GraphState, GraphRunOf, Running, alone, but
 use Rattle.nb_graph.specs.Whole.{port_at}
 use Rattle.nb_frames.specs.Frames.{is_one_of}
 use Rattle.nb_traced.specs.Holdings.{Holdings, Kin, GraphObject, no_holdings, no_state}
-use Rattle.nb_traced.specs.Pieces.{IsCallOn, AreGone, BeginsBy, event_records}
+use Rattle.nb_traced.specs.Pieces.{IsCallOn, AreGone, BeginsBy, event_records, happens_then, puts_then}
 use Rattle.nb_traced.specs.Outputs.{Traced, last_step, at_first, apart, commands, makes, opens, calls, ends}
 use Rattle.nb_traced.specs.Example.{ping_made, ping_asks, ping_begins, ping_ends, two_pings, one_ends, came_to_two, came_to_both}
+use Rattle.nb_traced.proofs.OnEntries.{events_on_entries}
 use Rattle.nb_traced.proofs.Serials.{one_cases}
 use Rattle.nb_traced.proofs.OneState.{rest_of}
 
@@ -65,19 +66,16 @@ some_pieces p ps e = cc
 
 -- a message or a time comes to the object x by p, and it sends
 a_call : (k x : ℕ) (p : Port) (way : Way) (s : GraphState) → GraphRunOf s (Entered p way ∷ Left p ∷ []) s → s.stack ≡ [] → p.obj.0 ≡ x → is_one_of (x ∷ []) p.obj.0 ≡ true →
-    (by : Option Way) → BeginsBy x by (Entered p way ∷ []) → IsCallOn k (x ∷ []) x by (event_records (Entered p way ∷ []) ++ (ping_asks k ++ event_records (Left p ∷ []))) s s
+    (by : Option Way) → BeginsBy x by (Entered p way ∷ Left p ∷ []) → IsCallOn k (x ∷ []) x by (event_records (Entered p way ∷ []) ++ (ping_asks k ++ event_records (Left p ∷ []))) s s
 a_call k x p way s run still object mine by begins = record {
-  front = Entered p way ∷ [];
-  puts = ping_asks k;
-  back = Left p ∷ [];
-  all = refl;
+  events = Entered p way ∷ Left p ∷ [];
+  stand = happens_then false (Entered p way) (ping_asks k ++ event_records (Left p ∷ [])) (Left p ∷ [])
+      (puts_then (p.obj.0 == x) (tried k 1) (sent [] ∷ event_records (Left p ∷ [])) (Left p ∷ []) (eq-eqb p.obj.0 x object) refl
+      (puts_then true (sent []) (event_records (Left p ∷ [])) (Left p ∷ []) refl tt (events_on_entries k x true (Left p ∷ []))));
   run = run;
   within = (mine, (mine, tt));
-  of_open = (refl, (tt, tt));
   rests = still;
   begins = begins;
-  inner = (tt, tt);
-  inside = inr (record { init = []; port = p; way = way; all = refl; object = object });
 }
 
 first_run : GraphRunOf no_state (ping_made 1) first_made
@@ -127,7 +125,7 @@ at_first_open =
     let a : Traced (command 0 1 0 false [] ∷ []) no_holdings [] = commands [] 0 1 0 false [] no_holdings [] at_first refl in
     let b = makes (command 0 1 0 false [] ∷ []) no_holdings [] (ping_made 1) first_made a (tt, (tt, tt)) first_run in
     let c = opens _ _ [] [] first_ping 6 0 0 0 [] b refl refl (some_pieces _ []) tt (newest_made 1 0 no_state.live (omega arith) none_lives) (omega arith) in
-    calls _ _ _ _ [] [] first_ping None first_made c refl (a_call 0 1 (port_at 1 0) Down first_made first_begins refl refl refl None (tt, tt)) refl
+    calls _ _ _ _ [] [] first_ping None first_made c refl (a_call 0 1 (port_at 1 0) Down first_made first_begins refl refl refl None (tt, (tt, tt))) refl
 
 at_second_open : Traced (ping_begins 0 1 ++ ping_begins 1 2) (record { state = both_made; living = first_ping ∷ second_ping ∷ []; waits = []; begun = 2 }) []
 at_second_open =
@@ -135,7 +133,7 @@ at_second_open =
     let a = commands (ping_begins 0 1) 0 1 0 false [] h [] at_first_open refl in
     let b = makes _ h [] (ping_made 2) both_made a (tt, (tt, tt)) second_run in
     let c = opens _ _ [] [] second_ping 6 0 0 0 [] b refl refl (some_pieces _ []) tt (newest_made 2 1 first_made.live (omega arith) (newest_made 1 0 no_state.live (omega arith) none_lives)) (omega arith) in
-    calls _ _ _ _ (first_ping ∷ []) [] second_ping None both_made c refl (a_call 1 2 (port_at 2 0) Down both_made second_begins refl refl refl None (tt, tt)) refl
+    calls _ _ _ _ (first_ping ∷ []) [] second_ping None both_made c refl (a_call 1 2 (port_at 2 0) Down both_made second_begins refl refl refl None (tt, (tt, tt))) refl
 
 abbrev pub both_live : Holdings
 both_live = record { state = both_made; living = first_ping ∷ second_ping ∷ []; waits = []; begun = 2 }
@@ -144,22 +142,24 @@ pub two_live : Traced two_pings both_live came_to_two
 unfolding last_step
 two_live =
     let a = apart (ping_begins 0 1 ++ ping_begins 1 2) (step 1 ∷ []) both_live [] at_second_open (tt, tt) in
-    calls _ _ both_live [] [] (second_ping ∷ []) first_ping (Some Up) both_made a refl (a_call 0 1 (port_at 1 1) Up both_made first_receives refl refl refl (Some Up) (port_at 1 1, refl, refl, tt)) refl
+    calls _ _ both_live [] [] (second_ping ∷ []) first_ping (Some Up) both_made a refl (a_call 0 1 (port_at 1 1) Up both_made first_receives refl refl refl (Some Up) (record { port = port_at 1 1; rest = Left (port_at 1 1) ∷ []; first = refl; object = refl; outside = tt; inner = (tt, tt) })) refl
 
 ending_call : (cause : Cause) → IsCallOn 1 (2 ∷ []) 2 (Some Up) (event_records (ping_ends 2 cause)) both_made (one_left cause)
 unfolding owed object_count
 ending_call cause = record {
-  front = Entered (port_at 2 1) Up ∷ [];
-  puts = [];
-  back = Closed (port_at 2 0) cause ∷ Closed (port_at 2 1) cause ∷ Left (port_at 2 1) ∷ LetGo (record { 0 = 2 }) ∷ Freed (record { 0 = 2 }) ∷ [];
-  all = refl;
+  events = ping_ends 2 cause;
+  stand = events_on_entries 1 2 false (ping_ends 2 cause);
   run = second_ends cause;
   within = (refl, (refl, (refl, (refl, (refl, (refl, tt))))));
-  of_open = tt;
   rests = refl;
-  begins = (port_at 2 1, refl, refl, tt);
-  inner = (tt, (tt, (tt, (tt, (tt, tt)))));
-  inside = inl refl;
+  begins = record {
+    port = port_at 2 1;
+    rest = Closed (port_at 2 0) cause ∷ Closed (port_at 2 1) cause ∷ Left (port_at 2 1) ∷ LetGo (record { 0 = 2 }) ∷ Freed (record { 0 = 2 }) ∷ [];
+    first = refl;
+    object = refl;
+    outside = tt;
+    inner = (tt, (tt, (tt, (tt, (tt, tt)))));
+  };
 }
 
 second_gone : (cause : Cause) → AreGone (2 ∷ []) (one_left cause)

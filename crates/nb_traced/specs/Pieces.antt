@@ -1,6 +1,6 @@
 -- What the records of the graph say in a call on the objects of an open: a run of the graph that names these alone, with what the open
--- sends within the entry of its lowest object. Our own.
-use Rattle.std.specs.Prelude.{◌≡◌, ◌⊎◌, ℕ, ◌==◌, true, false, List, [], ◌∷◌, ◌++◌, map, Option, Some, None, if◌then◌else◌}
+-- sends within entries of its lowest object. Our own.
+use Rattle.std.specs.Prelude.{◌≡◌, ℕ, ◌==◌, Bool, true, false, List, [], ◌∷◌, ◌++◌, map, Option, Some, None, if◌then◌else◌}
 use Rattle.std.specs.List.{AllByRecursion}
 use Rattle.nb_terms.specs.declared.cause.Cause.{Cause}
 use Rattle.nb_defs.specs.Records.{Out, step, sent, text, command, result, script, opened, tried, advanced, ended, graph, part, done}
@@ -77,34 +77,52 @@ IsOutsideWay Time = Unit {0}
 IsOutsideWay Down = ⊥
 IsOutsideWay Close = ⊥
 
--- these events begin a call: x is entered so from outside, and nothing else happens; or it isn't
-abbrev pub BeginsBy : ℕ → Option Way → List GraphEvent → Type 0
-BeginsBy x None front = AreInner x front
-BeginsBy x (Some way) front = (p : Port) × (front ≡ Entered p way ∷ []) × (p.obj.0 ≡ x) × IsOutsideWay way
+-- x is entered by this event
+abbrev pub is_entry_of : ℕ → GraphEvent → Bool
+is_entry_of x (Entered p way) = p.obj.0 == x
+is_entry_of x (Made y kind) = false
+is_entry_of x (Held y) = false
+is_entry_of x (LetGo y) = false
+is_entry_of x (Plugged p q) = false
+is_entry_of x (Left p) = false
+is_entry_of x (Dropped p) = false
+is_entry_of x (Closed p cause) = false
+is_entry_of x (Unplugged p q) = false
+is_entry_of x (Freed y) = false
 
--- the last of these events is an entry of x, which runs
-pub record EndsEntering (x : ℕ) (front : List GraphEvent) : Type 0 where
-  pub init : List GraphEvent
+-- Some records, and the events among them. What open k puts stands directly after an event by which x is entered, or after another record that
+-- it puts; `entered` says whether the first may.
+pub data StandOnEntries (k x : ℕ) : Bool → List Out → List GraphEvent → Type 0 where
+  none_more : (entered : Bool) → StandOnEntries k x entered [] []
+  happens_then : (entered : Bool) (e : GraphEvent) (outs : List Out) (es : List GraphEvent) → StandOnEntries k x (is_entry_of x e) outs es →
+      StandOnEntries k x entered (graph (flat e) ∷ outs) (e ∷ es)
+  puts_then : (entered : Bool) (o : Out) (outs : List Out) (es : List GraphEvent) → entered ≡ true → IsOfOpen k o → StandOnEntries k x true outs es →
+      StandOnEntries k x entered (o ∷ outs) es
+
+-- x is entered so from outside by the first of these events, and by no other
+pub record EntersFirst (x : ℕ) (way : Way) (es : List GraphEvent) : Type 0 where
   pub port : Port
-  pub way : Way
-  pub all : front ≡ init ++ (Entered port way ∷ [])
+  pub rest : List GraphEvent
+  pub first : es ≡ Entered port way ∷ rest
   pub object : port.obj.0 ≡ x
+  pub outside : IsOutsideWay way
+  pub inner : AreInner x rest
+
+-- these are the events of a call: by an entry of x from outside, or without one
+abbrev pub BeginsBy : ℕ → Option Way → List GraphEvent → Type 0
+BeginsBy x None es = AreInner x es
+BeginsBy x (Some way) es = EntersFirst x way es
 
 -- A call on objects of which x is the lowest, those of open k: these records lead the graph from one state to another.
 pub record IsCallOn (k : ℕ) (ids : List ℕ) (x : ℕ) (by : Option Way) (records : List Out) (s t : GraphState) : Type 0 where
-  pub front : List GraphEvent
-  pub puts : List Out
-  pub back : List GraphEvent
-  pub all : records ≡ event_records front ++ (puts ++ event_records back)
-  pub run : GraphRunOf s (front ++ back) t
-  pub within : AllByRecursion (IsEventWithin (is_one_of ids)) (front ++ back)
-  pub of_open : AllByRecursion (IsOfOpen k) puts
+  pub events : List GraphEvent
+  -- what it sends stands within an entry of x, as the innermost
+  pub stand : StandOnEntries k x false records events
+  pub run : GraphRunOf s events t
+  pub within : AllByRecursion (IsEventWithin (is_one_of ids)) events
   -- no entry runs after it
   pub rests : t.stack ≡ []
-  pub begins : BeginsBy x by front
-  pub inner : AreInner x back
-  -- what it sends stands within an entry of x, as the innermost
-  pub inside : (puts ≡ []) ⊎ EndsEntering x front
+  pub begins : BeginsBy x by events
 
 -- the cause of a close of a port of one of these
 abbrev pub close_cause : List ℕ → Out → Option Cause

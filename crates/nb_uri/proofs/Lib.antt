@@ -8,3 +8,4 @@ pub mod RefusalLemmas
 pub mod PathTextLemmas
 pub mod SendableLemmas
 pub mod SelfLemmas
+pub mod HostLengths

@@ -1,6 +1,6 @@
 -- URL Standard, sections 4.4 and 4.5 (RFC 3986, sections 4.1 and 5): what a URI names, joined to a base. Own:
 -- which schemes are read, and how many bytes a URI may have.
-use Rattle.std.specs.Prelude.{◌≡◌, ◌⊎◌, ℕ, Bool, true, nat_lt, nat_eq, List, ◌++◌, [], length, drop, slice_index, Option, Some, None, unwrap_or, is_some, Result, Ok, Err, MatchResult, codes, bytes_eq, ⊤, if◌then◌else◌}
+use Rattle.std.specs.Prelude.{◌≡◌, ◌≤◌, ◌⊎◌, ℕ, Bool, true, nat_lt, nat_eq, List, ◌++◌, [], length, drop, slice_index, Option, Some, None, unwrap_or, is_some, Result, Ok, Err, MatchResult, codes, bytes_eq, ⊤, if◌then◌else◌}
 use Rattle.std.specs.List.{list_any}
 use Rattle.std.specs.Option.{option_map, option_and_then}
 use Rattle.std.specs.Result.{result_ok}
@@ -138,3 +138,12 @@ abbrev pub HasCleanPath : UriTarget → Type 0
 HasCleanPath (Tftp host port path whole) = HasNoZero path
 HasCleanPath (Http host port path whole) = ⊤
 HasCleanPath (Iscsi host port lun name whole) = ⊤
+
+-- a server's name, which stands in the URI, is as short as that
+abbrev pub HasShortHost : UriTarget → Type 0
+HasShortHost (Tftp host port path whole) = ⊤
+HasShortHost (Http host port path whole) = length host ≤ 16384
+HasShortHost (Iscsi host port lun name whole) = ⊤
+
+abbrev pub HostsAreShort : Type 0
+HostsAreShort = (base : Option (List ℕ)) (text : List ℕ) (target : UriTarget) → resolution base text ≡ Ok target → HasShortHost target

@@ -18,6 +18,6 @@ mod target;
 pub use address::number;
 pub use image_names::image_name;
 pub use iscsi::{ISCSI_PORT, MAX_TARGET_NAME};
-pub use laws::iscsi_names_are_spelled;
+pub use laws::{hosts_are_short, iscsi_names_are_spelled};
 pub use resolution::{HTTP_PORT, TFTP_PORT, resolve};
 pub use target::{UriError, UriTarget};

@@ -78,6 +78,12 @@ freed_opens s x = record {
   linked = λ y k q h. freed_before (λ v. v ≡ port.Linked q) x.0 s.port y k (not_linked q) h;
 }
 
+pub port_closed_opens : (s t : Scene) (p : Port) → ((y k : ℕ) → t.port y k ≡ port_but p port.Closed s.port y k) → NoneOpens s t
+port_closed_opens s t p e = record {
+  opened = λ y k h. but_before (λ v. v ≡ port.Open) p port.Closed s.port y k not_open (sym (e y k) ∙ h);
+  linked = λ y k q h. but_before (λ v. v ≡ port.Linked q) p port.Closed s.port y k (not_linked q) (sym (e y k) ∙ h);
+}
+
 -- WHAT IS TO BE DONE
 
 -- a message of the way up is a short one

@@ -1,28 +1,33 @@
 -- The slots of an object that nothing is plugged to are closed, and objects that have no link have none then.
-use Rattle.std.proofs.Common.{inl, inr, ◌≡◌, ℕ, ◌≤◌, ◌<◌, Bool, true, false, cond, eqb, List, [], ◌∷◌, ◌++◌, refl, ap, ◌∙◌, arith}
+use Rattle.std.proofs.Common.{inl, inr, ◌≡◌, ℕ, ◌≤◌, ◌<◌, Bool, true, false, cond, eqb, List, [], ◌∷◌, ◌++◌, refl, sym, ap, ◌∙◌, subst, arith}
 use Rattle.std.proofs.lemmas.Bool.{cases_eq}
+use Rattle.std.proofs.lemmas.List.{append-nil}
 use Rattle.nb_terms.specs.declared.cause.Cause.{Cause}
 use Rattle.nb_ledger.specs.declared.port.Port.{Port}
 use Rattle.nb_ledger.specs.declared.port.PortState.{PortState}
 use Rattle.nb_ledger.specs.declared.port.PortState.TheVariants as port
-use Rattle.nb_ledger.specs.Flat.{Heard, all}
+use Rattle.nb_ledger.specs.declared.event.GraphEvent.TheVariants.{Closed}
+use Rattle.nb_ledger.specs.Flat.{Heard, Notice, all, event, message}
 use Rattle.nb_ledger.specs.GraphRun.{link_count, port_but}
 use Rattle.nb_ledger.specs.Ledger.{open_count, port as port_in}
-use Rattle.nb_graph.specs.Deeds.{Closes}
+use Rattle.nb_graph.specs.Deeds.{Closes, turns, is_shut, told_of}
 use Rattle.nb_graph.specs.Noded.{AreNoded}
-use Rattle.nb_graph.specs.Went.{WentOne}
+use Rattle.nb_graph.specs.Scene.{scene_of}
+use Rattle.nb_graph.specs.Went.{WentOne, all_of}
 use Rattle.nb_graph.specs.Whole.{Objects, port_at}
+use Rattle.nb_graph.proofs.Laws.{only_call, close_shut, nothing}
 use Rattle.nb_frames.specs.Frames.{is_one_of}
 use Rattle.nb_frames.specs.Within.{IsEventWithin}
 use Rattle.nb_nodes.specs.declared.obj.Obj.{Obj}
 use Rattle.nb_nodes.specs.Objects.{obj_nature, rank_of_obj}
 use Rattle.nb_nodes.specs.Standing.{ObjStands}
+use Rattle.nb_opens.specs.Notices.{tells}
 use Rattle.nb_opens.proofs.Shutting.{closes_alone}
 use Rattle.nb_chains.specs.Chains.{AreChained}
 use Rattle.nb_chains.proofs.ChainCalls.{ChainCalled, chain_call}
-use Rattle.nb_chains.proofs.GivingLemmas.{gives_both}
+use Rattle.nb_chains.proofs.GivingLemmas.{gives_both, known_notices}
 use Rattle.nb_chains.proofs.GoingOn.{goes_both}
-use Rattle.nb_webchains.specs.Releases.{AreLoose, GoesLoose, StayLoose}
+use Rattle.nb_webchains.specs.Releases.{AreCloses, AreLoose, GoesLoose, StayLoose}
 
 -- what counts nothing at a port counts nothing where one is closed
 none_counted : (m : PortState → ℕ) → m port.Closed ≡ 0 → (p : Port) (f : ℕ → ℕ → PortState) (y k : ℕ) → m (f y k) ≡ 0 → m (port_but p port.Closed f y k) ≡ 0
@@ -32,6 +37,29 @@ none_counted m zero p f y k h = by_tests (eqb y p.obj.0) (eqb k p.slot)
     by_tests true true = zero
     by_tests true false = h
     by_tests false b = h
+
+pub both_close : (xs ys : List Notice) → AreCloses xs → AreCloses ys → AreCloses (xs ++ ys)
+both_close [] ys p q = q
+both_close (event e ∷ xs) ys p q = (p.0, both_close xs ys p.1 q)
+both_close (message from tag rec a b bytes ∷ xs) ys p q = absurd p
+
+-- what is told where a port is closed that isn't linked
+slot_closes : (ids : List ℕ) (g h : Objects Obj) (m n : Heard) (now x slot : ℕ) (z : Cause) (k : ChainCalled ids now (Closes (port_at x slot) z ∷ []) g h m n) → link_count (port_in g.book x slot) ≡ 0 → AreCloses k.ns
+slot_closes ids g h m n now x slot z k none = by (port_in g.book x slot) refl none
+  where
+    by : (v : PortState) → port_in g.book x slot ≡ v → link_count v ≡ 0 → AreCloses k.ns
+    by port.Open e none =
+        let one = closes_alone g h (all []) (all k.ns) now (port_at x slot) z e (k.whole []) in
+        subst AreCloses (known_notices k.ns (tells (Closed (port_at x slot) z) ∷ []) one.told) ((port_at x slot, z, refl), tt)
+    by (port.Linked q) e none = absurd (omega (arith, none))
+    by (port.Leaving q) e none = absurd (omega (arith, none))
+    by port.Closed e none =
+        let known = k.whole [] in
+        let call = only_call obj_nature (scene_of g.book) (scene_of h.book) (record { now = now; asks = Closes (port_at x slot) z ∷ [] }) known.deeds known.each in
+        let did = close_shut obj_nature now (scene_of g.book) (scene_of h.book) (port_at x slot) z [] call.0 (ap open_count e) call.2 in
+        let more = nothing obj_nature now (scene_of g.book) (scene_of h.book) did.0 did.2 in
+        let all_deeds = ap all_of call.1 ∙ append-nil call.0 ∙ did.1 ∙ ap (λ ds. turns (is_shut (port_at x slot)) ∷ ds) more.0 in
+        subst AreCloses (known_notices k.ns (told_of (all_of known.deeds)) known.tells) (subst (λ ds. AreCloses (told_of ds)) (sym all_deeds) tt)
 
 module _ (ids : List ℕ) (g h : Objects Obj) (m n : Heard) (now x slot : ℕ) (z : Cause) (low : slot < 4) (chained : AreChained g ids) (is : is_one_of ids x ≡ true) (before : AreNoded rank_of_obj g) (after : AreNoded rank_of_obj h)
     (k : WentOne ObjStands obj_nature now (Closes (port_at x slot) z ∷ []) g h m n) (shut : open_count (port_in g.book x slot) ≡ 0 → h ≡ g) where
@@ -94,5 +122,7 @@ module _ (g a h : Objects Obj) (m n o : Heard) (now x : ℕ) (z : Cause) (one : 
     ns = one_called.ns ++ two_called.ns;
     on = goes_both ids g a h one_called.on two_called.on;
     gives = gives_both (IsEventWithin (is_one_of ids)) g a h m n o one_called.ns two_called.ns one_called.gives two_called.gives;
+    closes = λ l. both_close one_called.ns two_called.ns (slot_closes ids g a m n now x 2 z one_called ((l x is).unlinked 2 (omega arith)))
+        (slot_closes ids a h n o now x 3 z two_called ((mid_loose l x is).unlinked 3 (omega arith)));
     loose = stay_loose;
   }

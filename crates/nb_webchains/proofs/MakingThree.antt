@@ -1,7 +1,6 @@
 -- The objects of an open by HTTP are made.
 use Rattle.std.proofs.Common.{◌≡◌, ℕ, ◌+◌, true, List, [], ◌∷◌, ◌++◌, Option, Some, None, sym, ap, ◌∙◌, subst, arith}
 use Rattle.nb_ledger.specs.declared.port.ObjId.{ObjId}
-use Rattle.nb_ledger.specs.declared.port.PortState.TheVariants as port
 use Rattle.nb_ledger.specs.Flat.{Heard}
 use Rattle.nb_ledger.specs.Ledger.{port as port_in}
 use Rattle.nb_graph.specs.Lived.{ObjectStands}

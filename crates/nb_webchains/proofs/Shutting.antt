@@ -8,8 +8,6 @@ use Rattle.nb_graph.specs.Whole.{Objects}
 use Rattle.nb_frames.specs.Frames.{is_one_of}
 use Rattle.nb_frames.specs.Within.{IsEventWithin}
 use Rattle.nb_nodes.specs.declared.obj.Obj.{Obj}
-use Rattle.nb_opens.specs.Notices.{first_close, or_else}
-use Rattle.nb_opens.proofs.CloseLemmas.{first_close-append}
 use Rattle.nb_chains.specs.Chains.{AreStillChained}
 use Rattle.nb_chains.proofs.FreshOnes.{sole_is}
 use Rattle.nb_chains.proofs.GivingLemmas.{gives_both}
@@ -19,6 +17,7 @@ use Rattle.nb_webchains.specs.declared.web_chain.WebChain.{WebChain}
 use Rattle.nb_webchains.specs.Releases.{AreLoose, AreShutWhole, GoesLoose, StayLoose}
 use Rattle.nb_webchains.specs.WebCalls.{ClosesWeb, ReleasesEach, ShutsWeb, freed_each}
 use Rattle.nb_webchains.specs.WebChains.{AreReleased, IsInOrder, IsOpenWeb, IsShutWeb, web_ids}
+use Rattle.nb_webchains.proofs.Loosening.{both_close}
 use Rattle.nb_webchains.proofs.Releasing.{shut_at, shut_loose}
 
 -- below a number, or not
@@ -76,15 +75,16 @@ module _ (c : WebChain) (g a b d e h : Objects Obj) (l m n o p q : Heard) (z : C
       let r = lets is.order k.loose in
       let goes = goes_both (web_ids c) g d e (goes_both (web_ids c) g b d (goes_both (web_ids c) g a b on one.on) two.on) three.on in
       let more = one.ns ++ (two.ns ++ three.ns) in
-      let gives = gives_both own g a e l m p closes.ns more closes.gives (gives_both own a b e m n p one.ns (two.ns ++ three.ns) one.gives (gives_both own b d e n o p two.ns three.ns two.gives three.gives)) in
+      let let_go = freed_each (web_ids c) in
       record {
-        ns = closes.ns ++ more;
+        closed = a;
+        heard = m;
+        closes = closes;
+        free = more;
+        are = both_close one.ns (two.ns ++ three.ns) (one.closes (shut_loose c a on.chained shut)) (both_close two.ns three.ns (two.closes i.loose) (three.closes j.loose));
         mid = e;
-        told = p;
-        gives = gives;
         shut = all_shut c a b d e shut i j k;
-        close = first_close-append closes.ns more ∙ ap (λ w. or_else w (first_close more)) (closes.close is);
-        lets = r;
-        all = gives_both own g e h l p q (closes.ns ++ more) (freed_each (web_ids c)) gives r.gives;
+        gives = gives_both own g a h l m q closes.ns (more ++ let_go) closes.gives
+            (gives_both own a e h m p q more let_go (gives_both own a b e m n p one.ns (two.ns ++ three.ns) one.gives (gives_both own b d e n o p two.ns three.ns two.gives three.gives)) r.gives);
         released = released_after c g e h goes r.released;
       }

@@ -91,6 +91,8 @@ module _ (c : WebChain) (now : ℕ) (entry : Option GraphEvent) (asks : List (St
         comes = comes_so c now asks g h m n chained within plain quiet z links arrives;
         order = ordered z;
         kinds = kinds_kept c now asks g h m n chained within plain quiet before after k;
+        noded = after;
+        still = z.on.chained;
       }
 
 module _ (c : WebChain) (now : ℕ) (g h : Objects Obj) (m n : Heard) (chained : AreChained g (web_ids c)) (before : AreNoded rank_of_obj g) (after : AreNoded rank_of_obj h) where

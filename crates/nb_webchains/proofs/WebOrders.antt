@@ -3,6 +3,7 @@ use Rattle.std.proofs.Common.{inl, inr, ◌≡◌, ◌≤◌, ◌==◌, ℕ, zer
 use Rattle.std.specs.List.{AllByRecursion}
 use Rattle.std.proofs.lemmas.Bool.{cases_eq, eq-eqb, ne_eqb}
 use Rattle.std.proofs.lemmas.List.{append-nil}
+use Rattle.nb_terms.specs.declared.cause.Cause.{Cause}
 use Rattle.nb_ledger.specs.declared.port.Port.{Port}
 use Rattle.nb_ledger.specs.declared.port.PortState.{PortState}
 use Rattle.nb_ledger.specs.declared.port.PortState.TheVariants as port
@@ -12,7 +13,7 @@ use Rattle.nb_ledger.specs.declared.event.GraphEvent.TheVariants.{Entered}
 use Rattle.nb_ledger.specs.Flat.{Heard}
 use Rattle.nb_ledger.specs.GraphRun.{link_count}
 use Rattle.nb_ledger.specs.Ledger.{port as port_in, rank}
-use Rattle.nb_graph.specs.Deeds.{Deed, writes, begins, calls, turns, Holds, Offers, Stage, Ticks, told_of, trace_after}
+use Rattle.nb_graph.specs.Deeds.{Deed, writes, begins, calls, turns, Closes, Holds, Offers, Stage, Ticks, told_of, trace_after}
 use Rattle.nb_graph.specs.Follows.{UsesStack, offered_down, offered_up, refused, ticks, ticks_none}
 use Rattle.nb_graph.specs.Noded.{AreNoded}
 use Rattle.nb_graph.specs.Scene.{Scene, scene_of, state_at}
@@ -39,7 +40,7 @@ use Rattle.nb_closings.proofs.Beginning.{one_first}
 use Rattle.nb_webchains.specs.declared.web_chain.WebChain.{WebChain}
 use Rattle.nb_webchains.specs.Orders.{StandInOrder}
 use Rattle.nb_webchains.specs.WebCalls.{AreShort, short_message}
-use Rattle.nb_webchains.specs.WebChains.{AreOfWeb, IsOpenWeb, web_ids}
+use Rattle.nb_webchains.specs.WebChains.{AreOfWeb, IsInOrder, IsOpenWeb, web_ids}
 use Rattle.nb_webchains.proofs.Downward.{EagerStage, Fits}
 use Rattle.nb_webchains.proofs.EntriesSo.{conn_all, fetch_all, web_all}
 use Rattle.nb_webchains.proofs.EntryDowns.{EntrySo, Hidden}
@@ -147,17 +148,17 @@ tick_enters now s t x [] live h = absurd h
 tick_enters now s t _ (_ ∷ ds) live (_, ticks x e, h) = (ds, refl, h)
 tick_enters now s t _ (_ ∷ ds) live (_, ticks_none x e, h) = absurd (let z = sym live ∙ e in cc)
 
--- FROM THREE THAT ARE OPEN
+-- FROM THREE IN ORDER
 
-module _ (c : WebChain) (g : Objects Obj) (o : IsOpenWeb c g) where
+module _ (c : WebChain) (o : IsInOrder c) where
   web_not_fetch : c.web.0 ≡ c.fetch.0 → ⊥
-  web_not_fetch e = let i = o.order.web_later in omega (arith, e, i)
+  web_not_fetch e = let i = o.web_later in omega (arith, e, i)
 
   conn_not_fetch : c.conn.0 ≡ c.fetch.0 → ⊥
-  conn_not_fetch e = let i = o.order.web_later in let j = o.order.conn_later in omega (arith, e, i, j)
+  conn_not_fetch e = let i = o.web_later in let j = o.conn_later in omega (arith, e, i, j)
 
   web_not_conn : c.web.0 ≡ c.conn.0 → ⊥
-  web_not_conn e = let j = o.order.conn_later in omega (arith, e, j)
+  web_not_conn e = let j = o.conn_later in omega (arith, e, j)
 
   fetch_not_conn : c.fetch.0 ≡ c.conn.0 → ⊥
   fetch_not_conn e = conn_not_fetch (sym e)
@@ -169,6 +170,9 @@ module _ (c : WebChain) (g : Objects Obj) (o : IsOpenWeb c g) where
     | inr j ↦ elim (one_first c.web.0 (c.conn.0 ∷ []) y j) [ inl e ↦ subst P (sym e) w | inr l ↦ subst P (sym (sole_is c.conn.0 y l)) k ]
   ]
 
+-- THAT ARE OPEN
+
+module _ (c : WebChain) (g : Objects Obj) (o : IsOpenWeb c g) where
   linked_not_open : (v : PortState) (q : Port) → v ≡ port.Linked q → v ≡ port.Open → ⊥
   linked_not_open v q e i = let z = sym e ∙ i in cc
 
@@ -180,30 +184,30 @@ module _ (c : WebChain) (g : Objects Obj) (o : IsOpenWeb c g) where
 
   pub is_hidden : IsLinked (port_in g.book) (rank g.book) → Hidden (web_ids c) c.fetch.0 c.conn.0 (scene_of g.book)
   is_hidden links = record {
-    above = of_three (λ y. (y ≡ c.fetch.0 → ⊥) → port_in g.book y 0 ≡ port.Open → ⊥) (λ far. absurd (far refl)) (λ _. linked_not_open _ _ o.through.ports.1.1) (λ _. linked_not_open _ _ o.through.ports.1.2.1);
-    below = of_three (λ y. (y ≡ c.conn.0 → ⊥) → port_in g.book y 1 ≡ port.Open → ⊥) (λ _. linked_not_open _ _ o.through.ports.1.0) (λ _. linked_not_open _ _ o.through.ports.1.2.0) (λ far. absurd (far refl));
+    above = of_three c o.order (λ y. (y ≡ c.fetch.0 → ⊥) → port_in g.book y 0 ≡ port.Open → ⊥) (λ far. absurd (far refl)) (λ _. linked_not_open _ _ o.through.ports.1.1) (λ _. linked_not_open _ _ o.through.ports.1.2.1);
+    below = of_three c o.order (λ y. (y ≡ c.conn.0 → ⊥) → port_in g.book y 1 ≡ port.Open → ⊥) (λ _. linked_not_open _ _ o.through.ports.1.0) (λ _. linked_not_open _ _ o.through.ports.1.2.0) (λ far. absurd (far refl));
     lowest = lowest;
     leads = λ y k q own e at. lowest q.slot (port_at y k) (subst (λ z. port_in g.book z q.slot ≡ port.Linked (port_at y k)) at (links.back y k q e));
   }
 
 module _ (c : WebChain) (now : ℕ) (asks : List (Stage Obj Load)) (g h : Objects Obj) (m n : Heard) (chained : AreChained g (web_ids c)) (within : AreStagesWithin (is_one_of (web_ids c)) asks)
-    (links : IsLinked (port_in g.book) (rank g.book)) (after : AreNoded rank_of_obj h) (are : AreOfWeb c h) (k : WentOne ObjStands obj_nature now asks g h m n) (own : IsOwnCall (web_ids c) asks g h (all_of k.deeds)) (o : IsOpenWeb c g) where
+    (after : AreNoded rank_of_obj h) (are : AreOfWeb c h) (k : WentOne ObjStands obj_nature now asks g h m n) (own : IsOwnCall (web_ids c) asks g h (all_of k.deeds)) (o : IsInOrder c) (hidden : Hidden (web_ids c) c.fetch.0 c.conn.0 (scene_of g.book)) where
   abbrev ds : List (Deed Obj Load)
   ds = all_of k.deeds
 
   -- each entry of one of them is so, by what that stands for afterwards
   their_entries : (y : ℕ) → is_one_of (web_ids c) y ≡ true → (P : NodeEntry Obj Load → Type 0) → ((node : Obj) → node_at h y ≡ Some node → rank_of_obj node ≡ rank h.book y → (t : List (NodeEntry Obj Load)) → ObjStands node t → AllByRecursion P t) → EntriesOf P y ds
   their_entries y i P so =
-      let w = o.through.going y i in
+      let w = chained.stands y i in
       let node = after y (own.stays y i) in
       let theirs = deeds_within obj_nature ObjStands now asks g h m n (is_one_of (web_ids c)) within chained.links k own.makes in
       entries_so P y ds w.0 (begins_none (web_ids c) y ds theirs.0) (so node.node node.is_node node.at_rank (trace_after y w.0 ds) (k.keeps y w.0 w.1 node.node node.is_node).0)
 
   all_calls : AllByRecursion (CallSo (web_ids c) c.fetch.0 c.conn.0) ds
-  all_calls = calls_so (web_ids c) c.fetch.0 c.conn.0 ds (of_three c g o (λ y. EntriesOf (EntrySo c.fetch.0 c.conn.0 y) y ds)
-      (their_entries c.fetch.0 (fetch_in c) (EntrySo c.fetch.0 c.conn.0 c.fetch.0) (λ node is at t s. fetch_entries c.fetch.0 c.conn.0 c.fetch.0 node t (at ∙ are.fetch_rank) (are.fetch node is) s (fetch_not_conn c g o)))
-      (their_entries c.web.0 (web_in c) (EntrySo c.fetch.0 c.conn.0 c.web.0) (λ node is at t s. web_entries c.fetch.0 c.conn.0 c.web.0 node t (are.web node is) s (web_not_fetch c g o) (web_not_conn c g o)))
-      (their_entries c.conn.0 (conn_in c) (EntrySo c.fetch.0 c.conn.0 c.conn.0) (λ node is at t s. conn_entries c.fetch.0 c.conn.0 c.conn.0 node t (are.conn node is) s (conn_not_fetch c g o))))
+  all_calls = calls_so (web_ids c) c.fetch.0 c.conn.0 ds (of_three c o (λ y. EntriesOf (EntrySo c.fetch.0 c.conn.0 y) y ds)
+      (their_entries c.fetch.0 (fetch_in c) (EntrySo c.fetch.0 c.conn.0 c.fetch.0) (λ node is at t s. fetch_entries c.fetch.0 c.conn.0 c.fetch.0 node t (at ∙ are.fetch_rank) (are.fetch node is) s (fetch_not_conn c o)))
+      (their_entries c.web.0 (web_in c) (EntrySo c.fetch.0 c.conn.0 c.web.0) (λ node is at t s. web_entries c.fetch.0 c.conn.0 c.web.0 node t (are.web node is) s (web_not_fetch c o) (web_not_conn c o)))
+      (their_entries c.conn.0 (conn_in c) (EntrySo c.fetch.0 c.conn.0 c.conn.0) (λ node is at t s. conn_entries c.fetch.0 c.conn.0 c.conn.0 node t (are.conn node is) s (conn_not_fetch c o))))
 
   none_asks : AllByRecursion (AsksNone (is_one_of (web_ids c))) ds
   none_asks = asks_none (is_one_of (web_ids c)) ds own.makes
@@ -215,22 +219,27 @@ module _ (c : WebChain) (now : ℕ) (asks : List (Stage Obj Load)) (g h : Object
 
   -- from what is asked for
   pub at_first : Fits c.conn.0 false (scene_of g.book) asks → TellsSo (web_ids c) c.fetch.0 c.conn.0 false ds
-  at_first fits = tells_so (web_ids c) c.fetch.0 c.conn.0 now false (scene_of g.book) (scene_of h.book) asks ds within chained.links none_asks all_calls (is_hidden c g o links) fits uses
+  at_first fits = tells_so (web_ids c) c.fetch.0 c.conn.0 now false (scene_of g.book) (scene_of h.book) asks ds within chained.links none_asks all_calls hidden fits uses
 
   -- from the call of the connection's node
   pub once_entered : (e : GraphEvent) (stage : Stage Obj Load) → IsStageWithin (is_one_of (web_ids c)) stage → EagerStage c.conn.0 stage → (z : EntersFirst now (scene_of g.book) (scene_of h.book) e stage ds) → StandInOrder c.conn.0 (Some e) (told_of ds)
   once_entered e stage in_them eager z =
       let none = subst (AllByRecursion (AsksNone (is_one_of (web_ids c)))) z.1 none_asks in
       let calls = subst (AllByRecursion (CallSo (web_ids c) c.fetch.0 c.conn.0)) z.1 all_calls in
-      let r = tells_so (web_ids c) c.fetch.0 c.conn.0 now true (scene_of g.book) (scene_of h.book) (stage ∷ []) z.0 (in_them, tt) chained.links none.1 calls.1 (is_hidden c g o links) (inr (eager, tt)) z.2 in
+      let r = tells_so (web_ids c) c.fetch.0 c.conn.0 now true (scene_of g.book) (scene_of h.book) (stage ∷ []) z.0 (in_them, tt) chained.links none.1 calls.1 hidden (inr (eager, tt)) z.2 in
       (told_of z.0, ap told_of z.1, r.0, r.1)
 
 pub in_order : (c : WebChain) (entry : Option GraphEvent) (asks : List (Stage Obj Load)) → BeginsSo c entry asks → AreShort asks → (now : ℕ) (g h : Objects Obj) (m n : Heard) → AreChained g (web_ids c) → AreStagesWithin (is_one_of (web_ids c)) asks
     → IsLinked (port_in g.book) (rank g.book) → AreNoded rank_of_obj h → AreOfWeb c h → (k : WentOne ObjStands obj_nature now asks g h m n) → IsOwnCall (web_ids c) asks g h (all_of k.deeds) → IsOpenWeb c g → StandInOrder c.conn.0 entry (told_of (all_of k.deeds))
-in_order c _ _ (by_begin w) short now g h m n chained within links after are k own o = at_first c now _ g h m n chained within links after are k own o ((refl, fetch_not_conn c g o), tt)
+in_order c _ _ (by_begin w) short now g h m n chained within links after are k own o = at_first c now _ g h m n chained within after are k own o.order (is_hidden c g o links) ((refl, fetch_not_conn c o.order), tt)
 in_order c _ _ (by_segment w) (short_message _ _ lt) now g h m n chained within links after are k own o =
-    once_entered c now _ g h m n chained within links after are k own o (Entered (port_at c.conn.0 1) way.Up) (Holds (port_at c.conn.0 1) way.Up (Some w)) (conn_in c) (refl, lt)
-    (offer_enters now (scene_of g.book) (scene_of h.book) (port_at c.conn.0 1) w (all_of k.deeds) (omega arith) o.through.ports.1.2.2 (uses c now _ g h m n chained within links after are k own o))
+    once_entered c now _ g h m n chained within after are k own o.order (is_hidden c g o links) (Entered (port_at c.conn.0 1) way.Up) (Holds (port_at c.conn.0 1) way.Up (Some w)) (conn_in c) (refl, lt)
+    (offer_enters now (scene_of g.book) (scene_of h.book) (port_at c.conn.0 1) w (all_of k.deeds) (omega arith) o.through.ports.1.2.2 (uses c now _ g h m n chained within after are k own o.order (is_hidden c g o links)))
 in_order c _ _ by_tick short now g h m n chained within links after are k own o =
-    once_entered c now _ g h m n chained within links after are k own o (Entered (port_at c.conn.0 4) way.Time) (Holds (port_at c.conn.0 4) way.Time (Some silence)) (conn_in c) (refl, tt)
-    (tick_enters now (scene_of g.book) (scene_of h.book) c.conn.0 (all_of k.deeds) (chained.lives c.conn.0 (conn_in c)) (uses c now _ g h m n chained within links after are k own o))
+    once_entered c now _ g h m n chained within after are k own o.order (is_hidden c g o links) (Entered (port_at c.conn.0 4) way.Time) (Holds (port_at c.conn.0 4) way.Time (Some silence)) (conn_in c) (refl, tt)
+    (tick_enters now (scene_of g.book) (scene_of h.book) c.conn.0 (all_of k.deeds) (chained.lives c.conn.0 (conn_in c)) (uses c now _ g h m n chained within after are k own o.order (is_hidden c g o links)))
+
+-- where a port is closed from outside nothing leaves at once
+pub closing_order : (c : WebChain) (p : Port) (z : Cause) (now : ℕ) (g h : Objects Obj) (m n : Heard) → AreChained g (web_ids c) → is_one_of (web_ids c) p.obj.0 ≡ true → AreNoded rank_of_obj h → AreOfWeb c h
+    → (k : WentOne ObjStands obj_nature now (Closes p z ∷ []) g h m n) → IsOwnCall (web_ids c) (Closes p z ∷ []) g h (all_of k.deeds) → IsInOrder c → Hidden (web_ids c) c.fetch.0 c.conn.0 (scene_of g.book) → StandInOrder c.conn.0 None (told_of (all_of k.deeds))
+closing_order c p z now g h m n chained own_one after are k own o hidden = at_first c now (Closes p z ∷ []) g h m n chained (own_one, tt) after are k own o hidden (tt, tt)

@@ -1,5 +1,5 @@
 -- A new object is plugged below the last of some. Our own.
-use Rattle.std.specs.Prelude.{◌≡◌, ◌+◌, ℕ, true, List, [], ◌∷◌, ◌++◌}
+use Rattle.std.specs.Prelude.{◌≡◌, ℕ, true, List, [], ◌∷◌, ◌++◌}
 use Rattle.nb_frames.specs.Frames.{is_one_of}
 use Rattle.nb_graph.specs.Whole.{Objects, port_at}
 use Rattle.nb_ledger.specs.declared.event.GraphEvent.TheVariants.{Plugged}

@@ -1,14 +1,23 @@
 -- Objects without links, which are to be let go. Our own.
-use Rattle.std.specs.Prelude.{◌≡◌, ◌<◌, ◌≤◌, ℕ, true, List}
+use Rattle.std.specs.Prelude.{◌≡◌, ◌<◌, ◌≤◌, ℕ, true, List, [], ◌∷◌}
+use Rattle.nb_terms.specs.declared.cause.Cause.{Cause}
 use Rattle.nb_frames.specs.Frames.{is_one_of}
 use Rattle.nb_frames.specs.Within.{IsEventWithin}
 use Rattle.nb_graph.specs.Whole.{Objects}
-use Rattle.nb_ledger.specs.Flat.{Heard, Notice}
+use Rattle.nb_ledger.specs.declared.event.GraphEvent.TheVariants.{Closed}
+use Rattle.nb_ledger.specs.declared.port.Port.{Port}
+use Rattle.nb_ledger.specs.Flat.{Heard, Notice, event, flat, message}
 use Rattle.nb_ledger.specs.Ledger.{open_count, port}
 use Rattle.nb_nodes.specs.declared.obj.Obj.{Obj}
 use Rattle.nb_chains.specs.Chains.{AreStillChained}
 use Rattle.nb_chains.specs.Ends.{LivesUnlinked}
 use Rattle.nb_chains.specs.Giving.{CallGives}
+
+-- ports are closed, and nothing else is told
+abbrev pub AreCloses : List Notice → Type 0
+AreCloses [] = Unit {0}
+AreCloses (event e ∷ ns) = ((p : Port) × (z : Cause) × (e ≡ flat (Closed p z))) × AreCloses ns
+AreCloses (message from tag rec a b bytes ∷ ns) = ⊥
 
 -- each of these lives by its one hold, without a link
 abbrev pub AreLoose : List ℕ → Objects Obj → Type 0
@@ -29,4 +38,5 @@ pub record GoesLoose (ids : List ℕ) (x : ℕ) (g h : Objects Obj) (before afte
   pub ns : List Notice
   pub on : AreStillChained ids g h
   pub gives : CallGives (IsEventWithin (is_one_of ids)) g h before after ns
+  pub closes : AreLoose ids g → AreCloses ns
   pub loose : AreLoose ids g → StayLoose ids x g h

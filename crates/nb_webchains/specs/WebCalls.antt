@@ -6,26 +6,29 @@ use Rattle.nb_conns.specs.declared.stream_tag.StreamTag.TheVariants.{Begin, Segm
 use Rattle.nb_conns.specs.StreamTags.{stream_tag_number}
 use Rattle.nb_frames.specs.Frames.{is_one_of}
 use Rattle.nb_frames.specs.Within.{IsEventWithin}
-use Rattle.nb_graph.specs.Deeds.{Offers, Stage, Ticks}
+use Rattle.nb_graph.specs.Deeds.{Closes, Offers, Stage, Ticks}
+use Rattle.nb_graph.specs.Noded.{AreNoded}
 use Rattle.nb_graph.specs.Trace.{NodeEntry, Said}
 use Rattle.nb_graph.specs.Went.{WentOne}
 use Rattle.nb_graph.specs.Whole.{Objects, port_at}
 use Rattle.nb_ledger.specs.declared.event.GraphEvent.{GraphEvent}
+use Rattle.nb_ledger.specs.declared.event.GraphEvent.TheVariants.{Closed}
 use Rattle.nb_ledger.specs.declared.port.Port.{Port}
 use Rattle.nb_ledger.specs.Flat.{Heard, Notice, all}
 use Rattle.nb_nodes.specs.declared.load.Load.{Load}
 use Rattle.nb_nodes.specs.declared.obj.Obj.{Obj}
 use Rattle.nb_nodes.specs.declared.obj.Obj.TheVariants as obj
 use Rattle.nb_nodes.specs.Fetches.{closed_well, moved_text, taken_below}
-use Rattle.nb_nodes.specs.Objects.{obj_nature}
+use Rattle.nb_nodes.specs.Objects.{obj_nature, rank_of_obj}
 use Rattle.nb_nodes.specs.Standing.{ObjStands}
 use Rattle.nb_opens.specs.AloneNotices.{alone_freed}
-use Rattle.nb_opens.specs.Notices.{first_close}
+use Rattle.nb_opens.specs.Notices.{first_close, tells}
 use Rattle.nb_chains.specs.declared.arrival.Arrival.{Arrival}
+use Rattle.nb_chains.specs.Chains.{AreChained}
 use Rattle.nb_chains.specs.Giving.{CallGives, IsMakeWithin}
 use Rattle.nb_webchains.specs.declared.web_chain.WebChain.{WebChain}
 use Rattle.nb_webchains.specs.Orders.{StandInOrder}
-use Rattle.nb_webchains.specs.Releases.{AreShutWhole}
+use Rattle.nb_webchains.specs.Releases.{AreCloses, AreShutWhole}
 use Rattle.nb_webchains.specs.WebChains.{AreOfWeb, AreReleased, IsOpenWeb, IsShutWeb, web_graph, web_ids}
 
 -- no event names another object than these, and none is made
@@ -55,6 +58,8 @@ pub record DoesWeb (c : WebChain) (now : ℕ) (asks : List (Stage Obj Load)) (en
   pub comes : IsOpenWeb c old → ComesOfWeb c new ns
   pub order : IsOpenWeb c old → AreOfWeb c old → AreShort asks → StandInOrder c.conn.0 entry ns
   pub kinds : AreOfWeb c old → AreOfWeb c new
+  pub noded : AreNoded rank_of_obj new
+  pub still : AreChained new (web_ids c)
 
 -- what is asked for where the user begins it by these bytes, of which so many are the host
 abbrev pub begin_said : ℕ → ℕ → List ℕ → Said
@@ -74,13 +79,27 @@ receives_web c rec a = Offers (port_at c.conn.0 1) (segment_said rec a) ∷ []
 abbrev pub ticks_web : WebChain → List (Stage Obj Load)
 ticks_web c = Ticks c.conn.0 ∷ []
 
--- The user closes the open.
+-- As a graph of their own they do what nb_graph says where both ports of the Fetch are closed, one after the other.
+pub record ClosesFetch (c : WebChain) (old new : Objects Obj) (cause : Cause) (ns : List Notice) : Type 0 where
+  pub now : ℕ
+  pub mid : Objects Obj
+  pub first : List Notice
+  pub second : List Notice
+  pub are : ns ≡ first ++ second
+  pub upper : (front : List Notice) → WentOne ObjStands obj_nature now (Closes (port_at c.fetch.0 0) cause ∷ []) (web_graph c old) mid (all front) (all (front ++ first))
+  pub lower : (front : List Notice) → WentOne ObjStands obj_nature now (Closes (port_at c.fetch.0 1) cause ∷ []) mid (web_graph c new) (all front) (all (front ++ second))
+
+-- The user closes the open: first its own port is closed, and what goes down then stands directly after an entry of the connection.
 pub record ClosesWeb (c : WebChain) (old new : Objects Obj) (cause : Cause) (before after : Heard) : Type 0 where
   pub ns : List Notice
   pub gives : WebGives c old new before after ns
+  pub own : ClosesFetch c old new cause ns
   pub shut : IsOpenWeb c old → IsShutWeb c new
-  pub close : IsOpenWeb c old → first_close ns ≡ Some cause
+  pub first : IsOpenWeb c old → (rest : List Notice) × (ns ≡ tells (Closed (port_at c.fetch.0 0) cause) ∷ rest)
+  pub order : IsOpenWeb c old → AreOfWeb c old → StandInOrder c.conn.0 None ns
   pub kinds : AreOfWeb c old → AreOfWeb c new
+  pub noded : AreNoded rank_of_obj new
+  pub still : AreChained new (web_ids c)
 
 -- the file that a Fetch has brought by this trace, if it has
 abbrev pub brought : List (NodeEntry Obj Load) → Option (List ℕ)
@@ -106,14 +125,15 @@ pub record ReleasesEach (ids : List ℕ) (old new : Objects Obj) (before after :
   pub gives : CallGives (IsEventWithin (is_one_of ids)) old new before after (freed_each ids)
   pub released : AreReleased ids old new
 
--- The run ends: all ports are closed, and then they are let go.
+-- The run ends: the open is closed as its user does, then the ports that nothing is plugged to are, and they are let go.
 pub record ShutsWeb (c : WebChain) (old new : Objects Obj) (cause : Cause) (before after : Heard) : Type 0 where
-  pub ns : List Notice
+  pub closed : Objects Obj
+  pub heard : Heard
+  pub closes : ClosesWeb c old closed cause before heard
+  -- what is told of the other ports
+  pub free : List Notice
+  pub are : AreCloses free
   pub mid : Objects Obj
-  pub told : Heard
-  pub gives : WebGives c old mid before told ns
   pub shut : AreShutWhole (web_ids c) mid
-  pub close : first_close ns ≡ Some cause
-  pub lets : ReleasesEach (web_ids c) mid new told after
-  pub all : WebGives c old new before after (ns ++ freed_each (web_ids c))
+  pub gives : WebGives c old new before after (closes.ns ++ (free ++ freed_each (web_ids c)))
   pub released : AreReleased (web_ids c) old new

@@ -1,4 +1,4 @@
-use Rattle.std.proofs.Common.{◌≡◌, ℕ, zero, suc, ◌+◌, ◌<◌, List, [], ◌∷◌, ◌++◌, length, map, take, get_or, sym, ap, subst, arith, add-one}
+use Rattle.std.proofs.Common.{◌≡◌, ℕ, zero, suc, ◌<◌, List, [], ◌∷◌, ◌++◌, length, map, take, get_or, ap, subst, arith, add-one}
 use Rattle.nb_defs.specs.Records.{out_texts, text}
 use Rattle.nb_record.specs.Logged.{Puts}
 use Rattle.nb_runner.proofs.Puts.{Puts-one, Puts-outs}

@@ -10,7 +10,7 @@ returns-clause-begins c = λ kind.
       opens = c.in_ok-ended.ensures.opens now.world.w c.requires.sound;
       used = refl;
       world = refl;
-      sound = c.in_ok-ended.ensures.sound now.world.w c.requires.sound c.requires.few c.requires.own (λ _. c.requires.leases);
+      sound = c.in_ok-ended.ensures.sound now.world.w c.requires.sound c.requires.few c.requires.own (λ _. c.requires.tied);
       serials = omega (arith, c.in_ok-ended.ensures.serials, c.requires.serials);
       linked = record { address = c.in_ok-ended.ensures.address ∙ c.requires.linked.address; up = c.in_ok-ended.ensures.up ∙ c.requires.linked.up };
       waiting = nothing_waits kind (number_by c.in_ok-ended.ended now.world.opens) c.begin.new.self;

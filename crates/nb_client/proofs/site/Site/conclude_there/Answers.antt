@@ -1,4 +1,4 @@
-use Rattle.std.proofs.Common.{◌≡◌, true, [], ◌∷◌, refl, sym, subst}
+use Rattle.std.proofs.Common.{true, [], ◌∷◌, refl, sym, subst}
 use Rattle.nb_defs.specs.Records.{out_texts}
 use Rattle.nb_machine.specs.CommandRecords.{command_record}
 use Rattle.nb_machine.specs.Effects.{shown_as}

@@ -2,7 +2,8 @@ use Rattle.std.proofs.Common.{◌≡◌, true, refl, ◌∷◌, sym, ◌∙◌, 
 use Rattle.nb_runner.specs.declared.command.Deed.{Deed}
 use Rattle.nb_runner.specs.declared.world.World.{World}
 use Rattle.nb_runner.specs.CommandWords.{deed_effect, done_of}
-use Rattle.nb_runner.proofs.CommandLaws.{keeps_table_in, keeps_up_in, world_stays}
+use Rattle.nb_machine.proofs.Words.{keeps_table_in, keeps_up_in}
+use Rattle.nb_runner.proofs.CommandLaws.{world_stays}
 use Rattle.nb_machine.specs.Effects.{effect_in, goes, shown_as, shown_words, sleeps}
 use Rattle.nb_client.specs.Snapshots.{snapshot}
 use Rattle.nb_client.specs.Turning.{ComesToEnd, MovesOn, found_by_script}

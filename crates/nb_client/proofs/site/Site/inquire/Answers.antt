@@ -1,6 +1,16 @@
+use Rattle.std.proofs.Common.{sym, subst}
+use Rattle.nb_runner.specs.declared.world.World.{World}
+use Rattle.nb_client.specs.Soundness.{IsSound}
+use Rattle.nb_client.specs.declared.stage.Stage.TheVariants as stage
 use Rattle.nb_client.proofs.CommandEnds.{intends_planned}
+use Rattle.nb_client.proofs.Moves.{settings_sound}
 use Rattle.nb_client.proofs.Results.{if_ok}
 use Rattle.nb_client.proofs.site.Site.inquire.Goals as goal
+
+pub intend-requires-2-clause-sound : goal.intend-requires-2-clause-sound
+intend-requires-2-clause-sound c =
+    let now = c.args.self.now in
+    subst (λ (w : World). IsSound now.used w now.opens (stage.Running c.args.script)) (sym c.in_ok-intent.ensures.after) (settings_sound _ _ c.requires.sound)
 
 pub returns-clause-moves : goal.returns-clause-moves
 returns-clause-moves c =

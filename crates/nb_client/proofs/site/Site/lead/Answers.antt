@@ -1,4 +1,4 @@
-use Rattle.std.proofs.Common.{◌∷◌, [], ◌++◌, map, refl, subst}
+use Rattle.std.proofs.Common.{◌∷◌, [], map, refl, subst}
 use Rattle.nb_defs.specs.Causes.{ok}
 use Rattle.nb_defs.specs.Records.{out_texts, result, text}
 use Rattle.nb_record.specs.Logged.{Puts}

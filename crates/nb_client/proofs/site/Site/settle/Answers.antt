@@ -1,11 +1,17 @@
-use Rattle.std.proofs.Common.{[], ◌∷◌, refl, subst, append-nil}
+use Rattle.std.proofs.Common.{[], ◌∷◌, refl, sym, subst, append-nil}
 use Rattle.nb_defs.specs.Records.{out_texts, result}
 use Rattle.nb_record.specs.Logged.{Puts}
 use Rattle.nb_traced.specs.Pieces.{event_records}
 use Rattle.nb_runner.proofs.Puts.{Puts-outs}
 use Rattle.nb_network.specs.Many.{AreSound}
 use Rattle.nb_runner.specs.declared.world.World.{World}
+use Rattle.nb_client.proofs.Moves.{settings_sound}
 use Rattle.nb_client.proofs.site.Site.settle.Goals as goal
+
+pub let_go-requires-clause-sound : goal.let_go-requires-clause-sound
+let_go-requires-clause-sound c =
+    let m = c.args.self.now.opens in
+    subst (λ (w : World). AreSound w.w w.opens w.net m) (sym c.follow.ensures) (settings_sound _ _ c.requires.sound).opens
 
 pub returns : goal.returns
 returns c =

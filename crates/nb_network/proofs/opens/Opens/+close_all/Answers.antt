@@ -33,7 +33,7 @@ returns-clause-closes t c =
     ((w opens : ℕ) → AreSound w opens c.args.net.now c.args.self.now → ClosesMany c.args.self.now c.args.net.now c.args.now opens c.args.cause.now [] [] c.close_all.new.self c.args.gathered.now c.close_all.new.gathered)
     c.close_all.result
     (λ h w opens sound.
-    closes_more c.args.self.now c.args.net.now w opens c.args.now c.args.cause.now f.0 f.1 c.close_first.new.self c.close_first.new.net c.args.gathered.now c.close_first.new.gathered f.2 sound x c.opens_keep.ensures c.closed_opens_keep.ensures c.close_all.new.self c.close_all.new.gathered
+    closes_more c.args.self.now c.args.net.now w opens c.args.now c.args.cause.now f.0 f.1 c.close_first.new.self c.close_first.new.net c.args.gathered.now c.close_first.new.gathered f.2 sound x c.close_all.new.self c.close_all.new.gathered
     (h w opens (first_leaves c.args.self.now c.args.net.now w opens c.args.now c.args.cause.now f.0 f.1 c.close_first.new.self c.close_first.new.net c.args.gathered.now c.close_first.new.gathered f.2 sound x).sound))
     c.close_all.ensures.closes
 

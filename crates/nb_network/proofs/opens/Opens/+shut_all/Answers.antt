@@ -51,7 +51,7 @@ returns-clause-closes t c =
     ((w opens : ℕ) → AreSound w opens c.args.net.now c.args.self.now → ClosesMany c.args.self.now c.args.net.now c.args.now opens c.args.cause.now (waiting_pieces c.args.kind c.args.waits) [] c.shut_all.new.self c.args.gathered.now c.shut_all.new.gathered)
     c.shut_all.result
     (λ h w opens sound.
-    shuts_more c.args.kind c.args.self.now c.args.net.now w opens c.args.now c.args.cause.now f.0 f.1 c.args.waits c.in_ok-left.left c.shut_first.new.self c.shut_first.new.net c.args.gathered.now c.shut_first.new.gathered f.2 sound c.requires.waits x c.opens_keep.ensures c.closed_opens_keep.ensures c.shut_all.new.self c.shut_all.new.gathered
+    shuts_more c.args.kind c.args.self.now c.args.net.now w opens c.args.now c.args.cause.now f.0 f.1 c.args.waits c.in_ok-left.left c.shut_first.new.self c.shut_first.new.net c.args.gathered.now c.shut_first.new.gathered f.2 sound c.requires.waits x c.shut_all.new.self c.shut_all.new.gathered
     (h w opens (shut_sound c.args.kind c.args.self.now c.args.net.now w opens c.args.now c.args.cause.now f.0 f.1 c.args.waits c.in_ok-left.left c.shut_first.new.self c.shut_first.new.net c.args.gathered.now c.shut_first.new.gathered f.2 sound c.requires.waits x)))
     c.shut_all.ensures.closes
 

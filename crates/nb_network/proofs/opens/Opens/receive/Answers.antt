@@ -2,11 +2,11 @@ use Rattle.std.proofs.Common.{◌≡◌, Some, get_or, sym, ◌∙◌, subst, ap
 use Rattle.nb_graph.specs.Noded.{AreNoded}
 use Rattle.nb_graph.specs.Whole.{Objects}
 use Rattle.nb_ledger.specs.declared.event.Way.TheVariants.{Up}
-use Rattle.nb_machine.specs.Lives.{Live, message}
+use Rattle.nb_machine.specs.Lives.{Live}
 use Rattle.nb_nodes.specs.Objects.{rank_of_obj}
 use Rattle.nb_nodes.specs.declared.obj.Obj.{Obj}
 use Rattle.nb_open.specs.declared.open.Open.{Open}
-use Rattle.nb_open.specs.Exchanges.{Exchanges, SuitsBy}
+use Rattle.nb_open.specs.Exchanges.{Exchanges, IsInput}
 use Rattle.nb_open.specs.Open.{IsOpenOf}
 use Rattle.nb_network.specs.Many.{Many}
 use Rattle.nb_network.specs.Steps.{IsOpenAt}
@@ -16,17 +16,20 @@ use Rattle.nb_network.proofs.opens.Opens.receive.Goals as goal
 pub returns-clause-receives : goal.returns-clause-receives
 returns-clause-receives c = λ o at. (
   c.in_ok-ended.ended,
-  let list = c.args.self.now.list in
+  λ came.
+      let list = c.args.self.now.list in
       let x = c.index.result.now in
+      let s = c.in_ok-ended.desk.told.value in
+      let e = c.in_ok-ended.ended in
       let v : c.self.inside.list.items ≡ list = ap (λ (m : Many). m.list) c.self.view_is in
       let same : x ≡ o = c.index.ensures ∙ ap (λ os. get_or os c.args.place x) v ∙ open_at list c.args.place x o at in
       let there : IsOpenAt c.self.inside.list.items c.args.place o = record { before = at.before; behind = at.behind; all = v ∙ at.all; place_is = at.place_is } in
       record {
-        told = c.in_ok-ended.desk.told.value;
-        does = subst (λ (h : Objects Obj). (l : Live) → IsOpenOf c.args.self.now.graph o l → SuitsBy l.kind l c.args.arrival.now → Exchanges o l (message c.args.rec c.args.arrival.now.port c.args.arrival.now.body.now c.args.now) c.args.net.now (Some Up) c.args.self.now.graph h c.in_ok-ended.desk.told.value c.in_ok-ended.ended) (sym c.settle.ensures.graph)
-            (subst (λ (m : Many). (l : Live) → IsOpenOf m.graph o l → SuitsBy l.kind l c.args.arrival.now → Exchanges o l (message c.args.rec c.args.arrival.now.port c.args.arrival.now.body.now c.args.now) c.args.net.now (Some Up) m.graph c.receive.new.graph c.in_ok-ended.desk.told.value c.in_ok-ended.ended) c.self.view_is
-            (subst (λ (y : Open). (l : Live) → IsOpenOf c.self.inside.graph y l → SuitsBy l.kind l c.args.arrival.now → Exchanges y l (message c.args.rec c.args.arrival.now.port c.args.arrival.now.body.now c.args.now) c.args.net.now (Some Up) c.self.inside.graph c.receive.new.graph c.in_ok-ended.desk.told.value c.in_ok-ended.ended) same
-            (λ l i u. c.in_ok-ended.ensures l i u)));
+        told = s;
+        does = subst (λ (h : Objects Obj). (l : Live) → IsOpenOf c.args.self.now.graph o l → IsInput o l c.args.rec c.args.arrival.now c.args.now came → Exchanges o l came c.args.net.now (Some Up) c.args.self.now.graph h s e) (sym c.settle.ensures.graph)
+            (subst (λ (m : Many). (l : Live) → IsOpenOf m.graph o l → IsInput o l c.args.rec c.args.arrival.now c.args.now came → Exchanges o l came c.args.net.now (Some Up) m.graph c.receive.new.graph s e) c.self.view_is
+            (subst (λ (y : Open). (l : Live) → IsOpenOf c.self.inside.graph y l → IsInput y l c.args.rec c.args.arrival.now c.args.now came → Exchanges y l came c.args.net.now (Some Up) c.self.inside.graph c.receive.new.graph s e) same
+            (λ l i u. c.in_ok-ended.ensures l came i u)));
         settles = c.in_ok-found.ensures.settles o there;
         noded = subst (λ (h : Objects Obj). AreNoded rank_of_obj h) (sym c.settle.ensures.graph) c.has_nodes.ensures;
       },

@@ -1,4 +1,4 @@
-use Rattle.std.proofs.Common.{◌≡◌, ◌==◌, ◌∷◌, [], ◌++◌, get_or, ◌∙◌, subst, ap}
+use Rattle.std.proofs.Common.{◌≡◌, ◌==◌, ◌∷◌, [], ◌++◌, get_or, sym, ◌∙◌, subst, ap}
 use Rattle.std.specs.List.{AllByRecursion, remove}
 use Rattle.nb_defs.specs.Records.{ended, out_texts}
 use Rattle.nb_machine.specs.Lives.{Live}
@@ -7,11 +7,18 @@ use Rattle.nb_runner.proofs.Puts.{Puts-append}
 use Rattle.nb_stack.specs.Bound.{without}
 use Rattle.nb_teller.specs.Spelling.{Spelling}
 use Rattle.nb_open.specs.declared.open.Open.{Open}
-use Rattle.nb_open.specs.Ends.{ShutsWith}
+use Rattle.nb_open.specs.Ends.{MayWaitBeside, ShutsWith}
 use Rattle.nb_open.specs.Open.{IsOpenOf, LivesSome}
 use Rattle.nb_network.specs.Many.{Many}
+use Rattle.nb_network.specs.Shutting.{ends_beside, parted_by}
 use Rattle.nb_network.specs.Steps.{freed_of}
+use Rattle.nb_network.proofs.Shuts.{may_beside}
 use Rattle.nb_network.proofs.opens.Opens.shut_first.Goals as goal
+
+pub shut_down-requires-clause-beside : goal.shut_down-requires-clause-beside
+shut_down-requires-clause-beside c =
+    let x = c.remove-open.result in
+    subst (λ p. MayWaitBeside p.0 x.objects) (sym (c.parted-with.ensures ∙ ap (λ b. parted_by b c.args.waits) c.ends_with.ensures)) (may_beside x.objects (x.speaker.number == c.args.beside) c.args.waits)
 
 pub returns : goal.returns
 returns c = record {
@@ -21,14 +28,15 @@ returns c = record {
       let end = out_texts (ended x.speaker.number c.args.cause.now ∷ []) in
       let v : c.self.inside.list.items ≡ o ∷ rest = ap (λ (m : Many). m.list) c.self.view_is ∙ is in
       let same : x ≡ o = c.remove-open.ensures.value ∙ ap (λ os. get_or os 0 x) v in
+      let parts : c.parted-with.result ≡ parted_by (ends_beside x.objects (x.speaker.number == c.args.beside)) c.args.waits = c.parted-with.ensures ∙ ap (λ b. parted_by b c.args.waits) c.ends_with.ensures in
       let some : LivesSome c.args.self.now.graph o = (subst (AllByRecursion (LivesSome c.args.self.now.graph)) is c.requires.sound.2.lives).0 in
       record {
-        now = x.speaker.number == c.args.beside;
-        parts = ap (λ p. p.1) c.parted-with.ensures;
+        now = ends_beside x.objects (x.speaker.number == c.args.beside);
+        parts = ap (λ p. p.1) parts;
         told = told;
-        shuts = subst (λ w. ShutsWith c.args.kind o w c.args.cause.now c.args.self.now.graph c.shut_down.new.graph told) (ap (λ p. p.0) c.parted-with.ensures)
-            (subst (λ (m : Many). (l : Live) → IsOpenOf m.graph o l → ShutsWith c.args.kind o c.parted-with.result.0 c.args.cause.now m.graph c.shut_down.new.graph told) c.self.view_is
-            (subst (λ (y : Open). (l : Live) → IsOpenOf c.self.inside.graph y l → ShutsWith c.args.kind y c.parted-with.result.0 c.args.cause.now c.self.inside.graph c.shut_down.new.graph told) same c.in_ok-desk.ensures)
+        shuts = subst (λ w. ShutsWith c.args.kind o w c.args.cause.now c.args.net.now c.args.self.now.graph c.shut_down.new.graph told) (ap (λ p. p.0) parts)
+            (subst (λ (m : Many). (l : Live) → IsOpenOf m.graph o l → ShutsWith c.args.kind o c.parted-with.result.0 c.args.cause.now c.args.net.now m.graph c.shut_down.new.graph told) c.self.view_is
+            (subst (λ (y : Open). (l : Live) → IsOpenOf c.self.inside.graph y l → ShutsWith c.args.kind y c.parted-with.result.0 c.args.cause.now c.args.net.now c.self.inside.graph c.shut_down.new.graph told) same c.in_ok-desk.ensures)
             some.0 some.1);
         list = c.remove-open.ensures.items ∙ ap (λ os. remove os 0) v;
         net_is = subst (λ (y : Open). c.unbind.new.self ≡ freed_of c.args.net.now y) same

@@ -4,19 +4,19 @@ use Rattle.nb_open.specs.Settling.{told_so_far, stays_open}
 use Rattle.nb_open.proofs.Settlements.{has_spelled, settles_back, settles_over}
 use Rattle.nb_open.proofs.open.Open.settle.Goals as goal
 
-pub returns-in-Some : goal.returns-in-Some
-returns-in-Some c =
+pub returns-in_ok-end-in-Some : goal.returns-in_ok-end-in-Some
+returns-in_ok-end-in-Some c =
     let s = c.args.out.now.told.value in
     let has : HasSpelled s (Some c.in-Some.cause) = has_spelled c.deref.result.now s c.in_ok-cause.field-0 (Some c.in-Some.cause) c.deref.ensures c.in-Some.is c.in_ok-cause.ensures in
-    settles_over c.args.self.now s c.args.graph.now c.end.new.graph (told_so_far c.args.out.now) (told_so_far c.end.new.out) c.end.result c.in-Some.cause c.end.ensures.cause has c.end.ensures.lets
+    settles_over c.args.self.now s c.args.graph.now c.end.new.graph (told_so_far c.args.out.now) (told_so_far c.end.new.out) c.in_ok-end-in-Some.field-0 c.in-Some.cause c.in_ok-end-in-Some.ensures.cause has c.in_ok-end-in-Some.ensures.lets
 
-pub returns-in-None : goal.returns-in-None
-returns-in-None c =
+pub returns-in_ok-end-in-None : goal.returns-in_ok-end-in-None
+returns-in_ok-end-in-None c =
     let s = c.args.out.now.told.value in
     let has : HasSpelled s None = has_spelled c.deref.result.now s c.in_ok-cause.field-0 None c.deref.ensures c.in-None.is c.in_ok-cause.ensures in
     let stuck : s.is_stuck ≡ true = (cc) in
-    settles_back c.args.self.now s c.args.graph.now c.end-in-None.new.graph (told_so_far c.args.out.now) (told_so_far c.end-in-None.new.out) c.end-in-None.result c.no_route-cause.result c.end-in-None.ensures.cause
-    c.close.new.graph (told_so_far c.close.new.out) has stuck c.no_route-cause.ensures c.close.ensures.on c.close.ensures.closes c.end-in-None.ensures.lets
+    settles_back c.args.self.now s c.args.graph.now c.end-in-None.new.graph (told_so_far c.args.out.now) (told_so_far c.end-in-None.new.out) c.in_ok-end-in-None.field-0 c.no_route-cause.result c.in_ok-end-in-None.ensures.cause
+    c.close.new.graph (told_so_far c.close.new.out) has stuck c.no_route-cause.ensures c.close.ensures.on c.close.ensures.closes c.in_ok-end-in-None.ensures.lets
 
 pub returns-in-None-2 : goal.returns-in-None-2
 returns-in-None-2 c =

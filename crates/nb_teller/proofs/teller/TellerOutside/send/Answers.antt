@@ -37,3 +37,9 @@ returns-in-Ok-Address c =
     let put = c.put_address.ensures in
     let tag : 6 ≡ m.tag = subst (λ z. tag_number z ≡ m.tag) c.in-Ok-Address.field-0-is c.in-Ok-Address.ensures in
     record { given = message_told t.net.now t.who.now t.told.value c.deref_mut-in-Ok-Address.result.now c.put_address.new.self c.args._from m.tag 6 m.rec m.a m.b (m.first.now ++ m.second.now) c.deref_mut-in-Ok-Address.ensures.value tag (put.closed, put.more, λ kept. (put.bytes, put.found), λ kept. put.stuck ∙ sym (or-false c.deref_mut-in-Ok-Address.result.now.is_stuck)) }
+
+pub returns-in-Err : goal.returns-in-Err
+returns-in-Err c =
+    let t = c.args.self.now in
+    let m = c.args.msg.now in
+    record { given = message_told t.net.now t.who.now t.told.value c.deref_mut-in-Err.result.now c.send_two.new.told c.args._from m.tag m.tag m.rec m.a m.b (m.first.now ++ m.second.now) c.deref_mut-in-Err.ensures.value refl c.send_two.ensures }

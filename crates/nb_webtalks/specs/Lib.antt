@@ -1,0 +1,4 @@
+pub mod TalkStands
+pub mod Tellings
+pub mod Comings
+pub mod Calls
