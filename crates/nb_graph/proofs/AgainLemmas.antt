@@ -4,8 +4,8 @@ use Rattle.std.proofs.Common.{◌≡◌, ◌+◌, ◌<◌, ◌≤◌, IfSome, ar
 use Rattle.nb_ledger.specs.declared.message.Msg.{Msg}
 use Rattle.nb_ledger.specs.declared.port.Port.{Port}
 use Rattle.nb_ledger.specs.Ledger.{Ledger}
-use Rattle.nb_graph.specs.Trace.{Nature, NodeEntry, Said}
-use Rattle.nb_graph.specs.declared.effects.Fx.{Fx}
+use Rattle.nb_effects.specs.Trace.{Nature, NodeEntry, Said}
+use Rattle.nb_effects.specs.declared.effects.Fx.{Fx}
 use Rattle.nb_graph.specs.Again.{Delivered, Gives, GoesFurther, GoesOn, Left, LeftOn}
 
 module _ {N L : Type 0} (stands : N → List (NodeEntry N L) → Type 0) (known : Nature N L) (now : ℕ) (at : Port) (m : Said) (a b d : Ledger) (na nb nd : List N) (before mid next : Heard) where

@@ -3,24 +3,24 @@ use Rattle.nb_ledger.specs.Flat.{Heard, Notice}
 use Rattle.std.proofs.Common.{◌≡◌, ℕ, ◌⊎◌, true, List, [], ◌∷◌, ◌++◌, Option, refl, ap, sym, ◌∙◌, subst, append-nil}
 use Rattle.nb_ledger.specs.GraphRun.{OnStack, IsIdle, GraphRunOf}
 use Rattle.nb_ledger.specs.Ledger.{Ledger, busy, Agrees, run_state}
-use Rattle.nb_graph.specs.Calm.{Calm, Shrinks}
-use Rattle.nb_graph.specs.Effects.{MayAskBelow}
-use Rattle.nb_graph.specs.declared.effects.Fx.{Fx}
-use Rattle.nb_graph.specs.Trace.{Nature, NodeEntry, Said, lent, loads, carried}
+use Rattle.nb_effects.specs.Calm.{Calm, Shrinks}
+use Rattle.nb_effects.specs.Effects.{MayAskBelow}
+use Rattle.nb_effects.specs.declared.effects.Fx.{Fx}
+use Rattle.nb_effects.specs.Trace.{Nature, NodeEntry, Said, lent, loads, carried}
 use Rattle.nb_ledger.specs.declared.port.Port.{Port}
-use Rattle.nb_graph.specs.Deeds.{makes_of, emit_of, few_of, closes_of, runs_of, notice_of, Deed, Stage, Turn, turns}
-use Rattle.nb_graph.specs.Follows.{UsesStack}
-use Rattle.nb_graph.specs.Scene.{Scene, scene_of}
-use Rattle.nb_graph.specs.Accounts.{Account, JoinedEnds, account}
-use Rattle.nb_graph.specs.Flows.{IsShut, Still}
-use Rattle.nb_graph.specs.Moves.{Calms}
-use Rattle.nb_graph.proofs.AccountLemmas.{Calms-idle, Calms-turn, Calms-none, Calms-then, Calms-weaken, Calms-books, Still-both}
-use Rattle.nb_graph.specs.Order.{none}
-use Rattle.nb_graph.proofs.OrderLemmas.{lets-append}
+use Rattle.nb_effects.specs.Deeds.{makes_of, emit_of, few_of, closes_of, runs_of, notice_of, Deed, Stage, Turn, turns}
+use Rattle.nb_effects.specs.Follows.{UsesStack}
+use Rattle.nb_effects.specs.Scene.{Scene, scene_of}
+use Rattle.nb_effects.specs.Accounts.{Account, JoinedEnds, account}
+use Rattle.nb_effects.specs.Flows.{IsShut, Still}
+use Rattle.nb_effects.specs.Moves.{Calms}
+use Rattle.nb_effects.proofs.AccountLemmas.{Calms-idle, Calms-turn, Calms-none, Calms-then, Calms-weaken, Calms-books, Still-both}
+use Rattle.nb_effects.specs.Order.{none}
+use Rattle.nb_effects.proofs.OrderLemmas.{lets-append}
 use Rattle.nb_ledger.specs.Flat.{Given, Notice}
 use Rattle.nb_graph.specs.Lives.{StaysTraced, CalmFor, RunFor, Same, Back, here, nodes_at}
-use Rattle.nb_graph.proofs.ShrinkLemmas.{Calm-refl, Calm-trans}
-use Rattle.nb_graph.proofs.RunsLemmas.{IsRun-none, IsRun-trans}
+use Rattle.nb_effects.proofs.ShrinkLemmas.{Calm-refl, Calm-trans}
+use Rattle.nb_effects.proofs.RunsLemmas.{IsRun-none, IsRun-trans}
 use Rattle.nb_graph.proofs.LivesLemmas.{Lives-opened, Lives-under, Lives-above, Lives-turn, Lives-then, Lives-after, Lives-none, Lives-weaken}
 use Rattle.nb_graph.proofs.OwingLemmas.{Same-then, Back-then, Back-same, Same-back}
 

@@ -1,6 +1,6 @@
 -- Bytes on links through the call of a node, and through a whole entry from below or by time.
-use Rattle.nb_graph.proofs.AccountLemmas.{Midway-append, start-joined}
-use Rattle.nb_graph.specs.Trace.{Nature}
+use Rattle.nb_effects.proofs.AccountLemmas.{Midway-append, start-joined}
+use Rattle.nb_effects.specs.Trace.{Nature}
 use Rattle.std.proofs.Common.{Some, ◌≡◌, ℕ, ◌≤◌, inl, inr, Bool, true, false, List, [], ◌∷◌, ◌++◌, eqb, cond, refl, ap, sym, ◌∙◌, append_assoc, append-nil}
 use Rattle.std.proofs.lemmas.Bool.{cases_eq, cases_Bool, false≢true}
 use Rattle.nb_ledger.specs.declared.port.Port.{Port}
@@ -12,17 +12,17 @@ use Rattle.nb_ledger.specs.declared.event.Way.TheVariants.{Time, Up}
 use Rattle.nb_graph.proofs.MakeLemmas.{is-port-other}
 use Rattle.nb_ledger.specs.GraphRun.{IsOpen}
 use Rattle.nb_ledger.specs.Ledger.{Ledger, port, rank, busy, open_count}
-use Rattle.nb_graph.specs.Deeds.{Deed, writes}
-use Rattle.nb_graph.specs.Whole.{IsLinked}
-use Rattle.nb_graph.specs.Accounts.{Account, JoinedEnds, joined, parted, account, after_note, enters, is_same_port, rests}
-use Rattle.nb_graph.specs.Flows.{IsShut, Still, Asking, Delivering, DoesEffects, by_no_slot, own, counted}
-use Rattle.nb_graph.specs.Moves.{Calms, Livens, Asks, HasAsked, always, none_due}
-use Rattle.nb_graph.proofs.LivensLemmas.{cases_peer, port-eq}
-use Rattle.nb_graph.proofs.AccountLemmas.{Joined-mild, account-append}
-use Rattle.nb_graph.specs.Moves.{Mild}
-use Rattle.nb_graph.proofs.CalmLemmas.{linked-apart}
-use Rattle.nb_graph.proofs.DownLemmas.{nil-right}
-use Rattle.nb_graph.proofs.PassLemmas.{own-at, own-else, counted-at, counted-else}
+use Rattle.nb_effects.specs.Deeds.{Deed, writes}
+use Rattle.nb_effects.specs.Whole.{IsLinked}
+use Rattle.nb_effects.specs.Accounts.{Account, JoinedEnds, joined, parted, account, after_note, enters, is_same_port, rests}
+use Rattle.nb_effects.specs.Flows.{IsShut, Still, Asking, Delivering, DoesEffects, by_no_slot, own, counted}
+use Rattle.nb_effects.specs.Moves.{Calms, Livens, Asks, HasAsked, always, none_due}
+use Rattle.nb_effects.proofs.LivensLemmas.{cases_peer, port-eq}
+use Rattle.nb_effects.proofs.AccountLemmas.{Joined-mild, account-append}
+use Rattle.nb_effects.specs.Moves.{Mild}
+use Rattle.nb_effects.proofs.CalmLemmas.{linked-apart}
+use Rattle.nb_effects.proofs.DownLemmas.{nil-right}
+use Rattle.nb_effects.proofs.PassLemmas.{own-at, own-else, counted-at, counted-else}
 
 -- an open port isn't shut
 pub open-not-shut : (v : PortState) → IsOpen v → open_count v ≡ 0 → ⊥

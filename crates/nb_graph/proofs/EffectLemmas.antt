@@ -1,22 +1,22 @@
 -- Bytes on links through the effects of an entry: makes, downs, ups, closes.
-use Rattle.nb_graph.proofs.AccountLemmas.{Midway-append}
-use Rattle.nb_graph.specs.Trace.{Nature}
+use Rattle.nb_effects.proofs.AccountLemmas.{Midway-append}
+use Rattle.nb_effects.specs.Trace.{Nature}
 use Rattle.std.proofs.Common.{◌≡◌, ℕ, ◌≤◌, inl, inr, true, false, List, [], ◌++◌, Option, Some, None, IfSome, refl, ap, sym, ◌∙◌, subst, append_assoc, append-nil, arith}
 use Rattle.std.proofs.lemmas.Bool.{cases_eq, cases_Bool, eq-eqb, ne_eqb, false≢true}
 use Rattle.nb_ledger.specs.declared.port.Port.{Port}
 use Rattle.nb_ledger.specs.Ledger.{Ledger, busy}
-use Rattle.nb_graph.specs.declared.effects.Emit.{Emit}
-use Rattle.nb_graph.specs.declared.effects.Fx.{Fx}
-use Rattle.nb_graph.specs.Deeds.{Deed}
-use Rattle.nb_graph.specs.Effects.{AreDowns, AreUps, IsUp}
-use Rattle.nb_graph.specs.Whole.{port_at}
-use Rattle.nb_graph.specs.Accounts.{Account, account, emit_bytes, few_bytes, fx_bytes}
-use Rattle.nb_graph.specs.Flows.{IsClear, Closing, Downs, Delivering, DoesEffects, Leaves, Making, by_no_slot}
-use Rattle.nb_graph.specs.Moves.{Livens, HasAsked, always, asked_due, none_due}
-use Rattle.nb_graph.proofs.LivensLemmas.{Livens-then, cases_peer, port-eq}
-use Rattle.nb_graph.proofs.AccountLemmas.{account-append}
-use Rattle.nb_graph.proofs.FlowLemmas.{emit-elsewhere, few-zero}
-use Rattle.nb_graph.proofs.RiseLemmas.{quiet-none, quiet-same, quiet-clear}
+use Rattle.nb_effects.specs.declared.effects.Emit.{Emit}
+use Rattle.nb_effects.specs.declared.effects.Fx.{Fx}
+use Rattle.nb_effects.specs.Deeds.{Deed}
+use Rattle.nb_effects.specs.Effects.{AreDowns, AreUps, IsUp}
+use Rattle.nb_effects.specs.Whole.{port_at}
+use Rattle.nb_effects.specs.Accounts.{Account, account, emit_bytes, few_bytes, fx_bytes}
+use Rattle.nb_effects.specs.Flows.{IsClear, Closing, Downs, Delivering, DoesEffects, Leaves, Making, by_no_slot}
+use Rattle.nb_effects.specs.Moves.{Livens, HasAsked, always, asked_due, none_due}
+use Rattle.nb_effects.proofs.LivensLemmas.{Livens-then, cases_peer, port-eq}
+use Rattle.nb_effects.proofs.AccountLemmas.{account-append}
+use Rattle.nb_effects.proofs.FlowLemmas.{emit-elsewhere, few-zero}
+use Rattle.nb_effects.proofs.RiseLemmas.{quiet-none, quiet-same, quiet-clear}
 
 -- what an entry sends downwards, and upwards
 pub downs-bytes : {N L : Type 0} (known : Nature N L) (bytes : List ℕ) (len : ℕ) (fx : Fx N L) → AreUps len fx.ups → (k : ℕ) → 1 ≤ k → fx_bytes known k bytes fx ≡ few_bytes known k bytes fx.downs

@@ -10,12 +10,12 @@ use Rattle.nb_ledger.specs.GraphRun.{link_count}
 use Rattle.nb_ledger.specs.Ledger.{Ledger, found, object_lives, holds, busy, port, ties, unused, leaves, open_count}
 use Rattle.nb_ledger.specs.Changes.{SetsHolds}
 use Rattle.nb_ledger.specs.Settled.{Settles}
-use Rattle.nb_graph.specs.Whole.{IsQuiet, IsGraph, KeepsRanks}
-use Rattle.nb_graph.specs.Calm.{Shrinks, IsSteady}
+use Rattle.nb_effects.specs.Whole.{IsQuiet, IsGraph, KeepsRanks}
+use Rattle.nb_effects.specs.Calm.{Shrinks, IsSteady}
 use Rattle.nb_graph.specs.Ending.{LetsGo}
-use Rattle.nb_graph.proofs.WholeLemmas.{but_same, but_other}
-use Rattle.nb_graph.proofs.AgesLemmas.{Ages-refl, Ages-same, Ages-settle, Ages-trans}
-use Rattle.nb_graph.proofs.ShrinkLemmas.{Shrinks-settle}
+use Rattle.nb_effects.proofs.WholeLemmas.{but_same, but_other}
+use Rattle.nb_effects.proofs.AgesLemmas.{Ages-refl, Ages-same, Ages-settle, Ages-trans}
+use Rattle.nb_effects.proofs.ShrinkLemmas.{Shrinks-settle}
 
 pub IsQuiet-shrinks : {old new : Ledger} → Shrinks old new → IsQuiet old → IsQuiet new
 IsQuiet-shrinks {old} {new} s q = record { idle = λ x. s.same_busy x ∙ q.idle x; settled = λ x k. s.same_leaves x k ∙ q.settled x k }

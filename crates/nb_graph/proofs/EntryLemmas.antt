@@ -2,11 +2,11 @@
 use Rattle.nb_ledger.specs.Flat.{Given, flat, event}
 use Rattle.std.proofs.Common.{◌≡◌, ◌≢◌, ℕ, Bool, false, List, [], ◌∷◌, ◌++◌, refl, ap}
 use Rattle.nb_ledger.specs.declared.event.GraphEvent.{GraphEvent}
-use Rattle.nb_graph.specs.Trace.{Nature, NodeEntry}
-use Rattle.nb_graph.specs.declared.effects.Fx.{Fx}
-use Rattle.nb_graph.specs.Deeds.{Deed, writes, Stage, Calls, Hands}
-use Rattle.nb_graph.specs.Follows.{UsesStack}
-use Rattle.nb_graph.specs.Scene.{Scene, after_noted}
+use Rattle.nb_effects.specs.Trace.{Nature, NodeEntry}
+use Rattle.nb_effects.specs.declared.effects.Fx.{Fx}
+use Rattle.nb_effects.specs.Deeds.{Deed, writes, Stage, Calls, Hands}
+use Rattle.nb_effects.specs.Follows.{UsesStack}
+use Rattle.nb_effects.specs.Scene.{Scene, after_noted}
 use Rattle.nb_graph.specs.Lives.{Seats, StaysTraced, Loses, Same, Back, AllBack, Lends, LendsFirst, Stays, here}
 use Rattle.nb_graph.proofs.LivesLemmas.{Lives-both, Lives-say, Lives-then, Lives-above, Lives-note}
 use Rattle.nb_graph.proofs.OwingLemmas.{Same-lends, Same-first, AllBack-first}

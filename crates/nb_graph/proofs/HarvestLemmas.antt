@@ -2,7 +2,7 @@
 use Rattle.std.proofs.Common.{◌≡◌, ◌≢◌, ℕ, ◌<◌, true, List, length, set, get_or, slice_get, Option, Some, ap, sym, ◌∙◌}
 use Rattle.nb_ledger.specs.declared.port.ObjId.{ObjId}
 use Rattle.nb_ledger.specs.Ledger.{Ledger, object_lives, place}
-use Rattle.nb_graph.specs.Whole.{Harvests}
+use Rattle.nb_effects.specs.Whole.{Harvests}
 use Rattle.nb_graph.proofs.LivelyLemmas.{slice_get-at, slice_get-set}
 use Rattle.nb_graph.proofs.SeatLemmas.{place-apart, slice_get-set_other}
 

@@ -10,31 +10,31 @@ use Rattle.nb_ledger.specs.declared.event.GraphEvent.{GraphEvent}
 use Rattle.nb_ledger.specs.declared.event.GraphEvent.TheVariants.{Made, Held, Plugged, Dropped}
 use Rattle.nb_ledger.specs.Flat.{Tells}
 use Rattle.nb_ledger.specs.Ledger.{object_lives, Ledger, busy, open_count, port, run_state}
-use Rattle.nb_graph.specs.declared.effects.Fx.{Fx}
-use Rattle.nb_graph.specs.Trace.{Nature, Said, NodeEntry}
-use Rattle.nb_graph.specs.Deeds.{writes, turns, is_dead, Offers, Ticks, Hands, Stage}
-use Rattle.nb_graph.specs.Deeds.{Deed, Gives, MustBegin, MustMake, MustPlug, Wants, begins}
-use Rattle.nb_graph.specs.Follows.{UsesStack, refused, ticks_none, enters_up, enters_down, offered_up, offered_down, plugs, held, has_begun, made_outside}
-use Rattle.nb_graph.specs.Scene.{Scene, scene_of, state_at}
-use Rattle.nb_graph.proofs.AgesLemmas.{Ages-refl, Ages-adds, Ages-same, Ages-shrinks, Ages-trans}
-use Rattle.nb_graph.proofs.SceneLemmas.{roomy-below, scene-adds, scene-holds, scene-ports}
+use Rattle.nb_effects.specs.declared.effects.Fx.{Fx}
+use Rattle.nb_effects.specs.Trace.{Nature, Said, NodeEntry}
+use Rattle.nb_effects.specs.Deeds.{writes, turns, is_dead, Offers, Ticks, Hands, Stage}
+use Rattle.nb_effects.specs.Deeds.{Deed, Gives, MustBegin, MustMake, MustPlug, Wants, begins}
+use Rattle.nb_effects.specs.Follows.{UsesStack, refused, ticks_none, enters_up, enters_down, offered_up, offered_down, plugs, held, has_begun, made_outside}
+use Rattle.nb_effects.specs.Scene.{Scene, scene_of, state_at}
+use Rattle.nb_effects.proofs.AgesLemmas.{Ages-refl, Ages-adds, Ages-same, Ages-shrinks, Ages-trans}
+use Rattle.nb_effects.proofs.SceneLemmas.{roomy-below, scene-adds, scene-holds, scene-ports}
 use Rattle.nb_graph.proofs.SeatLemmas.{Loses-same, Loses-trans}
 use Rattle.nb_graph.proofs.MakeLemmas.{Balanced-plug, Joined-add}
-use Rattle.nb_graph.proofs.AccountLemmas.{Joined-mild, start-joined}
+use Rattle.nb_effects.proofs.AccountLemmas.{Joined-mild, start-joined}
 use Rattle.nb_graph.proofs.MildLemmas.{Mild-holds}
-use Rattle.nb_graph.proofs.WholeLemmas.{but_same}
+use Rattle.nb_effects.proofs.WholeLemmas.{but_same}
 use Rattle.nb_ledger.specs.Changes.{Adds, SetsHolds, SetsPort}
 use Rattle.nb_ledger.specs.GraphRun.{OnStack, IsIdle, Step}
 use Rattle.nb_ledger.specs.declared.port.ObjId.{ObjId}
-use Rattle.nb_graph.specs.Whole.{Ages, Objects, IsQuiet}
+use Rattle.nb_effects.specs.Whole.{Ages, Objects, IsQuiet}
 use Rattle.nb_graph.specs.Lives.{here, seat, CalmFor, LivelyFor, RunFor, Loses, Same, IsUnder}
-use Rattle.nb_graph.specs.Lived.{KeepsTraces, Lived}
-use Rattle.nb_graph.specs.Accounts.{Account, JoinedEnds, joined, parted, rests}
-use Rattle.nb_graph.specs.Flows.{Empty, Closing, Giving, Keeping, Rising}
-use Rattle.nb_graph.specs.Moves.{Calms, none_due}
-use Rattle.nb_graph.proofs.AccountLemmas.{Calms-then}
-use Rattle.nb_graph.proofs.LivensLemmas.{cases_peer}
-use Rattle.nb_graph.proofs.RunsLemmas.{Agrees-quiet, Runs-drop, Runs-one, Runs-two, IsRun-none, IsRun-trans}
+use Rattle.nb_effects.specs.Lived.{KeepsTraces, Lived}
+use Rattle.nb_effects.specs.Accounts.{Account, JoinedEnds, joined, parted, rests}
+use Rattle.nb_effects.specs.Flows.{Empty, Closing, Giving, Keeping, Rising}
+use Rattle.nb_effects.specs.Moves.{Calms, none_due}
+use Rattle.nb_effects.proofs.AccountLemmas.{Calms-then}
+use Rattle.nb_effects.proofs.LivensLemmas.{cases_peer}
+use Rattle.nb_effects.proofs.RunsLemmas.{Agrees-quiet, Runs-drop, Runs-one, Runs-two, IsRun-none, IsRun-trans}
 use Rattle.nb_graph.proofs.LivesLemmas.{Lives-above, Lives-then}
 
 -- a book and its nodes

@@ -4,16 +4,16 @@ use Rattle.std.proofs.Common.{◌≡◌, ◌≢◌, ◌⊎◌, ℕ, ◌<◌, ◌
 use Rattle.std.proofs.lemmas.Bool.{cases_Bool, cases_eq, lt-ltb, le-ltb}
 use Rattle.nb_ledger.specs.GraphRun.{OnStack, IsIdle, GraphRunOf}
 use Rattle.nb_ledger.specs.Ledger.{Ledger, busy, rank, Agrees, run_state}
-use Rattle.nb_graph.specs.Trace.{Nature, NodeEntry, Said, left, said_behind}
+use Rattle.nb_effects.specs.Trace.{Nature, NodeEntry, Said, left, said_behind}
 use Rattle.nb_ledger.specs.declared.port.Port.{Port}
-use Rattle.nb_graph.specs.Deeds.{Deed, Stage, Turn, turns, notice_of, runs_of, makes_of, few_of, closes_of}
-use Rattle.nb_graph.specs.Follows.{UsesStack}
-use Rattle.nb_graph.specs.Scene.{Scene, scene_of}
-use Rattle.nb_graph.specs.declared.effects.Fx.{Fx}
-use Rattle.nb_graph.specs.Accounts.{Account, JoinedEnds}
-use Rattle.nb_graph.specs.Flows.{IsShut, Still}
-use Rattle.nb_graph.specs.Moves.{Calms, Livens, always, none_due}
-use Rattle.nb_graph.proofs.LivensLemmas.{Livens-calm, Livens-then, Livens-weaken}
+use Rattle.nb_effects.specs.Deeds.{Deed, Stage, Turn, turns, notice_of, runs_of, makes_of, few_of, closes_of}
+use Rattle.nb_effects.specs.Follows.{UsesStack}
+use Rattle.nb_effects.specs.Scene.{Scene, scene_of}
+use Rattle.nb_effects.specs.declared.effects.Fx.{Fx}
+use Rattle.nb_effects.specs.Accounts.{Account, JoinedEnds}
+use Rattle.nb_effects.specs.Flows.{IsShut, Still}
+use Rattle.nb_effects.specs.Moves.{Calms, Livens, always, none_due}
+use Rattle.nb_effects.proofs.LivensLemmas.{Livens-calm, Livens-then, Livens-weaken}
 use Rattle.nb_graph.proofs.AliveLemmas.{CalmFor-refl}
 use Rattle.nb_graph.specs.Lively.{GrowsLively}
 use Rattle.nb_ledger.specs.Flat.{Given}

@@ -16,13 +16,13 @@ use Rattle.nb_ledger.specs.Changes.{SetsBusy, SetsPort, Adds}
 use Rattle.nb_ledger.proofs.RunLemmas.{Run-append, Told-none, Tells-append}
 use Rattle.nb_ledger.proofs.PlaceLemmas.{place_found, found-place}
 use Rattle.nb_ledger.proofs.PortLemmas.{busy-live}
-use Rattle.nb_graph.specs.Whole.{IsManned}
-use Rattle.nb_graph.specs.Calm.{Shrinks, Calm, EndsEntry, Starts}
+use Rattle.nb_effects.specs.Whole.{IsManned}
+use Rattle.nb_effects.specs.Calm.{Shrinks, Calm, EndsEntry, Starts}
 use Rattle.nb_graph.specs.Lively.{GrowsLively, Lively, LivelyIn}
-use Rattle.nb_graph.proofs.WholeLemmas.{but_same, but_other, ports_other, two_ports}
-use Rattle.nb_graph.proofs.ShrinkLemmas.{Agrees-busy, dead-port}
-use Rattle.nb_graph.proofs.AgesLemmas.{Ages-refl, Ages-trans, Ages-shrinks, Ages-same, Ages-adds, Ages-within}
-use Rattle.nb_graph.proofs.CalmLemmas.{agrees-enter, agrees-leave, flags-back, two-keeps}
+use Rattle.nb_effects.proofs.WholeLemmas.{but_same, but_other, ports_other, two_ports}
+use Rattle.nb_effects.proofs.ShrinkLemmas.{Agrees-busy, dead-port}
+use Rattle.nb_effects.proofs.AgesLemmas.{Ages-refl, Ages-trans, Ages-shrinks, Ages-same, Ages-adds, Ages-within}
+use Rattle.nb_effects.proofs.CalmLemmas.{agrees-enter, agrees-leave, flags-back, two-keeps}
 
 pub Grows-refl : (l : Ledger) → GrowsLively l l
 Grows-refl l = record { same_room = refl; same_busy = λ x. refl; same_leaves = λ x k. refl; ages = Ages-refl l; kept = λ x b. refl }

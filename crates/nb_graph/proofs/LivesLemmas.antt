@@ -7,18 +7,18 @@ use Rattle.nb_ledger.specs.declared.event.GraphEvent.{GraphEvent}
 use Rattle.nb_ledger.specs.declared.event.GraphEvent.TheVariants.{Made, Plugged}
 use Rattle.nb_ledger.specs.Flat.{Heard, Given, flat, event}
 use Rattle.nb_ledger.proofs.RunLemmas.{Given-append, Given-none}
-use Rattle.nb_graph.specs.Deeds.{notice_of, told_of}
+use Rattle.nb_effects.specs.Deeds.{notice_of, told_of}
 use Rattle.nb_ledger.specs.declared.event.Way.{Way}
 use Rattle.nb_ledger.specs.declared.event.Way.TheVariants as way
-use Rattle.nb_graph.specs.Deeds.{Settles as Frees, settles_by}
-use Rattle.nb_graph.specs.Trace.{Nature, NodeEntry, Owes, Owes1}
-use Rattle.nb_graph.specs.Deeds.{Deed, writes, begins, calls, turns, Turn, Stage, Returns, returns_of, Makes, MustBegin, MustPlug, events_of, trace_after}
-use Rattle.nb_graph.specs.Whole.{port_at}
+use Rattle.nb_effects.specs.Deeds.{Settles as Frees, settles_by}
+use Rattle.nb_effects.specs.Trace.{Nature, NodeEntry, Owes, Owes1}
+use Rattle.nb_effects.specs.Deeds.{Deed, writes, begins, calls, turns, Turn, Stage, Returns, returns_of, Makes, MustBegin, MustPlug, events_of, trace_after}
+use Rattle.nb_effects.specs.Whole.{port_at}
 use Rattle.nb_ledger.specs.declared.port.PortState.TheVariants as port
-use Rattle.nb_graph.specs.Scene.{Scene, IsGraphFull, state_at, after_noted}
-use Rattle.nb_graph.specs.Follows.{UsesStack, makes, has_begun, plugs}
-use Rattle.nb_graph.specs.Hosts.{Performs, Suits}
-use Rattle.nb_graph.proofs.HostLemmas.{hosts-append, suited-append}
+use Rattle.nb_effects.specs.Scene.{Scene, IsGraphFull, state_at, after_noted}
+use Rattle.nb_effects.specs.Follows.{UsesStack, makes, has_begun, plugs}
+use Rattle.nb_effects.specs.Hosts.{Performs, Suits}
+use Rattle.nb_effects.proofs.HostLemmas.{hosts-append, suited-append}
 use Rattle.nb_graph.specs.Lives.{Seats, Loses, StaysTraced, Same, Stays, here, NodeFits}
 
 -- what is owed after a trace and one more

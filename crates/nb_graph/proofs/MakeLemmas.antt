@@ -1,6 +1,6 @@
 -- The bytes on the link of an object that is made.
-use Rattle.nb_graph.proofs.AccountLemmas.{start-joined}
-use Rattle.nb_graph.specs.Trace.{Nature}
+use Rattle.nb_effects.proofs.AccountLemmas.{start-joined}
+use Rattle.nb_effects.specs.Trace.{Nature}
 use Rattle.std.proofs.Common.{true, false, ◌≡◌, ℕ, ◌+◌, ◌≤◌, inl, inr, List, [], ◌∷◌, Some, refl, ap, sym, ◌∙◌, arith}
 use Rattle.std.proofs.lemmas.Bool.{cases_eq, eq-eqb, ne_eqb}
 use Rattle.nb_ledger.specs.declared.port.Port.{Port}
@@ -9,16 +9,16 @@ use Rattle.nb_ledger.specs.declared.event.GraphEvent.TheVariants.{Made, Plugged}
 use Rattle.nb_ledger.specs.GraphRun.{new_ports, port_but}
 use Rattle.nb_ledger.specs.Ledger.{Ledger, object_lives, busy, port, open_count}
 use Rattle.nb_ledger.specs.Changes.{Adds, SetsPort}
-use Rattle.nb_graph.specs.Deeds.{writes, begins}
-use Rattle.nb_graph.specs.Accounts.{Account, JoinedEnds, PlugsBalance, joined, parted, after_note, is_same_port, joins, rests}
-use Rattle.nb_graph.specs.Flows.{Making}
-use Rattle.nb_graph.specs.Moves.{Livens, always, asked_due}
-use Rattle.nb_graph.proofs.LinkLemmas.{port_but-same, port_but-other}
-use Rattle.nb_graph.proofs.WholeLemmas.{ports_other, two_ports}
-use Rattle.nb_graph.proofs.ShrinkLemmas.{dead-port}
+use Rattle.nb_effects.specs.Deeds.{writes, begins}
+use Rattle.nb_effects.specs.Accounts.{Account, JoinedEnds, PlugsBalance, joined, parted, after_note, is_same_port, joins, rests}
+use Rattle.nb_effects.specs.Flows.{Making}
+use Rattle.nb_effects.specs.Moves.{Livens, always, asked_due}
+use Rattle.nb_effects.proofs.LinkLemmas.{port_but-same, port_but-other}
+use Rattle.nb_effects.proofs.WholeLemmas.{ports_other, two_ports}
+use Rattle.nb_effects.proofs.ShrinkLemmas.{dead-port}
 use Rattle.nb_graph.proofs.LivelyLemmas.{dead-busy}
-use Rattle.nb_graph.proofs.LivensLemmas.{cases_ports, port-eq}
-use Rattle.nb_graph.proofs.DownLemmas.{is-port-same}
+use Rattle.nb_effects.proofs.LivensLemmas.{cases_ports, port-eq}
+use Rattle.nb_effects.proofs.DownLemmas.{is-port-same}
 
 pub is-port-other : (p q : Port) → (p ≡ q → ⊥) → is_same_port p q ≡ false
 is-port-other p q n = elim (cases_eq p.obj.0 q.obj.0) [

@@ -11,18 +11,18 @@ use Rattle.nb_ledger.specs.declared.event.GraphEvent.{GraphEvent}
 use Rattle.nb_ledger.specs.Ledger.{Ledger, port, open_count, unused}
 use Rattle.nb_ledger.specs.Changes.{SetsBusy, SetsHolds, SetsPort, Removes}
 use Rattle.nb_ledger.specs.Settled.{Settles}
-use Rattle.nb_graph.specs.Trace.{Nature, NodeEntry}
-use Rattle.nb_graph.specs.Deeds.{Deed, writes, Stage}
-use Rattle.nb_graph.specs.Follows.{UsesStack}
-use Rattle.nb_graph.specs.Scene.{Scene, after_noted}
+use Rattle.nb_effects.specs.Trace.{Nature, NodeEntry}
+use Rattle.nb_effects.specs.Deeds.{Deed, writes, Stage}
+use Rattle.nb_effects.specs.Follows.{UsesStack}
+use Rattle.nb_effects.specs.Scene.{Scene, after_noted}
 use Rattle.nb_graph.specs.Lives.{Loses, Seats, StaysTraced, Stays}
-use Rattle.nb_graph.specs.Flows.{Still}
-use Rattle.nb_graph.specs.Moves.{Calms}
-use Rattle.nb_graph.proofs.LinkLemmas.{cases_port, port_but-same, port_but-other}
-use Rattle.nb_graph.proofs.WholeLemmas.{ports_other, ports_same, used-port}
+use Rattle.nb_effects.specs.Flows.{Still}
+use Rattle.nb_effects.specs.Moves.{Calms}
+use Rattle.nb_effects.proofs.LinkLemmas.{cases_port, port_but-same, port_but-other}
+use Rattle.nb_effects.proofs.WholeLemmas.{ports_other, ports_same, used-port}
 use Rattle.nb_graph.proofs.LivesLemmas.{Lives-note, Lives-then}
-use Rattle.nb_graph.proofs.AccountLemmas.{Mild-same, Still-both}
-use Rattle.nb_graph.specs.Moves.{Mild}
+use Rattle.nb_effects.proofs.AccountLemmas.{Mild-same, Still-both}
+use Rattle.nb_effects.specs.Moves.{Mild}
 
 pub Mild-busy : {old new : Ledger} {x : ℕ} {b : Bool} → SetsBusy old new x b → Mild old new
 Mild-busy s = Mild-same s.objects.same_made s.same_port

@@ -5,9 +5,9 @@ use Rattle.std.specs.Option.{option_copied}
 use Rattle.std.proofs.lemmas.Bool.{cases_Bool, false≢true, ltb-false}
 use Rattle.nb_ledger.specs.Ledger.{Ledger, object_lives, rank, place}
 use Rattle.nb_ledger.proofs.PlaceLemmas.{live_place}
-use Rattle.nb_graph.specs.Whole.{IsManned}
+use Rattle.nb_effects.specs.Whole.{IsManned}
 use Rattle.nb_graph.specs.Noded.{HasNode}
-use Rattle.nb_graph.proofs.MannedLemmas.{manned-length, manned-place}
+use Rattle.nb_effects.proofs.MannedLemmas.{manned-length, manned-place}
 use Rattle.nb_graph.proofs.LivelyLemmas.{manned-rank, slice_get-at, slice_get-past, some_inj}
 
 -- there is an element within

@@ -9,17 +9,17 @@ use Rattle.nb_ledger.specs.declared.object.Object.{Object}
 use Rattle.nb_ledger.specs.Ledger.{Ledger, object_lives, place}
 use Rattle.nb_ledger.specs.Changes.{SameObjects, Adds, Removes}
 use Rattle.nb_ledger.proofs.PlaceLemmas.{live_place, live-stands, serial-place}
-use Rattle.nb_graph.specs.Whole.{IsManned}
-use Rattle.nb_graph.specs.Trace.{Nature, NodeEntry, Owes, Owes1}
-use Rattle.nb_graph.specs.declared.effects.Fx.{Fx}
-use Rattle.nb_graph.specs.Deeds.{Deed, calls, Stage, Calls}
-use Rattle.nb_graph.specs.Follows.{UsesStack}
-use Rattle.nb_graph.specs.Hosts.{Performs, Suits}
-use Rattle.nb_graph.specs.Scene.{Scene, scene_of}
+use Rattle.nb_effects.specs.Whole.{IsManned}
+use Rattle.nb_effects.specs.Trace.{Nature, NodeEntry, Owes, Owes1}
+use Rattle.nb_effects.specs.declared.effects.Fx.{Fx}
+use Rattle.nb_effects.specs.Deeds.{Deed, calls, Stage, Calls}
+use Rattle.nb_effects.specs.Follows.{UsesStack}
+use Rattle.nb_effects.specs.Hosts.{Performs, Suits}
+use Rattle.nb_effects.specs.Scene.{Scene, scene_of}
 use Rattle.nb_graph.specs.Lives.{seat, StaysTraced, Loses, NodeFits, nodes_at}
-use Rattle.nb_graph.proofs.MannedLemmas.{manned-length, manned-place}
+use Rattle.nb_effects.proofs.MannedLemmas.{manned-length, manned-place}
 use Rattle.nb_graph.proofs.LivelyLemmas.{slice_get-at, slice_get-set, slice_get-past, some_inj}
-use Rattle.nb_graph.proofs.GraphLemmas.{slice_get-push}
+use Rattle.nb_effects.proofs.GraphLemmas.{slice_get-push}
 use Rattle.nb_graph.proofs.LivesLemmas.{Lives-call}
 
 -- some object

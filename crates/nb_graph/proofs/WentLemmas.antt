@@ -4,18 +4,18 @@ use Rattle.nb_ledger.proofs.RunLemmas.{Given-append}
 use Rattle.nb_ledger.specs.Flat.{Notice}
 use Rattle.std.proofs.Common.{◌≡◌, ℕ, List, [], ◌∷◌, ◌++◌, Option, refl, ap, sym, ◌∙◌, subst, append_assoc, append-nil}
 use Rattle.nb_ledger.specs.declared.port.Port.{Port}
-use Rattle.nb_graph.specs.Trace.{Nature, NodeEntry}
-use Rattle.nb_graph.specs.Deeds.{Deed, Stage, events_of, told_of, trace_after}
-use Rattle.nb_graph.specs.Scene.{Scene, scene_of}
-use Rattle.nb_graph.proofs.AgesLemmas.{Ages-trans}
-use Rattle.nb_graph.specs.Accounts.{Account, account, rests}
-use Rattle.nb_graph.specs.Whole.{Objects, node_at}
-use Rattle.nb_graph.specs.Hosts.{Hosts, Suited}
-use Rattle.nb_graph.proofs.HostLemmas.{hosts-append, suited-append}
-use Rattle.nb_graph.specs.Lived.{ObjectStands, Lived}
-use Rattle.nb_graph.specs.Went.{GraphCall, Each, Midways, Went, all_of, accounts}
+use Rattle.nb_effects.specs.Trace.{Nature, NodeEntry}
+use Rattle.nb_effects.specs.Deeds.{Deed, Stage, events_of, told_of, trace_after}
+use Rattle.nb_effects.specs.Scene.{Scene, scene_of}
+use Rattle.nb_effects.proofs.AgesLemmas.{Ages-trans}
+use Rattle.nb_effects.specs.Accounts.{Account, account, rests}
+use Rattle.nb_effects.specs.Whole.{Objects, node_at}
+use Rattle.nb_effects.specs.Hosts.{Hosts, Suited}
+use Rattle.nb_effects.proofs.HostLemmas.{hosts-append, suited-append}
+use Rattle.nb_effects.specs.Lived.{ObjectStands, Lived}
+use Rattle.nb_effects.specs.Went.{GraphCall, Each, Midways, Went, all_of, accounts}
 use Rattle.nb_graph.proofs.LivesLemmas.{told-append, events-append, trace-append}
-use Rattle.nb_graph.proofs.RunsLemmas.{IsRun-trans}
+use Rattle.nb_effects.proofs.RunsLemmas.{IsRun-trans}
 
 all-append : {N L : Type 0} (ds es : List (List (Deed N L))) → all_of (ds ++ es) ≡ all_of ds ++ all_of es
 all-append [] es = refl

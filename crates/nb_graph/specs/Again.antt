@@ -4,11 +4,11 @@ use Rattle.std.specs.Prelude.{ℕ, Bool, List, [], ◌∷◌, ◌++◌, drop, Op
 use Rattle.nb_ledger.specs.declared.port.Port.{Port}
 use Rattle.nb_ledger.specs.declared.event.Way.TheVariants as way
 use Rattle.nb_ledger.specs.Ledger.{Ledger, busy}
-use Rattle.nb_graph.specs.declared.effects.Fx.{Fx}
-use Rattle.nb_graph.specs.Trace.{Nature, NodeEntry, Said, left, lent, up}
-use Rattle.nb_graph.specs.Deeds.{Calls, Holds, rest, runs_of}
-use Rattle.nb_graph.specs.Flows.{Delivering, asked_behind, asked_sent, by_no_slot}
-use Rattle.nb_graph.specs.Moves.{HasAsked, always, none_due}
+use Rattle.nb_effects.specs.declared.effects.Fx.{Fx}
+use Rattle.nb_effects.specs.Trace.{Nature, NodeEntry, Said, left, lent, up}
+use Rattle.nb_effects.specs.Deeds.{Calls, Holds, rest, runs_of}
+use Rattle.nb_effects.specs.Flows.{Delivering, asked_behind, asked_sent, by_no_slot}
+use Rattle.nb_effects.specs.Moves.{HasAsked, always, none_due}
 use Rattle.nb_graph.specs.Lives.{AllBack, LivelyInFor}
 
 -- all of the message is given

@@ -1,6 +1,6 @@
 -- What letting holds go leaves.
 use Rattle.std.specs.Prelude.{◌≡◌, ℕ, ◌≤◌}
-use Rattle.nb_graph.specs.Whole.{Ages}
+use Rattle.nb_effects.specs.Whole.{Ages}
 use Rattle.nb_ledger.specs.Ledger.{Ledger, holds, port, open_count}
 
 -- no hold and no open port comes, and none is made

@@ -4,7 +4,7 @@ use Rattle.std.specs.Prelude.{◌≡◌, ℕ, ◌+◌, ◌-◌, ◌*◌, ◌^◌
 use Rattle.nb_ledger.specs.declared.event.GraphEvent.{GraphEvent}
 use Rattle.nb_ledger.specs.GraphRun.{OnStack, IsIdle, RunsIn, GraphRunOf}
 use Rattle.nb_ledger.specs.Flat.{Tells}
-use Rattle.nb_graph.specs.Whole.{Ages}
+use Rattle.nb_effects.specs.Whole.{Ages}
 use Rattle.nb_ledger.specs.Ledger.{Ledger, rank, port, busy, leaves, run_state, Agrees}
 
 -- no entry and no half-closed link ends or begins, and an object that runs keeps its rank

@@ -5,22 +5,22 @@ use Rattle.nb_ledger.specs.declared.event.GraphEvent.{GraphEvent}
 use Rattle.nb_ledger.specs.declared.port.PortState.{PortState}
 use Rattle.nb_ledger.specs.GraphRun.{OnStack}
 use Rattle.nb_ledger.specs.Ledger.{Ledger, place, busy, rank}
-use Rattle.nb_graph.specs.Scene.{Scene, scene_of}
+use Rattle.nb_effects.specs.Scene.{Scene, scene_of}
 use Rattle.nb_ledger.specs.Flat.{Given}
 use Rattle.nb_ledger.specs.Settled.{Settles}
-use Rattle.nb_graph.specs.Trace.{Nature, NodeEntry, Owes}
-use Rattle.nb_graph.specs.Deeds.{Deed, Stage, Settles as Frees, events_of, told_of, trace_after}
-use Rattle.nb_graph.specs.Follows.{UsesStack}
-use Rattle.nb_graph.specs.Hosts.{Hosts, Suited}
-use Rattle.nb_graph.specs.Whole.{Runs}
-use Rattle.nb_graph.specs.Calm.{Calm, EndsEntry, SettlesTwo}
+use Rattle.nb_effects.specs.Trace.{Nature, NodeEntry, Owes}
+use Rattle.nb_effects.specs.Deeds.{Deed, Stage, Settles as Frees, events_of, told_of, trace_after}
+use Rattle.nb_effects.specs.Follows.{UsesStack}
+use Rattle.nb_effects.specs.Hosts.{Hosts, Suited}
+use Rattle.nb_effects.specs.Whole.{Runs}
+use Rattle.nb_effects.specs.Calm.{Calm, EndsEntry, SettlesTwo}
 use Rattle.nb_graph.specs.Lively.{Lively, LivelyIn}
 use Rattle.nb_ledger.specs.declared.port.ObjId.{ObjId}
 use Rattle.nb_ledger.specs.declared.port.Port.{Port}
-use Rattle.nb_graph.specs.Accounts.{Account}
-use Rattle.nb_graph.specs.Flows.{Still}
-use Rattle.nb_graph.specs.Moves.{Calms, Livens, always}
-use Rattle.nb_graph.specs.Order.{LetsHoldsGo, frees}
+use Rattle.nb_effects.specs.Accounts.{Account}
+use Rattle.nb_effects.specs.Flows.{Still}
+use Rattle.nb_effects.specs.Moves.{Calms, Livens, always}
+use Rattle.nb_effects.specs.Order.{LetsHoldsGo, frees}
 
 -- the node of each serial, None where it is dead, what is seen of the book, and what the outside was told
 pub record Seats (N : Type 0) : Type 0 where

@@ -1,7 +1,7 @@
 -- Each live object of a graph has a node.
 use Rattle.std.specs.Prelude.{◌≡◌, ℕ, true, Some}
 use Rattle.nb_ledger.specs.Ledger.{object_lives, rank}
-use Rattle.nb_graph.specs.Whole.{Objects, node_at}
+use Rattle.nb_effects.specs.Whole.{Objects, node_at}
 
 -- the object x has a node, of the rank that the book has
 pub record HasNode {N : Type 0} (rank_of : N → ℕ) (g : Objects N) (x : ℕ) : Type 0 where

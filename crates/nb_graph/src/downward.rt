@@ -6,23 +6,23 @@ ghost use Rattle.nb_ledger.specs.Ledger.{busy, object_lives, place, port};
 ghost use Rattle.nb_ledger.specs.declared.port.PortState.TheVariants.{Open};
 ghost use Rattle.nb_graph.specs.Sending.{said_with};
 ghost use Rattle.std.specs.Prelude.{◌≢◌};
-ghost use Rattle.nb_graph.specs.Whole.{port_at};
-ghost use Rattle.nb_graph.specs.Accounts.{few_bytes};
-ghost use Rattle.nb_graph.specs.Flows.{Downs, Emitting, Following, Giving, Passing, asked_left};
-ghost use Rattle.nb_graph.specs.Flows.{asked_sent};
-ghost use Rattle.nb_graph.specs.Calm.{IsSteady, Starts};
-ghost use Rattle.nb_graph.specs.Trace.{carried, down, in_list, lent, loads, said, nature, carries};
-ghost use Rattle.nb_graph.specs.Deeds.{Hands, Gives, Sends, emit_of, few_of, runs_of};
+ghost use Rattle.nb_effects.specs.Whole.{port_at};
+ghost use Rattle.nb_effects.specs.Accounts.{few_bytes};
+ghost use Rattle.nb_effects.specs.Flows.{Downs, Emitting, Following, Giving, Passing, asked_left};
+ghost use Rattle.nb_effects.specs.Flows.{asked_sent};
+ghost use Rattle.nb_effects.specs.Calm.{IsSteady, Starts};
+ghost use Rattle.nb_effects.specs.Trace.{carried, down, in_list, lent, loads, said, nature, carries};
+ghost use Rattle.nb_effects.specs.Deeds.{Hands, Gives, Sends, emit_of, few_of, runs_of};
 ghost use Rattle.nb_graph.specs.Lives.{Back, CalmFor, Same};
 ghost use Rattle.nb_ledger.specs.declared.event.GraphEvent.TheVariants.{Entered};
 ghost use Rattle.nb_ledger.specs.declared.event.Way.TheVariants as way;
-ghost use Rattle.nb_graph.specs.Effects.{MayAskBelow, MayAskDown};
-ghost use Rattle.nb_graph.specs.Effects.{AreDowns, IsDown};
+ghost use Rattle.nb_effects.specs.Effects.{MayAskBelow, MayAskDown};
+ghost use Rattle.nb_effects.specs.Effects.{AreDowns, IsDown};
 
 use crate::inner::Inner;
-use crate::message::{bytes_of, drop_message, send_part};
 use crate::spare::Spare;
 use crate::{Asked, Emit, Few, Fx, Node};
+use nb_effects::{bytes_of, drop_message, send_part};
 use nb_ledger::{Msg, ObjId, Outside, Port, PortState, Way};
 
 impl<N: Node> Inner<N> {

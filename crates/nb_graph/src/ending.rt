@@ -3,14 +3,14 @@ ghost use Rattle.std.specs.Prelude.{◌≡◌, ◌+◌, ◌<◌, ◌≤◌, ℕ,
 ghost use Rattle.nb_ledger.specs.declared.port.Port.{Port as ThePort};
 ghost use Rattle.std.specs.Vec.{vec_capacity};
 ghost use Rattle.nb_ledger.specs.Ledger.{object_lives, busy, holds, port, open_count};
-ghost use Rattle.nb_graph.specs.Trace.{nature};
-ghost use Rattle.nb_graph.specs.Flows.{Empty};
-ghost use Rattle.nb_graph.specs.Calm.{IsSteady};
+ghost use Rattle.nb_effects.specs.Trace.{nature};
+ghost use Rattle.nb_effects.specs.Flows.{Empty};
+ghost use Rattle.nb_effects.specs.Calm.{IsSteady};
 ghost use Rattle.nb_graph.specs.Lives.{here, CalmFor, RunFor, Same};
 ghost use Rattle.nb_graph.specs.Ending.{LetsGo};
-ghost use Rattle.nb_graph.specs.Deeds.{Ends, LetsAllGo};
-ghost use Rattle.nb_graph.specs.Whole.{IsGraph, IsQuiet};
-ghost use Rattle.nb_graph.specs.Order.{ClosesInOrder};
+ghost use Rattle.nb_effects.specs.Deeds.{Ends, LetsAllGo};
+ghost use Rattle.nb_effects.specs.Whole.{IsGraph, IsQuiet};
+ghost use Rattle.nb_effects.specs.Order.{ClosesInOrder};
 
 use crate::Node;
 use crate::inner::Inner;

@@ -5,17 +5,17 @@ ghost use Rattle.std.specs.Bool.{OnTrue, OnFalse};
 ghost use Rattle.std.specs.Option.{option_copied};
 ghost use Rattle.nb_ledger.specs.declared.event.GraphEvent.TheVariants.{Held, LetGo};
 ghost use Rattle.nb_ledger.specs.declared.port.Port.{Port as ThePort};
-ghost use Rattle.nb_graph.specs.Accounts.{Balanced, unplugged};
+ghost use Rattle.nb_effects.specs.Accounts.{Balanced, unplugged};
 ghost use Rattle.nb_graph.specs.declared.graph.Reach.TheVariants as reach;
 ghost use Rattle.nb_ledger.specs.declared.port.PortState.TheVariants as state;
 ghost use Rattle.nb_ledger.specs.Ledger.{object_lives, holds, port, rank, open_count, IsLeastAbove};
-ghost use Rattle.nb_graph.specs.Trace.{said, nature};
-ghost use Rattle.nb_graph.specs.Deeds.{Closes, Ends, LetsAllGo, MustMake, MustPlug, Offers, Ticks, Wants};
-ghost use Rattle.nb_graph.specs.Lived.{KeepsTraces};
+ghost use Rattle.nb_effects.specs.Trace.{said, nature};
+ghost use Rattle.nb_effects.specs.Deeds.{Closes, Ends, LetsAllGo, MustMake, MustPlug, Offers, Ticks, Wants};
+ghost use Rattle.nb_effects.specs.Lived.{KeepsTraces};
 ghost use Rattle.nb_graph.specs.Noded.{AreNoded};
-ghost use Rattle.nb_graph.specs.Order.{ClosesOne, EndsInOrder, LetsOneGo};
-ghost use Rattle.nb_graph.specs.Whole.{Harvests, IsLinked, IsMade, KeepsRanks, OnlyDrops, node_at, node_of};
-ghost use Rattle.nb_graph.specs.Whole.{StaysSame};
+ghost use Rattle.nb_effects.specs.Order.{ClosesOne, EndsInOrder, LetsOneGo};
+ghost use Rattle.nb_effects.specs.Whole.{Harvests, IsLinked, IsMade, KeepsRanks, OnlyDrops, node_at, node_of};
+ghost use Rattle.nb_effects.specs.Whole.{StaysSame};
 
 use crate::Node;
 use crate::inner::Inner;
@@ -46,7 +46,7 @@ pub enum Reach {
 }
 
 impl<N: Node> Model for Graph<N> {
-    ghost use Rattle.nb_graph.specs.Whole.{Objects, IsGraph};
+    ghost use Rattle.nb_effects.specs.Whole.{Objects, IsGraph};
     ghost use Rattle.std.specs.Vec.{vec_capacity};
 
     ghost Value = { Objects N };
@@ -322,11 +322,11 @@ impl<N: Node> Graph<N> {
 }
 
 ghost use Rattle.std.specs.Prelude.{List, Option, ◌++◌};
-ghost use Rattle.nb_graph.specs.Hosts.{Stood};
-ghost use Rattle.nb_graph.specs.Lived.{ObjectStands};
-ghost use Rattle.nb_graph.specs.Trace.{NodeEntry};
-ghost use Rattle.nb_graph.specs.Whole.{Objects};
-ghost use Rattle.nb_graph.specs.Went.{all_of, GraphCall, Went, WentOne};
+ghost use Rattle.nb_effects.specs.Hosts.{Stood};
+ghost use Rattle.nb_effects.specs.Lived.{ObjectStands};
+ghost use Rattle.nb_effects.specs.Trace.{NodeEntry};
+ghost use Rattle.nb_effects.specs.Whole.{Objects};
+ghost use Rattle.nb_effects.specs.Went.{all_of, GraphCall, Went, WentOne};
 ghost use Rattle.nb_ledger.specs.Flat.{Heard};
 
 /// What happens in calls and in those that come then happens in all of them.

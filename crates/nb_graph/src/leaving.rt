@@ -2,9 +2,9 @@
 ghost use Rattle.std.specs.Prelude.{◌≡◌, ◌<◌, ◌∷◌, true, None};
 ghost use Rattle.std.specs.Vec.{vec_capacity};
 ghost use Rattle.nb_ledger.specs.Ledger.{place, port, object_lives};
-ghost use Rattle.nb_graph.specs.Calm.{IsSteady};
-ghost use Rattle.nb_graph.specs.Trace.{nature};
-ghost use Rattle.nb_graph.specs.Deeds.{Holds};
+ghost use Rattle.nb_effects.specs.Calm.{IsSteady};
+ghost use Rattle.nb_effects.specs.Trace.{nature};
+ghost use Rattle.nb_effects.specs.Deeds.{Holds};
 ghost use Rattle.nb_ledger.specs.declared.event.Way.{Way as TheWay};
 ghost use Rattle.nb_ledger.specs.declared.event.Way.TheVariants.{Close};
 ghost use Rattle.nb_ledger.specs.GraphRun.{Running};

@@ -2,13 +2,13 @@
 ghost use Rattle.std.specs.Prelude.{◌≡◌, ◌+◌, ◌<◌, ◌++◌, ◌∷◌, ℕ, true, [], List, Option};
 ghost use Rattle.std.specs.Vec.{vec_capacity};
 ghost use Rattle.nb_ledger.specs.Ledger.{busy, object_lives, place};
-ghost use Rattle.nb_graph.specs.Trace.{carried, in_list, lent, loads, nature};
-ghost use Rattle.nb_graph.specs.Deeds.{returns_of, Returns};
+ghost use Rattle.nb_effects.specs.Trace.{carried, in_list, lent, loads, nature};
+ghost use Rattle.nb_effects.specs.Deeds.{returns_of, Returns};
 ghost use Rattle.nb_graph.specs.Lives.{Back, here, StaysTraced, nodes_at};
-ghost use Rattle.nb_graph.specs.Whole.{IsManned};
+ghost use Rattle.nb_effects.specs.Whole.{IsManned};
 ghost use Rattle.nb_ledger.specs.Flat.{Heard};
-ghost use Rattle.nb_graph.specs.Flows.{Still};
-ghost use Rattle.nb_graph.specs.Moves.{Calms};
+ghost use Rattle.nb_effects.specs.Flows.{Still};
+ghost use Rattle.nb_effects.specs.Moves.{Calms};
 
 use crate::inner::Inner;
 use crate::{Asked, Emit, Few, Fx, Node};

@@ -6,21 +6,21 @@ ghost use Rattle.nb_ledger.specs.declared.port.PortState.TheVariants.{Open};
 ghost use Rattle.nb_ledger.specs.GraphRun.{IsOpen};
 ghost use Rattle.nb_graph.specs.Sending.{said_with};
 ghost use Rattle.std.specs.Prelude.{◌≢◌, ◌≤◌, ◌^◌};
-ghost use Rattle.nb_graph.specs.Whole.{port_at};
-ghost use Rattle.nb_graph.specs.Accounts.{few_bytes, emit_bytes, fx_bytes};
-ghost use Rattle.nb_graph.specs.Calm.{IsSteady};
-ghost use Rattle.nb_graph.specs.Trace.{carried, in_list, lent, loads, said};
-ghost use Rattle.nb_graph.specs.Trace.{nature, carries, up};
-ghost use Rattle.nb_graph.specs.Deeds.{Gives, Sends, emit_of, few_of, runs_of};
+ghost use Rattle.nb_effects.specs.Whole.{port_at};
+ghost use Rattle.nb_effects.specs.Accounts.{few_bytes, emit_bytes, fx_bytes};
+ghost use Rattle.nb_effects.specs.Calm.{IsSteady};
+ghost use Rattle.nb_effects.specs.Trace.{carried, in_list, lent, loads, said};
+ghost use Rattle.nb_effects.specs.Trace.{nature, carries, up};
+ghost use Rattle.nb_effects.specs.Deeds.{Gives, Sends, emit_of, few_of, runs_of};
 ghost use Rattle.nb_graph.specs.Lives.{Back, Same, here, IsBelow, IsUnder, LivelyFor, LivelyInFor};
-ghost use Rattle.nb_graph.specs.Effects.{ClosesSlot, MayAsk, AreUps, IsUp};
-ghost use Rattle.nb_graph.specs.Flows.{DoesEffects, Leaves, Rising};
-ghost use Rattle.nb_graph.specs.Moves.{HasAsked, none_due};
+ghost use Rattle.nb_effects.specs.Effects.{ClosesSlot, MayAsk, AreUps, IsUp};
+ghost use Rattle.nb_effects.specs.Flows.{DoesEffects, Leaves, Rising};
+ghost use Rattle.nb_effects.specs.Moves.{HasAsked, none_due};
 
 use crate::inner::Inner;
-use crate::message::{bytes_of, drop_message, send_part};
 use crate::spare::Spare;
 use crate::{Asked, Emit, Few, Fx, Node};
+use nb_effects::{bytes_of, drop_message, send_part};
 use nb_ledger::{Msg, ObjId, Outside, Port, PortState};
 
 impl<N: Node> Inner<N> {

@@ -2,21 +2,21 @@
 ghost use Rattle.std.specs.Prelude.{◌≡◌, ◌+◌, ◌<◌, ◌++◌, ◌∷◌, ℕ, true, false, []};
 ghost use Rattle.std.specs.Vec.{vec_capacity};
 ghost use Rattle.nb_ledger.specs.Ledger.{busy, object_lives, place, rank};
-ghost use Rattle.nb_graph.specs.Whole.{port_at};
-ghost use Rattle.nb_graph.specs.Flows.{asked_sent, DoesEffects, Keeping};
-ghost use Rattle.nb_graph.specs.Calm.{IsSteady, Starts};
-ghost use Rattle.nb_graph.specs.Trace.{lent, nature, silence, time};
-ghost use Rattle.nb_graph.specs.Deeds.{Hands, Ticks, runs_of};
+ghost use Rattle.nb_effects.specs.Whole.{port_at};
+ghost use Rattle.nb_effects.specs.Flows.{asked_sent, DoesEffects, Keeping};
+ghost use Rattle.nb_effects.specs.Calm.{IsSteady, Starts};
+ghost use Rattle.nb_effects.specs.Trace.{lent, nature, silence, time};
+ghost use Rattle.nb_effects.specs.Deeds.{Hands, Ticks, runs_of};
 ghost use Rattle.nb_graph.specs.Lives.{Back, Same, here, IsBelow, LivelyFor, LivelyInFor};
 ghost use Rattle.nb_ledger.specs.declared.event.GraphEvent.TheVariants.{Entered};
 ghost use Rattle.nb_ledger.specs.declared.event.Way.TheVariants as way;
-ghost use Rattle.nb_graph.specs.Effects.{MayAskTime};
-ghost use Rattle.nb_graph.specs.Moves.{HasAsked, none_due};
+ghost use Rattle.nb_effects.specs.Effects.{MayAskTime};
+ghost use Rattle.nb_effects.specs.Moves.{HasAsked, none_due};
 
 use crate::inner::Inner;
-use crate::message::NOTHING;
 use crate::spare::Spare;
 use crate::{Fx, Node};
+use nb_effects::NOTHING;
 use nb_ledger::{ObjId, Outside, Port, Way};
 
 impl<N: Node> Inner<N> {

@@ -4,23 +4,23 @@ ghost use Rattle.std.specs.Prelude.{◌^◌, ◌-◌};
 ghost use Rattle.std.specs.Vec.{vec_capacity};
 ghost use Rattle.nb_ledger.specs.GraphRun.{IsOpen};
 ghost use Rattle.nb_ledger.specs.Ledger.{busy, place, port, open_count, rank};
-ghost use Rattle.nb_graph.specs.Calm.{IsSteady, Starts};
-ghost use Rattle.nb_graph.specs.Trace.{left, said, said_behind};
-ghost use Rattle.nb_graph.specs.Trace.{nature, up};
-ghost use Rattle.nb_graph.specs.Deeds.{Hands, Gives};
+ghost use Rattle.nb_effects.specs.Calm.{IsSteady, Starts};
+ghost use Rattle.nb_effects.specs.Trace.{left, said, said_behind};
+ghost use Rattle.nb_effects.specs.Trace.{nature, up};
+ghost use Rattle.nb_effects.specs.Deeds.{Hands, Gives};
 ghost use Rattle.nb_graph.specs.Lives.{Same, IsBelow, IsUnder, LivelyFor};
 ghost use Rattle.nb_ledger.specs.declared.event.GraphEvent.TheVariants.{Entered};
 ghost use Rattle.nb_ledger.specs.declared.event.Way.TheVariants as way;
-ghost use Rattle.nb_graph.specs.Effects.{MayAskUp};
-ghost use Rattle.nb_graph.specs.Flows.{Rising};
-ghost use Rattle.nb_graph.specs.Moves.{none_due};
+ghost use Rattle.nb_effects.specs.Effects.{MayAskUp};
+ghost use Rattle.nb_effects.specs.Flows.{Rising};
+ghost use Rattle.nb_effects.specs.Moves.{none_due};
 ghost use Rattle.nb_graph.specs.Again.{Delivered, Gives as GivesAll, GoesOn, LeftOn};
 ghost use Rattle.nb_graph.specs.Lively.{GrowsLively};
 
 use crate::inner::Inner;
-use crate::message::{behind, length_of, rest_of};
 use crate::spare::Spare;
 use crate::{Fx, Node};
+use nb_effects::{behind, length_of, rest_of};
 use nb_ledger::{GraphEvent, Msg, Outside, Port, Way};
 
 /// How many bytes of a message count as taken, and where the object that it was given to stands then.

@@ -1,7 +1,7 @@
-use Rattle.nb_graph.specs.Trace.{nature}
-use Rattle.nb_graph.specs.Went.{all_of}
-use Rattle.nb_graph.specs.Whole.{node_at}
-use Rattle.nb_graph.proofs.HostLemmas.{stood}
+use Rattle.nb_effects.specs.Trace.{nature}
+use Rattle.nb_effects.specs.Went.{all_of}
+use Rattle.nb_effects.specs.Whole.{node_at}
+use Rattle.nb_effects.proofs.HostLemmas.{stood}
 use Rattle.nb_graph.proofs.graph.entries_are_the_nodes_own.Goals as goal
 
 pub returns : goal.returns

@@ -1,6 +1,6 @@
 use Rattle.nb_graph.proofs.LivedLemmas.{Lived-calm, closing-empty}
 use Rattle.nb_graph.proofs.WentLemmas.{Went-one}
-use Rattle.nb_graph.proofs.OrderLemmas.{ClosesOne-shuts}
+use Rattle.nb_effects.proofs.OrderLemmas.{ClosesOne-shuts}
 use Rattle.nb_graph.proofs.graph.Graph.close.Goals as goal
 
 pub returns-clause-went : goal.returns-clause-went

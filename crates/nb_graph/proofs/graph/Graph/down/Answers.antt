@@ -3,7 +3,7 @@ use Rattle.nb_graph.proofs.LivedLemmas.{Lived-calm, Lived-drop, Lived-offered, g
 use Rattle.nb_graph.proofs.WentLemmas.{Went-one}
 use Rattle.std.proofs.Common.{sym, ◌∙◌}
 use Rattle.std.proofs.lemmas.Bool.{false≢true}
-use Rattle.nb_graph.specs.Trace.{said}
+use Rattle.nb_effects.specs.Trace.{said}
 use Rattle.nb_graph.proofs.graph.Graph.down.Goals as goal
 
 pub returns-then-is_free_in-clause-went : goal.returns-then-is_free_in-clause-went

@@ -1,7 +1,7 @@
 use Rattle.std.proofs.Common.{arith, sym, ◌∙◌}
 use Rattle.nb_graph.proofs.LivedLemmas.{Lived-hold}
 use Rattle.nb_graph.proofs.WentLemmas.{Went-one}
-use Rattle.nb_graph.proofs.GraphLemmas.{IsGraph-hold}
+use Rattle.nb_effects.proofs.GraphLemmas.{IsGraph-hold}
 use Rattle.nb_graph.proofs.graph.Graph.hold.Goals as goal
 
 pub invariant_of-self : goal.invariant_of-self

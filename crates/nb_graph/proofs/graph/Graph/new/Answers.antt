@@ -1,5 +1,5 @@
 use Rattle.std.proofs.Common.{arith}
-use Rattle.nb_graph.proofs.GraphLemmas.{IsGraph-empty}
+use Rattle.nb_effects.proofs.GraphLemmas.{IsGraph-empty}
 use Rattle.nb_graph.proofs.graph.Graph.new.Goals as goal
 
 pub invariant_of-result : goal.invariant_of-result

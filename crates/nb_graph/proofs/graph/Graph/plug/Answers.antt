@@ -3,7 +3,7 @@ use Rattle.nb_graph.proofs.WentLemmas.{Went-one}
 use Rattle.std.proofs.Common.{◌≡◌}
 use Rattle.nb_ledger.specs.declared.port.PortState.TheVariants.{Open}
 use Rattle.nb_ledger.specs.Ledger.{port}
-use Rattle.nb_graph.proofs.GraphLemmas.{IsGraph-plug}
+use Rattle.nb_effects.proofs.GraphLemmas.{IsGraph-plug}
 use Rattle.nb_ledger.proofs.PortLemmas.{live_by}
 use Rattle.nb_graph.proofs.graph.Graph.plug.Goals as goal
 

@@ -3,7 +3,7 @@ use Rattle.nb_graph.proofs.LivedLemmas.{Lived-drop, Lived-lively, Lived-offered,
 use Rattle.nb_graph.proofs.WentLemmas.{Went-one}
 use Rattle.std.proofs.Common.{sym, ◌∙◌}
 use Rattle.std.proofs.lemmas.Bool.{false≢true}
-use Rattle.nb_graph.specs.Trace.{said}
+use Rattle.nb_effects.specs.Trace.{said}
 use Rattle.nb_graph.proofs.graph.Graph.up.Goals as goal
 
 pub enter_up-requires-clause-under : goal.enter_up-requires-clause-under

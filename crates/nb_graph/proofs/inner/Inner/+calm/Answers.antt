@@ -2,41 +2,41 @@ use Rattle.nb_ledger.proofs.RunLemmas.{Given-none}
 use Rattle.std.proofs.Common.{ℕ, List, refl, sym, subst, ◌∙◌, arith, ap, rules, ◌≡◌, true, Some, None, append_assoc, [], ◌∷◌, ◌++◌}
 use Rattle.std.specs.Vec.{vec_capacity}
 use Rattle.nb_ledger.specs.Ledger.{busy, place, port, open_count}
-use Rattle.nb_graph.specs.Whole.{IsBookWhole, port_at}
-use Rattle.nb_graph.specs.Calm.{IsSteady}
+use Rattle.nb_effects.specs.Whole.{IsBookWhole, port_at}
+use Rattle.nb_effects.specs.Calm.{IsSteady}
 use Rattle.nb_ledger.specs.declared.port.PortState.TheVariants.{Leaving, Closed}
 use Rattle.nb_ledger.specs.declared.event.Way.TheVariants.{Down}
 use Rattle.nb_ledger.proofs.PortLemmas.{busy-live, open-live}
-use Rattle.nb_graph.proofs.ShrinkLemmas.{ranks_fall}
-use Rattle.nb_graph.proofs.CalmLemmas.{leaving-is, linked-apart, IsWhole-enter}
-use Rattle.nb_graph.proofs.UnplugLemmas.{Starts-link, Starts-entry, Starts-one, Calm-link, Calm-entry, Calm-dropped, Calm-sent, Calm-alone, IsWhole-alone}
-use Rattle.nb_graph.proofs.ShutLemmas.{shut-set, shut-link, shut-all, closes-none, closes-step, shut-still}
-use Rattle.nb_graph.proofs.MannedLemmas.{IsManned-same}
+use Rattle.nb_effects.proofs.ShrinkLemmas.{ranks_fall}
+use Rattle.nb_effects.proofs.CalmLemmas.{leaving-is, linked-apart, IsWhole-enter}
+use Rattle.nb_effects.proofs.UnplugLemmas.{Starts-link, Starts-entry, Starts-one, Calm-link, Calm-entry, Calm-dropped, Calm-sent, Calm-alone, IsWhole-alone}
+use Rattle.nb_effects.proofs.ShutLemmas.{shut-set, shut-link, shut-all, closes-none, closes-step, shut-still}
+use Rattle.nb_effects.proofs.MannedLemmas.{IsManned-same}
 use Rattle.nb_ledger.specs.declared.event.GraphEvent.TheVariants.{Closed as CloseEvent, Dropped, Entered}
-use Rattle.nb_graph.specs.Trace.{Said, carried, down, in_list, silence, lent, loads, said, nature}
-use Rattle.nb_graph.specs.Deeds.{MustUnplug as Unlinks, Closes, Gives, Sends, all_closes, arrives, closes_of, emit_of, few_of, goes_out, is_shut, no_memory, returns_of, runs_of, said_of}
-use Rattle.nb_graph.proofs.ShutLemmas.{closes_of-none, closes_of-step}
+use Rattle.nb_effects.specs.Trace.{Said, carried, down, in_list, silence, lent, loads, said, nature}
+use Rattle.nb_effects.specs.Deeds.{MustUnplug as Unlinks, Closes, Gives, Sends, all_closes, arrives, closes_of, emit_of, few_of, goes_out, is_shut, no_memory, returns_of, runs_of, said_of}
+use Rattle.nb_effects.proofs.ShutLemmas.{closes_of-none, closes_of-step}
 use Rattle.nb_graph.specs.Lives.{CalmFor, Same, here}
-use Rattle.nb_graph.specs.Scene.{scene_of, shut_of, with_ports}
-use Rattle.nb_graph.specs.Follows.{closes_alone, closes_none, passes, leaves, drops, enters_down}
+use Rattle.nb_effects.specs.Scene.{scene_of, shut_of, with_ports}
+use Rattle.nb_effects.specs.Follows.{closes_alone, closes_none, passes, leaves, drops, enters_down}
 use Rattle.nb_ledger.specs.Ledger.{leaves as leaving_to}
-use Rattle.nb_graph.proofs.SceneLemmas.{scene-busy, scene-port}
+use Rattle.nb_effects.proofs.SceneLemmas.{scene-busy, scene-port}
 use Rattle.nb_ledger.specs.GraphRun.{port_but}
-use Rattle.nb_graph.proofs.WholeLemmas.{but_other}
+use Rattle.nb_effects.proofs.WholeLemmas.{but_other}
 use Rattle.nb_graph.proofs.LivesLemmas.{Lives-above, Lives-turn, Lives-weaken}
-use Rattle.nb_graph.specs.Accounts.{account, few_bytes}
-use Rattle.nb_graph.specs.Asked.{asked}
+use Rattle.nb_effects.specs.Accounts.{account, few_bytes}
+use Rattle.nb_effects.specs.Asked.{asked}
 use Rattle.nb_graph.specs.Sending.{said_with}
-use Rattle.nb_graph.specs.Flows.{Closing, Passing, asked_left, asked_sent, asked_whole}
-use Rattle.nb_graph.proofs.AccountLemmas.{Calms-idle, Calms-turn, Calms-plain, Mild-same}
+use Rattle.nb_effects.specs.Flows.{Closing, Passing, asked_left, asked_sent, asked_whole}
+use Rattle.nb_effects.proofs.AccountLemmas.{Calms-idle, Calms-turn, Calms-plain, Mild-same}
 use Rattle.nb_graph.proofs.MildLemmas.{Lives-plain, Mild-busy, Mild-port}
-use Rattle.nb_graph.proofs.FlowLemmas.{Calms-fail, Closing-then, Downs-closing, Downs-few, Passing-giving, Passing-open, Passing-shut, asked-zero, below-bytes, below-zero, closing-idle, following-done, following-fail, whole-left, whole-only}
-use Rattle.nb_graph.proofs.DownLemmas.{Calms-down}
-use Rattle.nb_graph.proofs.PassLemmas.{Calms-enter, Calms-link}
-use Rattle.nb_graph.proofs.CallLemmas.{half-gone, half-left}
+use Rattle.nb_effects.proofs.FlowLemmas.{Calms-fail, Closing-then, Downs-closing, Downs-few, Passing-giving, Passing-open, Passing-shut, asked-zero, below-bytes, below-zero, closing-idle, following-done, following-fail, whole-left, whole-only}
+use Rattle.nb_effects.proofs.DownLemmas.{Calms-down}
+use Rattle.nb_effects.proofs.PassLemmas.{Calms-enter, Calms-link}
+use Rattle.nb_effects.proofs.CallLemmas.{half-gone, half-left}
 use Rattle.nb_graph.proofs.OwingLemmas.{Back-none}
-use Rattle.nb_graph.specs.Order.{alone}
-use Rattle.nb_graph.proofs.OrderLemmas.{Shuts-link, order-object, order-port}
+use Rattle.nb_effects.specs.Order.{alone}
+use Rattle.nb_effects.proofs.OrderLemmas.{Shuts-link, order-object, order-port}
 use Rattle.nb_graph.proofs.EndLemmas.{IsQuiet-shrinks}
 use Rattle.nb_graph.proofs.SeatLemmas.{Loses-refl, Loses-same}
 use Rattle.nb_graph.proofs.EntryLemmas.{Lives-closed, Lives-entry}

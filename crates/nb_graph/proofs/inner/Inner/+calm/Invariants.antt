@@ -1,6 +1,6 @@
 use Rattle.std.proofs.Common.{◌+◌, length}
 use Rattle.nb_ledger.specs.Ledger.{opens, rank}
-use Rattle.nb_graph.specs.Calm.{distance}
+use Rattle.nb_effects.specs.Calm.{distance}
 use Rattle.nb_graph.proofs.inner.Inner.+calm.Given as goal
 
 abbrev pub decreases-close_port : goal.decreases-close_port

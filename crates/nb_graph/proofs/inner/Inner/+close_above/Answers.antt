@@ -1,14 +1,14 @@
 use Rattle.nb_ledger.proofs.RunLemmas.{Given-none}
 use Rattle.std.proofs.Common.{◌≡◌, ℕ, [], inl, inr, refl, sym, ◌∙◌}
 use Rattle.nb_ledger.specs.Ledger.{port, open_count}
-use Rattle.nb_graph.proofs.ShrinkLemmas.{Shrinks-trans}
-use Rattle.nb_graph.specs.Follows.{next, none_left}
+use Rattle.nb_effects.proofs.ShrinkLemmas.{Shrinks-trans}
+use Rattle.nb_effects.specs.Follows.{next, none_left}
 use Rattle.nb_graph.proofs.AliveLemmas.{CalmFor-turn, CalmFor-turned, CalmFor-same}
-use Rattle.nb_graph.specs.Deeds.{Ends, comes_to, is_reached}
+use Rattle.nb_effects.specs.Deeds.{Ends, comes_to, is_reached}
 use Rattle.std.proofs.Common.{◌∷◌}
-use Rattle.nb_graph.proofs.ShutLemmas.{no-object, shut-still}
+use Rattle.nb_effects.proofs.ShutLemmas.{no-object, shut-still}
 use Rattle.nb_graph.proofs.EndLemmas.{IsQuiet-shrinks, all-above}
-use Rattle.nb_graph.proofs.OrderLemmas.{order-above, order-none}
+use Rattle.nb_effects.proofs.OrderLemmas.{order-above, order-none}
 use Rattle.nb_graph.proofs.inner.Inner.+close_above.Goals as goal
 
 pub returns-in-Some-clause-lives : goal.returns-in-Some-clause-lives

@@ -1,7 +1,7 @@
 use Rattle.nb_graph.specs.Lives.{here}
 use Rattle.std.proofs.Common.{[]}
-use Rattle.nb_graph.specs.Follows.{lets_none}
-use Rattle.nb_graph.specs.Deeds.{LetsAllGo, none_held}
+use Rattle.nb_effects.specs.Follows.{lets_none}
+use Rattle.nb_effects.specs.Deeds.{LetsAllGo, none_held}
 use Rattle.nb_ledger.proofs.RunLemmas.{Given-none}
 use Rattle.std.proofs.Common.{◌∷◌}
 use Rattle.std.proofs.Common.{◌≡◌, arith}

@@ -6,34 +6,34 @@ use Rattle.nb_ledger.specs.declared.port.PortState.TheVariants.{Linked, Leaving,
 use Rattle.nb_ledger.specs.GraphRun.{IsOpen}
 use Rattle.nb_ledger.specs.Ledger.{busy, port, rank, open_count}
 use Rattle.nb_ledger.proofs.PortLemmas.{busy-live, open-live, live_by}
-use Rattle.nb_graph.specs.Calm.{IsSteady}
-use Rattle.nb_graph.specs.Follows.{passes, leaves, drops, enters_up}
+use Rattle.nb_effects.specs.Calm.{IsSteady}
+use Rattle.nb_effects.specs.Follows.{passes, leaves, drops, enters_up}
 use Rattle.nb_graph.proofs.NodeLemmas.{nothing-there}
-use Rattle.nb_graph.proofs.SceneLemmas.{scene-busy}
-use Rattle.nb_graph.proofs.CalmLemmas.{IsWhole-enter, linked-back}
-use Rattle.nb_graph.proofs.MannedLemmas.{IsManned-same}
-use Rattle.nb_graph.proofs.UnplugLemmas.{Calm-dropped, Calm-sent}
+use Rattle.nb_effects.proofs.SceneLemmas.{scene-busy}
+use Rattle.nb_effects.proofs.CalmLemmas.{IsWhole-enter, linked-back}
+use Rattle.nb_effects.proofs.MannedLemmas.{IsManned-same}
+use Rattle.nb_effects.proofs.UnplugLemmas.{Calm-dropped, Calm-sent}
 use Rattle.nb_graph.proofs.LivelyLemmas.{Grows-shrinks, Grows-trans, LivelyIn-trans, LivelyIn-calm, LivelyIn-lively, Lively-calm, Lively-entry, Starts-lively}
 use Rattle.nb_ledger.specs.declared.event.GraphEvent.TheVariants.{Dropped, Entered}
-use Rattle.nb_graph.specs.Trace.{Said, carried, in_list, left, lent, loads, said, up, nature}
-use Rattle.nb_graph.specs.Deeds.{Gives, Holds, Sends, arrives, closes_of, emit_of, few_of, goes_out, makes_of, said_of}
+use Rattle.nb_effects.specs.Trace.{Said, carried, in_list, left, lent, loads, said, up, nature}
+use Rattle.nb_effects.specs.Deeds.{Gives, Holds, Sends, arrives, closes_of, emit_of, few_of, goes_out, makes_of, said_of}
 use Rattle.nb_graph.specs.Lives.{IsUnder, LivelyFor, Same, here}
-use Rattle.nb_graph.proofs.WholeLemmas.{but_other}
+use Rattle.nb_effects.proofs.WholeLemmas.{but_other}
 use Rattle.nb_graph.proofs.LivesLemmas.{Lives-above, Lives-turn, Lives-then, Lives-weaken}
-use Rattle.nb_graph.specs.Whole.{port_at}
+use Rattle.nb_effects.specs.Whole.{port_at}
 use Rattle.nb_graph.specs.Again.{Delivered}
-use Rattle.nb_graph.specs.Asked.{asked}
+use Rattle.nb_effects.specs.Asked.{asked}
 use Rattle.nb_graph.specs.Sending.{said_with}
-use Rattle.nb_graph.specs.Moves.{none_due}
-use Rattle.nb_graph.specs.Accounts.{few_bytes, fx_bytes}
-use Rattle.nb_graph.specs.Flows.{Delivering, DoesEffects, Leaves, Rising, asked_behind, asked_sent, asked_taken, by_no_slot}
-use Rattle.nb_graph.proofs.AccountLemmas.{Calms-idle, Calms-turn, Calms-plain, Calms-weaken, Mild-same}
-use Rattle.nb_graph.proofs.LivensLemmas.{Livens-calm}
+use Rattle.nb_effects.specs.Moves.{none_due}
+use Rattle.nb_effects.specs.Accounts.{few_bytes, fx_bytes}
+use Rattle.nb_effects.specs.Flows.{Delivering, DoesEffects, Leaves, Rising, asked_behind, asked_sent, asked_taken, by_no_slot}
+use Rattle.nb_effects.proofs.AccountLemmas.{Calms-idle, Calms-turn, Calms-plain, Calms-weaken, Mild-same}
+use Rattle.nb_effects.proofs.LivensLemmas.{Livens-calm}
 use Rattle.nb_graph.proofs.MildLemmas.{Lives-plain, Mild-busy}
-use Rattle.nb_graph.proofs.FlowLemmas.{emit-there}
+use Rattle.nb_effects.proofs.FlowLemmas.{emit-there}
 use Rattle.nb_graph.proofs.AskLemmas.{Livens-ask, Livens-entry, up-notes}
 use Rattle.nb_graph.proofs.EffectLemmas.{Livens-downs, Livens-effects, Livens-few, Livens-rest, Livens-ups, downs-bytes, ups-bytes}
-use Rattle.nb_graph.proofs.RiseLemmas.{Leaves-open, Leaves-rising, Leaves-shut, leaves-at, leaves-nothing, rise-fail, rises-delivering, taken-all, taken-only}
+use Rattle.nb_effects.proofs.RiseLemmas.{Leaves-open, Leaves-rising, Leaves-shut, leaves-at, leaves-nothing, rise-fail, rises-delivering, taken-all, taken-only}
 use Rattle.nb_graph.proofs.OwingLemmas.{AllBack-back, AllBack-then, Back-none}
 use Rattle.nb_graph.proofs.SeatLemmas.{Loses-refl, Loses-same}
 use Rattle.nb_graph.proofs.EntryLemmas.{Calls-then, Lives-entry_up}

@@ -4,9 +4,9 @@ use Rattle.std.specs.Vec.{vec_capacity}
 use Rattle.nb_ledger.specs.GraphRun.{IsOpen}
 use Rattle.nb_ledger.specs.Ledger.{port}
 use Rattle.nb_graph.specs.Lively.{GrowsLively}
-use Rattle.nb_graph.specs.Calm.{IsSteady}
+use Rattle.nb_effects.specs.Calm.{IsSteady}
 use Rattle.nb_graph.specs.Again.{Gives}
-use Rattle.nb_graph.specs.Trace.{nature, said}
+use Rattle.nb_effects.specs.Trace.{nature, said}
 use Rattle.nb_ledger.specs.Ledger.{rank}
 use Rattle.nb_graph.specs.Lively.{reach}
 use Rattle.nb_graph.proofs.inner.Inner.+lively.Given as goal

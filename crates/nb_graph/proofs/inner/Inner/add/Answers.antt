@@ -1,5 +1,5 @@
 use Rattle.std.proofs.Common.{arith, sym, ◌∙◌}
-use Rattle.nb_graph.proofs.MannedLemmas.{manned-length, IsManned-add}
+use Rattle.nb_effects.proofs.MannedLemmas.{manned-length, IsManned-add}
 use Rattle.nb_graph.proofs.inner.Inner.add.Goals as goal
 
 pub push_last-requires : goal.push_last-requires

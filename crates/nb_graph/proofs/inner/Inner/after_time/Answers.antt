@@ -1,5 +1,5 @@
 use Rattle.nb_graph.proofs.LivelyForLemmas.{LivelyInFor-calm, LivelyInFor-weaken}
-use Rattle.nb_graph.proofs.RiseLemmas.{time-fail}
+use Rattle.nb_effects.proofs.RiseLemmas.{time-fail}
 use Rattle.nb_graph.proofs.inner.Inner.after_time.Goals as goal
 
 pub returns-then-done-clause-lives : goal.returns-then-done-clause-lives

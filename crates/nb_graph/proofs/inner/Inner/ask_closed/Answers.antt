@@ -1,13 +1,13 @@
 use Rattle.std.proofs.Common.{refl}
-use Rattle.nb_graph.specs.Trace.{closed, nature, silence}
-use Rattle.nb_graph.specs.Deeds.{runs_of}
-use Rattle.nb_graph.specs.Follows.{peer_hears}
+use Rattle.nb_effects.specs.Trace.{closed, nature, silence}
+use Rattle.nb_effects.specs.Deeds.{runs_of}
+use Rattle.nb_effects.specs.Follows.{peer_hears}
 use Rattle.nb_graph.proofs.LivesLemmas.{Follows-called}
 use Rattle.std.proofs.Common.{true}
-use Rattle.nb_graph.proofs.CallLemmas.{Calms-call}
+use Rattle.nb_effects.proofs.CallLemmas.{Calms-call}
 use Rattle.nb_graph.proofs.SeatLemmas.{Lives-seat}
 use Rattle.std.proofs.Common.{arith}
-use Rattle.nb_graph.proofs.MannedLemmas.{manned-place, IsManned-node}
+use Rattle.nb_effects.proofs.MannedLemmas.{manned-place, IsManned-node}
 use Rattle.nb_graph.proofs.inner.Inner.ask_closed.Goals as goal
 
 pub index_mut-requires : goal.index_mut-requires

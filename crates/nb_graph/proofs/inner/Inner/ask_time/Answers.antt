@@ -1,13 +1,13 @@
-use Rattle.nb_graph.specs.Trace.{nature, silence}
-use Rattle.nb_graph.specs.Deeds.{runs_of}
-use Rattle.nb_graph.specs.Follows.{takes_time}
+use Rattle.nb_effects.specs.Trace.{nature, silence}
+use Rattle.nb_effects.specs.Deeds.{runs_of}
+use Rattle.nb_effects.specs.Follows.{takes_time}
 use Rattle.nb_graph.proofs.LivesLemmas.{Follows-called}
 use Rattle.std.proofs.Common.{refl, sym, ◌∙◌, ap, subst, true, false, [], ◌++◌}
-use Rattle.nb_graph.specs.Trace.{time, lent, Owes, nature}
-use Rattle.nb_graph.proofs.CallLemmas.{Asks-call, Calms-call}
+use Rattle.nb_effects.specs.Trace.{time, lent, Owes, nature}
+use Rattle.nb_effects.proofs.CallLemmas.{Asks-call, Calms-call}
 use Rattle.nb_graph.proofs.SeatLemmas.{Calls-seat}
 use Rattle.std.proofs.Common.{arith}
-use Rattle.nb_graph.proofs.MannedLemmas.{manned-place, IsManned-node}
+use Rattle.nb_effects.proofs.MannedLemmas.{manned-place, IsManned-node}
 use Rattle.nb_graph.proofs.LivelyLemmas.{manned-rank}
 use Rattle.nb_graph.proofs.inner.Inner.ask_time.Goals as goal
 

@@ -1,22 +1,22 @@
-use Rattle.nb_graph.specs.Scene.{scene_of, shut_of, with_ports}
-use Rattle.nb_graph.specs.Follows.{closes_link, peer_closes, peer_enters}
-use Rattle.nb_graph.proofs.SceneLemmas.{scene-busy, scene-port}
+use Rattle.nb_effects.specs.Scene.{scene_of, shut_of, with_ports}
+use Rattle.nb_effects.specs.Follows.{closes_link, peer_closes, peer_enters}
+use Rattle.nb_effects.proofs.SceneLemmas.{scene-busy, scene-port}
 use Rattle.nb_ledger.specs.GraphRun.{port_but}
 use Rattle.nb_ledger.specs.Ledger.{port}
 use Rattle.std.proofs.Common.{ap, sym}
 use Rattle.nb_ledger.specs.declared.event.GraphEvent.TheVariants.{Closed, Entered}
 use Rattle.nb_ledger.specs.declared.event.Way.TheVariants.{Close}
-use Rattle.nb_graph.specs.Deeds.{MustUnplug as Unlinks, Closes, MustShut, Shut, MustHear}
+use Rattle.nb_effects.specs.Deeds.{MustUnplug as Unlinks, Closes, MustShut, Shut, MustHear}
 use Rattle.nb_graph.proofs.LivesLemmas.{Lives-both, Lives-note, Lives-say, Lives-then}
-use Rattle.nb_graph.proofs.CallLemmas.{Calms-half}
+use Rattle.nb_effects.proofs.CallLemmas.{Calms-half}
 use Rattle.nb_graph.proofs.SeatLemmas.{Loses-same}
 use Rattle.nb_ledger.proofs.RunLemmas.{Tells-append}
 use Rattle.std.proofs.Common.{refl, ◌∙◌, [], ◌∷◌}
 use Rattle.nb_ledger.specs.GraphRun.{MustEnter, MustUnplug}
 use Rattle.nb_ledger.specs.declared.port.PortState.TheVariants.{Linked}
 use Rattle.nb_ledger.proofs.PortLemmas.{live_by}
-use Rattle.nb_graph.proofs.MannedLemmas.{IsManned-same}
-use Rattle.nb_graph.proofs.CalmLemmas.{other-end, HalfCloses-both, IsWhole-both}
+use Rattle.nb_effects.proofs.MannedLemmas.{IsManned-same}
+use Rattle.nb_effects.proofs.CalmLemmas.{other-end, HalfCloses-both, IsWhole-both}
 use Rattle.nb_graph.proofs.inner.Inner.close_both.Goals as goal
 
 pub close_peer-requires : goal.close_peer-requires

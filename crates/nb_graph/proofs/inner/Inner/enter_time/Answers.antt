@@ -2,26 +2,26 @@ use Rattle.std.proofs.Common.{refl, sym, ◌∙◌, Bool, true, None, [], ◌∷
 use Rattle.std.proofs.lemmas.Bool.{false≢true}
 use Rattle.nb_ledger.specs.declared.event.GraphEvent.TheVariants.{Entered}
 use Rattle.nb_ledger.specs.Ledger.{busy}
-use Rattle.nb_graph.specs.declared.effects.Fx.{Fx}
-use Rattle.nb_graph.specs.Trace.{time, lent, nature}
-use Rattle.nb_graph.specs.Deeds.{Ticks, Holds}
-use Rattle.nb_graph.specs.Follows.{ticks}
-use Rattle.nb_graph.proofs.SceneLemmas.{scene-busy}
-use Rattle.nb_graph.specs.Whole.{port_at}
-use Rattle.nb_graph.proofs.WholeLemmas.{but_other}
+use Rattle.nb_effects.specs.declared.effects.Fx.{Fx}
+use Rattle.nb_effects.specs.Trace.{time, lent, nature}
+use Rattle.nb_effects.specs.Deeds.{Ticks, Holds}
+use Rattle.nb_effects.specs.Follows.{ticks}
+use Rattle.nb_effects.proofs.SceneLemmas.{scene-busy}
+use Rattle.nb_effects.specs.Whole.{port_at}
+use Rattle.nb_effects.proofs.WholeLemmas.{but_other}
 use Rattle.nb_graph.proofs.LivesLemmas.{Lives-above, Lives-weaken}
-use Rattle.nb_graph.specs.Flows.{DoesEffects, Keeping, asked_sent, by_no_slot}
+use Rattle.nb_effects.specs.Flows.{DoesEffects, Keeping, asked_sent, by_no_slot}
 use Rattle.nb_graph.proofs.MildLemmas.{Mild-busy}
 use Rattle.nb_graph.proofs.AskLemmas.{Livens-entry, Livens-time, time-notes}
-use Rattle.nb_graph.proofs.RiseLemmas.{keeps-doing}
+use Rattle.nb_effects.proofs.RiseLemmas.{keeps-doing}
 use Rattle.nb_graph.proofs.OwingLemmas.{AllBack-back}
 use Rattle.nb_graph.proofs.SeatLemmas.{Loses-same}
 use Rattle.nb_graph.proofs.EntryLemmas.{Calls-then, Lives-entry_up}
 use Rattle.nb_graph.proofs.LivelyForLemmas.{IsBelow-enter}
 use Rattle.nb_ledger.specs.declared.event.Way.TheVariants.{Time}
 use Rattle.nb_ledger.proofs.PortLemmas.{busy-live}
-use Rattle.nb_graph.proofs.CalmLemmas.{IsWhole-enter}
-use Rattle.nb_graph.proofs.MannedLemmas.{IsManned-same}
+use Rattle.nb_effects.proofs.CalmLemmas.{IsWhole-enter}
+use Rattle.nb_effects.proofs.MannedLemmas.{IsManned-same}
 use Rattle.nb_graph.proofs.LivelyLemmas.{Lively-entry, Starts-lively}
 use Rattle.nb_graph.proofs.inner.Inner.enter_time.Goals as goal
 

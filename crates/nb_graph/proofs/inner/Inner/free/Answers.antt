@@ -2,7 +2,7 @@ use Rattle.std.proofs.Common.{ap, ◌∙◌}
 use Rattle.std.specs.List.{remove}
 use Rattle.nb_graph.proofs.SeatLemmas.{Loses-remove}
 use Rattle.std.proofs.Common.{arith}
-use Rattle.nb_graph.proofs.MannedLemmas.{manned-place, IsManned-remove}
+use Rattle.nb_effects.proofs.MannedLemmas.{manned-place, IsManned-remove}
 use Rattle.nb_graph.proofs.inner.Inner.free.Goals as goal
 
 pub remove-node-requires : goal.remove-node-requires

@@ -1,12 +1,12 @@
 use Rattle.std.proofs.Common.{refl, subst, []}
-use Rattle.nb_graph.specs.Trace.{regain, Owes}
-use Rattle.nb_graph.specs.Flows.{by_no_slot}
-use Rattle.nb_graph.specs.Follows.{returns}
-use Rattle.nb_graph.proofs.AccountLemmas.{Calms-weaken}
-use Rattle.nb_graph.proofs.CallLemmas.{Calms-call, asks-nothing}
+use Rattle.nb_effects.specs.Trace.{regain, Owes}
+use Rattle.nb_effects.specs.Flows.{by_no_slot}
+use Rattle.nb_effects.specs.Follows.{returns}
+use Rattle.nb_effects.proofs.AccountLemmas.{Calms-weaken}
+use Rattle.nb_effects.proofs.CallLemmas.{Calms-call, asks-nothing}
 use Rattle.nb_graph.proofs.SeatLemmas.{Lives-seat}
 use Rattle.std.proofs.Common.{arith}
-use Rattle.nb_graph.proofs.MannedLemmas.{manned-place, IsManned-node}
+use Rattle.nb_effects.proofs.MannedLemmas.{manned-place, IsManned-node}
 use Rattle.nb_graph.proofs.inner.Inner.give_back.Goals as goal
 
 pub index_mut-requires : goal.index_mut-requires

@@ -1,7 +1,7 @@
 use Rattle.std.proofs.Common.{[]}
 use Rattle.nb_graph.proofs.SeatLemmas.{Keeps-set}
 use Rattle.std.proofs.Common.{arith}
-use Rattle.nb_graph.proofs.MannedLemmas.{manned-place, IsManned-node}
+use Rattle.nb_effects.proofs.MannedLemmas.{manned-place, IsManned-node}
 use Rattle.nb_graph.proofs.HarvestLemmas.{Harvests-set, others-set}
 use Rattle.nb_graph.proofs.inner.Inner.harvest.Goals as goal
 

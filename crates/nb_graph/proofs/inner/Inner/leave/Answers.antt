@@ -1,17 +1,17 @@
 use Rattle.std.proofs.Common.{refl, None, ◌∷◌}
 use Rattle.nb_ledger.specs.declared.event.GraphEvent.TheVariants.{Left}
-use Rattle.nb_graph.specs.Deeds.{Holds, Settles as Frees}
+use Rattle.nb_effects.specs.Deeds.{Holds, Settles as Frees}
 use Rattle.nb_graph.proofs.LivesLemmas.{settles-own}
 use Rattle.std.proofs.Common.{sym, subst, ◌++◌}
-use Rattle.nb_graph.specs.Trace.{nature}
-use Rattle.nb_graph.specs.Scene.{scene_of}
-use Rattle.nb_graph.specs.Follows.{UsesStack, ends}
-use Rattle.nb_graph.proofs.SceneLemmas.{scene-busy}
-use Rattle.nb_graph.proofs.AccountLemmas.{Calms-plain}
+use Rattle.nb_effects.specs.Trace.{nature}
+use Rattle.nb_effects.specs.Scene.{scene_of}
+use Rattle.nb_effects.specs.Follows.{UsesStack, ends}
+use Rattle.nb_effects.proofs.SceneLemmas.{scene-busy}
+use Rattle.nb_effects.proofs.AccountLemmas.{Calms-plain}
 use Rattle.nb_graph.proofs.MildLemmas.{Lives-next, Lives-plain, Mild-busy}
 use Rattle.nb_graph.proofs.SeatLemmas.{Loses-same}
-use Rattle.nb_graph.proofs.CalmLemmas.{Ends-leave, IsWhole-leave}
-use Rattle.nb_graph.proofs.MannedLemmas.{IsManned-same}
+use Rattle.nb_effects.proofs.CalmLemmas.{Ends-leave, IsWhole-leave}
+use Rattle.nb_effects.proofs.MannedLemmas.{IsManned-same}
 use Rattle.nb_graph.proofs.inner.Inner.leave.Goals as goal
 
 pub returns-clause-ends : goal.returns-clause-ends

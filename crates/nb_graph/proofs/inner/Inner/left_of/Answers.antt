@@ -5,15 +5,15 @@ use Rattle.nb_ledger.specs.Ledger.{port, open_count}
 use Rattle.nb_ledger.proofs.RunLemmas.{told_event}
 use Rattle.nb_graph.proofs.LivelyLemmas.{LivelyIn-dropped, LivelyIn-refl}
 use Rattle.nb_ledger.specs.declared.event.GraphEvent.TheVariants.{Dropped}
-use Rattle.nb_graph.specs.Trace.{said, said_behind}
-use Rattle.nb_graph.specs.Deeds.{Holds}
-use Rattle.nb_graph.specs.Follows.{drops_rest}
+use Rattle.nb_effects.specs.Trace.{said, said_behind}
+use Rattle.nb_effects.specs.Deeds.{Holds}
+use Rattle.nb_effects.specs.Follows.{drops_rest}
 use Rattle.nb_graph.proofs.LivesLemmas.{Lives-none, Lives-under, Lives-weaken}
 use Rattle.std.proofs.lemmas.List.{drop_all}
-use Rattle.nb_graph.proofs.AccountLemmas.{Calms-idle, Calms-none, Calms-plain, Mild-same}
-use Rattle.nb_graph.proofs.LivensLemmas.{Livens-calm}
+use Rattle.nb_effects.proofs.AccountLemmas.{Calms-idle, Calms-none, Calms-plain, Mild-same}
+use Rattle.nb_effects.proofs.LivensLemmas.{Livens-calm}
 use Rattle.nb_graph.proofs.MildLemmas.{Lives-plain}
-use Rattle.nb_graph.proofs.RiseLemmas.{closed-count, rest-none, rest-shut}
+use Rattle.nb_effects.proofs.RiseLemmas.{closed-count, rest-none, rest-shut}
 use Rattle.nb_graph.proofs.OwingLemmas.{AllBack-stays}
 use Rattle.nb_graph.proofs.SeatLemmas.{Loses-refl}
 use Rattle.nb_graph.proofs.LivelyForLemmas.{left-some, left-none}

@@ -1,7 +1,7 @@
-use Rattle.nb_graph.specs.Deeds.{LetsAllGo, lets_go}
+use Rattle.nb_effects.specs.Deeds.{LetsAllGo, lets_go}
 use Rattle.nb_ledger.proofs.RunLemmas.{Given-none}
 use Rattle.std.proofs.Common.{◌∷◌}
-use Rattle.nb_graph.specs.Follows.{lets}
+use Rattle.nb_effects.specs.Follows.{lets}
 use Rattle.std.proofs.Common.{sym, ◌∙◌}
 use Rattle.std.proofs.lemmas.Bool.{ltb-true}
 use Rattle.nb_ledger.proofs.PortLemmas.{held-live}

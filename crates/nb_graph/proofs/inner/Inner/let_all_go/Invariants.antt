@@ -1,11 +1,11 @@
-use Rattle.nb_graph.specs.Deeds.{LetsAllGo}
+use Rattle.nb_effects.specs.Deeds.{LetsAllGo}
 use Rattle.std.proofs.Common.{◌∷◌}
 use Rattle.std.specs.Vec.{vec_capacity}
 use Rattle.nb_ledger.specs.Ledger.{holds}
-use Rattle.nb_graph.specs.Whole.{IsGraph}
+use Rattle.nb_effects.specs.Whole.{IsGraph}
 use Rattle.nb_graph.specs.Lives.{RunFor}
 use Rattle.nb_graph.specs.Ending.{LetsGo}
-use Rattle.nb_graph.specs.Trace.{nature}
+use Rattle.nb_effects.specs.Trace.{nature}
 use Rattle.nb_graph.proofs.inner.Inner.let_all_go.Given as goal
 
 abbrev pub invariant-loop-id : goal.invariant-loop-id

@@ -1,17 +1,17 @@
-use Rattle.nb_graph.specs.Deeds.{Settles as Frees, Wants}
-use Rattle.nb_graph.specs.Follows.{let_go}
-use Rattle.nb_graph.proofs.SceneLemmas.{scene-holds}
+use Rattle.nb_effects.specs.Deeds.{Settles as Frees, Wants}
+use Rattle.nb_effects.specs.Follows.{let_go}
+use Rattle.nb_effects.proofs.SceneLemmas.{scene-holds}
 use Rattle.std.proofs.Common.{arith, refl, ap, sym, subst, ◌∙◌, [], ◌∷◌, append-nil}
-use Rattle.nb_graph.proofs.OrderLemmas.{Runs-frees}
-use Rattle.nb_graph.specs.Order.{LetsHoldsGo, frees, none, one}
+use Rattle.nb_effects.proofs.OrderLemmas.{Runs-frees}
+use Rattle.nb_effects.specs.Order.{LetsHoldsGo, frees, none, one}
 use Rattle.nb_ledger.specs.declared.event.GraphEvent.TheVariants.{LetGo}
-use Rattle.nb_graph.proofs.AccountLemmas.{Calms-plain}
+use Rattle.nb_effects.proofs.AccountLemmas.{Calms-plain}
 use Rattle.nb_graph.proofs.MildLemmas.{Lives-next, Lives-plain, Mild-holds}
 use Rattle.nb_graph.proofs.SeatLemmas.{Loses-same}
-use Rattle.nb_graph.proofs.RunsLemmas.{IsRun-let_go}
-use Rattle.nb_graph.proofs.GraphLemmas.{but-counted, KeepsRanks-settle, IsGraph-settle}
-use Rattle.nb_graph.proofs.WholeLemmas.{IsLinked-holds, IsQuiet-holds, CountedBut-holds}
-use Rattle.nb_graph.proofs.MannedLemmas.{IsManned-same}
+use Rattle.nb_effects.proofs.RunsLemmas.{IsRun-let_go}
+use Rattle.nb_effects.proofs.GraphLemmas.{but-counted, KeepsRanks-settle, IsGraph-settle}
+use Rattle.nb_effects.proofs.WholeLemmas.{IsLinked-holds, IsQuiet-holds, CountedBut-holds}
+use Rattle.nb_effects.proofs.MannedLemmas.{IsManned-same}
 use Rattle.nb_graph.proofs.EndLemmas.{LetsGo-let_go, falls-let_go}
 use Rattle.nb_graph.proofs.inner.Inner.let_go.Goals as goal
 

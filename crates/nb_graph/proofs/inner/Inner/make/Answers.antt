@@ -1,7 +1,7 @@
 use Rattle.nb_graph.proofs.LivedLemmas.{Lived-make}
 use Rattle.std.proofs.Common.{arith}
 use Rattle.nb_graph.proofs.SeatLemmas.{made-seat, other-seat}
-use Rattle.nb_graph.proofs.GraphLemmas.{IsGraph-make, IsMade-make, KeepsRanks-make}
+use Rattle.nb_effects.proofs.GraphLemmas.{IsGraph-make, IsMade-make, KeepsRanks-make}
 use Rattle.nb_graph.proofs.inner.Inner.make.Goals as goal
 
 pub returns-clause-made : goal.returns-clause-made

@@ -4,17 +4,17 @@ use Rattle.std.proofs.lemmas.Bool.{false≢true}
 use Rattle.nb_ledger.specs.declared.event.GraphEvent.TheVariants.{Dropped}
 use Rattle.nb_graph.specs.Lives.{here}
 use Rattle.std.proofs.Common.{[]}
-use Rattle.nb_graph.specs.Follows.{finds_none, makes_none}
-use Rattle.nb_graph.specs.Deeds.{Makes, is_full}
+use Rattle.nb_effects.specs.Follows.{finds_none, makes_none}
+use Rattle.nb_effects.specs.Deeds.{Makes, is_full}
 use Rattle.nb_ledger.proofs.RunLemmas.{told_event}
 use Rattle.nb_graph.proofs.AliveLemmas.{CalmFor-turned}
 use Rattle.std.proofs.Common.{◌∷◌}
 use Rattle.nb_graph.proofs.LivelyLemmas.{LivelyIn-dropped}
 use Rattle.nb_graph.proofs.LivesLemmas.{Lives-weaken}
-use Rattle.nb_graph.proofs.AccountLemmas.{Calms-idle, Calms-plain, Mild-same}
-use Rattle.nb_graph.proofs.LivensLemmas.{Livens-calm}
+use Rattle.nb_effects.proofs.AccountLemmas.{Calms-idle, Calms-plain, Mild-same}
+use Rattle.nb_effects.proofs.LivensLemmas.{Livens-calm}
 use Rattle.nb_graph.proofs.MildLemmas.{Lives-plain}
-use Rattle.nb_graph.proofs.RiseLemmas.{making-full}
+use Rattle.nb_effects.proofs.RiseLemmas.{making-full}
 use Rattle.nb_graph.proofs.SeatLemmas.{Loses-refl}
 use Rattle.nb_graph.proofs.LivelyForLemmas.{LivelyInFor-calm, LivelyInFor-lively, LivelyInFor-weaken}
 use Rattle.nb_graph.proofs.inner.Inner.make_at.Goals as goal

@@ -4,15 +4,15 @@ use Rattle.std.proofs.lemmas.Bool.{false≢true}
 use Rattle.nb_ledger.specs.Ledger.{Ledger, object_lives, busy, port, rank, place}
 use Rattle.nb_ledger.specs.Changes.{Adds}
 use Rattle.nb_ledger.specs.declared.event.GraphEvent.TheVariants.{Made, Plugged}
-use Rattle.nb_graph.specs.Scene.{IsGraphFull, scene_of, state_at, after_noted}
-use Rattle.nb_graph.proofs.SceneLemmas.{roomy-below, scene-adds, scene-ports}
+use Rattle.nb_effects.specs.Scene.{IsGraphFull, scene_of, state_at, after_noted}
+use Rattle.nb_effects.proofs.SceneLemmas.{roomy-below, scene-adds, scene-ports}
 use Rattle.nb_ledger.specs.declared.port.Port.{Port}
 use Rattle.nb_ledger.specs.GraphRun.{new_ports}
 use Rattle.nb_ledger.specs.declared.port.PortState.TheVariants.{Open}
 use Rattle.nb_ledger.proofs.PortLemmas.{live_by}
-use Rattle.nb_graph.proofs.MannedLemmas.{IsManned-same}
-use Rattle.nb_graph.proofs.WholeLemmas.{but_same, but_other, ports_other, ports_same, IsWhole-plug, IsLinked-add, CountedBut-add}
-use Rattle.nb_graph.proofs.GraphLemmas.{dead-loose, small-add}
+use Rattle.nb_effects.proofs.MannedLemmas.{IsManned-same}
+use Rattle.nb_effects.proofs.WholeLemmas.{but_same, but_other, ports_other, ports_same, IsWhole-plug, IsLinked-add, CountedBut-add}
+use Rattle.nb_effects.proofs.GraphLemmas.{dead-loose, small-add}
 use Rattle.nb_graph.proofs.LivelyLemmas.{Lively-make, dead-busy}
 use Rattle.nb_graph.proofs.LivesLemmas.{Lives-make}
 use Rattle.nb_graph.proofs.MakeLemmas.{Livens-make}

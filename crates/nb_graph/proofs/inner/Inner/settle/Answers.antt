@@ -2,13 +2,13 @@ use Rattle.std.proofs.Common.{refl, sym, ◌∙◌, [], ◌∷◌}
 use Rattle.nb_ledger.specs.declared.event.GraphEvent.TheVariants.{Freed}
 use Rattle.nb_ledger.proofs.SettleLemmas.{Settles-free, Settles-stay}
 use Rattle.nb_graph.specs.Lives.{here}
-use Rattle.nb_graph.specs.Follows.{frees, keeps}
-use Rattle.nb_graph.proofs.SceneLemmas.{scene-removes}
-use Rattle.nb_graph.specs.Deeds.{Settles as Frees, stays}
+use Rattle.nb_effects.specs.Follows.{frees, keeps}
+use Rattle.nb_effects.proofs.SceneLemmas.{scene-removes}
+use Rattle.nb_effects.specs.Deeds.{Settles as Frees, stays}
 use Rattle.nb_ledger.proofs.RunLemmas.{Given-none}
 use Rattle.nb_graph.proofs.SeatLemmas.{Loses-refl}
 use Rattle.nb_graph.proofs.LivesLemmas.{Lives-turn}
-use Rattle.nb_graph.proofs.AccountLemmas.{Calms-turn, Calms-plain}
+use Rattle.nb_effects.proofs.AccountLemmas.{Calms-turn, Calms-plain}
 use Rattle.nb_graph.proofs.MildLemmas.{Lives-plain, Mild-settle}
 use Rattle.nb_graph.proofs.inner.Inner.settle.Goals as goal
 

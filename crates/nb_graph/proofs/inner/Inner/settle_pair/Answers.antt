@@ -1,9 +1,9 @@
-use Rattle.nb_graph.specs.Deeds.{Settles as Frees}
+use Rattle.nb_effects.specs.Deeds.{Settles as Frees}
 use Rattle.nb_graph.proofs.LivesLemmas.{Lives-above, Lives-opened}
 use Rattle.std.proofs.Common.{min, max, ap, ◌∷◌}
 use Rattle.std.proofs.Common.{◌≡◌, ◌++◌, arith, ◌∙◌}
-use Rattle.nb_graph.proofs.OrderLemmas.{frees-append}
-use Rattle.nb_graph.proofs.ShrinkLemmas.{SettlesTwo-pair, IsWhole-pair, live-settle}
+use Rattle.nb_effects.proofs.OrderLemmas.{frees-append}
+use Rattle.nb_effects.proofs.ShrinkLemmas.{SettlesTwo-pair, IsWhole-pair, live-settle}
 use Rattle.nb_graph.proofs.MildLemmas.{Lives-next}
 use Rattle.nb_graph.proofs.inner.Inner.settle_pair.Goals as goal
 

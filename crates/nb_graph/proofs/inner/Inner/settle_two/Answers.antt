@@ -1,7 +1,7 @@
-use Rattle.nb_graph.specs.Deeds.{Settles as Frees}
+use Rattle.nb_effects.specs.Deeds.{Settles as Frees}
 use Rattle.nb_graph.proofs.LivesLemmas.{Lives-opened}
 use Rattle.std.proofs.Common.{◌≡◌, arith, min, max, ap, ◌∙◌, ◌∷◌}
-use Rattle.nb_graph.proofs.ShrinkLemmas.{SettlesTwo-swap}
+use Rattle.nb_effects.proofs.ShrinkLemmas.{SettlesTwo-swap}
 use Rattle.nb_graph.proofs.inner.Inner.settle_two.Goals as goal
 
 pub settle_pair-requires-else-first-other-clause-counted : goal.settle_pair-requires-else-first-other-clause-counted

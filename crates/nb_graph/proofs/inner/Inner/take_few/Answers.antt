@@ -1,10 +1,10 @@
 use Rattle.std.proofs.Common.{ap}
 use Rattle.nb_ledger.specs.Ledger.{busy}
 use Rattle.nb_graph.proofs.LivesLemmas.{Lives-above, Lives-opened, Lives-then, returns-both}
-use Rattle.nb_graph.specs.Deeds.{returns_of}
-use Rattle.nb_graph.specs.Trace.{carried}
+use Rattle.nb_effects.specs.Deeds.{returns_of}
+use Rattle.nb_effects.specs.Trace.{carried}
 use Rattle.std.proofs.Common.{◌++◌}
-use Rattle.nb_graph.proofs.AccountLemmas.{Calms-at, Still-both}
+use Rattle.nb_effects.proofs.AccountLemmas.{Calms-at, Still-both}
 use Rattle.nb_graph.proofs.OwingLemmas.{Back-then}
 use Rattle.nb_graph.proofs.inner.Inner.take_few.Goals as goal
 

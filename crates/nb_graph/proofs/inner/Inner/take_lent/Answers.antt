@@ -1,5 +1,5 @@
 use Rattle.nb_graph.proofs.LivesLemmas.{Lives-none, Lives-weaken}
-use Rattle.nb_graph.proofs.AccountLemmas.{Calms-none}
+use Rattle.nb_effects.proofs.AccountLemmas.{Calms-none}
 use Rattle.nb_graph.proofs.OwingLemmas.{Back-stays}
 use Rattle.nb_graph.proofs.inner.Inner.take_lent.Goals as goal
 

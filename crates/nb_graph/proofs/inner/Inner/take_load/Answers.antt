@@ -1,6 +1,6 @@
 use Rattle.std.proofs.Common.{sym, ◌∙◌}
 use Rattle.nb_graph.proofs.LivesLemmas.{Lives-none, Lives-weaken}
-use Rattle.nb_graph.proofs.AccountLemmas.{Calms-none}
+use Rattle.nb_effects.proofs.AccountLemmas.{Calms-none}
 use Rattle.nb_graph.proofs.NodeLemmas.{nothing-there}
 use Rattle.nb_graph.proofs.OwingLemmas.{Back-stays}
 use Rattle.nb_graph.proofs.inner.Inner.take_load.Goals as goal

@@ -1,7 +1,7 @@
 use Rattle.std.proofs.Common.{◌≡◌, ◌∙◌, sym, ap, Some, None}
-use Rattle.nb_graph.specs.Asked.{asked}
+use Rattle.nb_effects.specs.Asked.{asked}
 use Rattle.nb_graph.proofs.LivesLemmas.{Lives-none, Lives-weaken}
-use Rattle.nb_graph.proofs.AccountLemmas.{Calms-none}
+use Rattle.nb_effects.proofs.AccountLemmas.{Calms-none}
 use Rattle.nb_graph.proofs.OwingLemmas.{Back-stays}
 use Rattle.nb_graph.proofs.inner.Inner.take_one.Goals as goal
 

@@ -3,18 +3,18 @@ use Rattle.std.proofs.Common.{refl, ap, sym, None, ◌∷◌}
 use Rattle.nb_ledger.specs.declared.event.Way.TheVariants.{Close}
 use Rattle.nb_ledger.specs.declared.event.GraphEvent.TheVariants.{Left, Unplugged}
 use Rattle.nb_ledger.specs.Ledger.{port}
-use Rattle.nb_graph.specs.Deeds.{MustUnplug as Unlinks, Settles as Frees, Holds}
-use Rattle.nb_graph.proofs.AccountLemmas.{Calms-plain, Mild-trans}
-use Rattle.nb_graph.specs.Follows.{ends, unplugs}
-use Rattle.nb_graph.proofs.SceneLemmas.{scene-busy, scene-ports}
+use Rattle.nb_effects.specs.Deeds.{MustUnplug as Unlinks, Settles as Frees, Holds}
+use Rattle.nb_effects.proofs.AccountLemmas.{Calms-plain, Mild-trans}
+use Rattle.nb_effects.specs.Follows.{ends, unplugs}
+use Rattle.nb_effects.proofs.SceneLemmas.{scene-busy, scene-ports}
 use Rattle.nb_graph.proofs.MildLemmas.{Lives-next, Lives-plain, Mild-busy, Mild-port}
-use Rattle.nb_graph.proofs.LinkLemmas.{port_but-other}
+use Rattle.nb_effects.proofs.LinkLemmas.{port_but-other}
 use Rattle.nb_graph.proofs.SeatLemmas.{Loses-same, Loses-trans}
 use Rattle.std.proofs.Common.{◌∙◌}
 use Rattle.nb_ledger.specs.declared.port.PortState.TheVariants.{Closed, Leaving}
 use Rattle.nb_ledger.proofs.PortLemmas.{live_by}
-use Rattle.nb_graph.proofs.UnplugLemmas.{IsLinked-unplug, CountedButTwo-unplug, live-unplug, Ends-unplug}
-use Rattle.nb_graph.proofs.MannedLemmas.{IsManned-same}
+use Rattle.nb_effects.proofs.UnplugLemmas.{IsLinked-unplug, CountedButTwo-unplug, live-unplug, Ends-unplug}
+use Rattle.nb_effects.proofs.MannedLemmas.{IsManned-same}
 use Rattle.nb_graph.proofs.inner.Inner.unplug.Goals as goal
 
 pub leave-requires : goal.leave-requires

@@ -1,0 +1,20 @@
+-- for callers
+pub mod Trace
+pub mod Effects
+pub mod Whole
+pub mod Deeds
+pub mod Scene
+pub mod Follows
+pub mod Hosts
+pub mod Accounts
+pub mod Lived
+pub mod Went
+pub mod Order
+pub mod Laws
+pub mod Counted
+pub mod Drained
+-- of the graph
+pub mod Asked
+pub mod Calm
+pub mod Flows
+pub mod Moves
