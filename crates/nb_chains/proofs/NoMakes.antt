@@ -1,6 +1,6 @@
 -- No object of an open asks for a make.
 use Rattle.std.proofs.Common.{◌≡◌, ℕ, Bool, true, false, not, List, [], ◌∷◌, ◌++◌, None}
-use Rattle.nb_graph.specs.declared.effects.Fx.{Fx}
+use Rattle.nb_effects.specs.declared.effects.Fx.{Fx}
 use Rattle.nb_graph.specs.Trace.{Said, NodeEntry, up, down, closed, time, regain}
 use Rattle.nb_graph.specs.Deeds.{Deed, writes, begins, calls, turns, trace_after}
 use Rattle.nb_graph.specs.Hosts.{Stood}

@@ -6,7 +6,7 @@ use Rattle.nb_terms.specs.declared.acts.Acts.{Acts}
 use Rattle.nb_terms.specs.declared.cause.Cause.{Cause}
 use Rattle.nb_tftp.specs.Asks.{Begun}
 use Rattle.nb_tftp.specs.History.{Entry as TftpCall}
-use Rattle.nb_graph.specs.declared.effects.Fx.{Fx}
+use Rattle.nb_effects.specs.declared.effects.Fx.{Fx}
 use Rattle.nb_graph.specs.Effects.{ClosesSlot}
 use Rattle.nb_graph.specs.Trace.{Said, NodeEntry, up, down, closed, time, regain}
 use Rattle.nb_nodes.specs.declared.load.Load.{Load}

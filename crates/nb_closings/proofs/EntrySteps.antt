@@ -6,7 +6,7 @@ use Rattle.nb_terms.specs.declared.cause.Cause.{Cause}
 use Rattle.nb_ledger.specs.declared.port.Port.{Port}
 use Rattle.nb_ledger.specs.declared.port.PortState.TheVariants as port
 use Rattle.nb_ledger.specs.declared.event.Way.{Way}
-use Rattle.nb_graph.specs.declared.effects.Fx.{Fx}
+use Rattle.nb_effects.specs.declared.effects.Fx.{Fx}
 use Rattle.nb_graph.specs.Deeds.{Holds, Stage, runs_of}
 use Rattle.nb_graph.specs.Effects.{ClosesSlot}
 use Rattle.nb_graph.specs.Scene.{Scene}

@@ -10,10 +10,10 @@ use Rattle.nb_ledger.specs.declared.event.Way.{Way}
 use Rattle.nb_ledger.specs.declared.event.Way.TheVariants as way
 use Rattle.nb_ledger.specs.GraphRun.{port_but}
 use Rattle.nb_ledger.specs.Ledger.{open_count}
-use Rattle.nb_graph.specs.declared.effects.Fx.{Fx}
-use Rattle.nb_graph.specs.declared.effects.Few.{Few}
-use Rattle.nb_graph.specs.declared.effects.Emit.{Emit}
-use Rattle.nb_graph.specs.declared.effects.Make.{Make}
+use Rattle.nb_effects.specs.declared.effects.Fx.{Fx}
+use Rattle.nb_effects.specs.declared.effects.Few.{Few}
+use Rattle.nb_effects.specs.declared.effects.Emit.{Emit}
+use Rattle.nb_effects.specs.declared.effects.Make.{Make}
 use Rattle.nb_graph.specs.Effects.{ClosesSlot}
 use Rattle.nb_graph.specs.Trace.{Nature, Said, in_list, lent}
 use Rattle.nb_graph.specs.Deeds.{Stage, Shut, MustHear, Holds, Makes, MustMake, MustBegin, MustPlug, Closes, MustShut, Ends, Sends, Gives, Offers, Ticks, Returns, Wants, MustUnplug, Settles, LetsAllGo, all_closes, no_memory, closes_of, makes_of, returns_of, emit_of, few_of, runs_of, settles_by}

@@ -9,7 +9,7 @@ use Rattle.nb_ledger.specs.declared.port.PortState.TheVariants as port
 use Rattle.nb_ledger.specs.declared.event.Way.{Way}
 use Rattle.nb_ledger.specs.declared.event.Way.TheVariants as way
 use Rattle.nb_ledger.specs.declared.event.GraphEvent.TheVariants.{Made, Held, LetGo, Plugged, Entered, Left, Dropped, Closed, Unplugged, Freed}
-use Rattle.nb_graph.specs.declared.effects.Fx.{Fx}
+use Rattle.nb_effects.specs.declared.effects.Fx.{Fx}
 use Rattle.nb_graph.specs.Trace.{NodeEntry, Said, silence, up, down, closed, time, regain}
 use Rattle.nb_graph.specs.Deeds.{Deed, writes, begins, calls, turns, Turn, Stage, Holds, events_of, rest, runs_of, settles_by, trace_after}
 use Rattle.nb_graph.specs.Scene.{Scene, state_at, after_noted}

@@ -1,7 +1,7 @@
 -- The nodes of the tests: our own.
 use Rattle.std.specs.Prelude.{◌≡◌, ◌≤◌, ℕ, List, [], ◌++◌, None}
 use Rattle.std.proofs.Common.{append-nil}
-use Rattle.nb_graph.specs.declared.effects.Fx.{Fx}
+use Rattle.nb_effects.specs.declared.effects.Fx.{Fx}
 use Rattle.nb_graph.specs.Trace.{NodeEntry}
 use Rattle.nb_graph.specs.Effects.{AreDowns, AreUps, AreCloses}
 use Rattle.nb_drivenodes.specs.DriveEffects.{TextCarrier}

@@ -3,9 +3,9 @@ use Rattle.std.proofs.Common.{◌≡◌, ℕ, ◌-◌, List, [], ◌∷◌, ◌+
 use Rattle.std.proofs.Math.Seq.{take-length}
 use Rattle.std.specs.List.{AllByRecursion}
 use Rattle.nb_terms.specs.declared.cause.Cause.{Cause}
-use Rattle.nb_graph.specs.declared.effects.Emit.{Emit}
-use Rattle.nb_graph.specs.declared.effects.Few.{Few}
-use Rattle.nb_graph.specs.declared.effects.Fx.{Fx}
+use Rattle.nb_effects.specs.declared.effects.Emit.{Emit}
+use Rattle.nb_effects.specs.declared.effects.Few.{Few}
+use Rattle.nb_effects.specs.declared.effects.Fx.{Fx}
 use Rattle.nb_graph.specs.Trace.{Said, in_list}
 use Rattle.nb_conns.specs.ConnEffects.{emits_of, GoesAbove, GoesBelow}
 use Rattle.nb_iscsipdu.specs.PduTexts.{PduParts}

@@ -7,9 +7,9 @@ use Rattle.nb_conns.specs.Dialogues.{AsksIdly}
 use Rattle.nb_iscsipdu.specs.declared.command.Command.{Command}
 use Rattle.std.specs.Option.{option_map, is_some}
 use Rattle.nb_terms.specs.declared.cause.Cause.{Cause}
-use Rattle.nb_graph.specs.declared.effects.Emit.{Emit}
-use Rattle.nb_graph.specs.declared.effects.Few.{Few}
-use Rattle.nb_graph.specs.declared.effects.Fx.{Fx}
+use Rattle.nb_effects.specs.declared.effects.Emit.{Emit}
+use Rattle.nb_effects.specs.declared.effects.Few.{Few}
+use Rattle.nb_effects.specs.declared.effects.Fx.{Fx}
 use Rattle.nb_graph.specs.Trace.{Said, NodeEntry, up, down}
 use Rattle.nb_conns.specs.ConnEffects.{GoesAbove, GoesBelow, TookAll, closes_for, received_says, emits_of}
 use Rattle.std.specs.List.{AllByRecursion}

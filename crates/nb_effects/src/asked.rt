@@ -7,7 +7,9 @@ use std::mem;
 /// where nothing is asked for.
 #[derive(Drop)]
 pub struct Asked<E> {
+    /// Whether it is asked for.
     pub is: bool,
+    /// What is asked for, or was before.
     pub what: E,
 }
 

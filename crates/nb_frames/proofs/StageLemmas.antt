@@ -4,10 +4,10 @@ use Rattle.std.specs.List.{AllByRecursion}
 use Rattle.nb_terms.specs.declared.cause.Cause.{Cause}
 use Rattle.nb_ledger.specs.declared.event.Way.{Way}
 use Rattle.nb_ledger.specs.declared.event.Way.TheVariants as way
-use Rattle.nb_graph.specs.declared.effects.Fx.{Fx}
-use Rattle.nb_graph.specs.declared.effects.Make.{Make}
-use Rattle.nb_graph.specs.declared.effects.Emit.{Emit}
-use Rattle.nb_graph.specs.declared.effects.Few.{Few}
+use Rattle.nb_effects.specs.declared.effects.Fx.{Fx}
+use Rattle.nb_effects.specs.declared.effects.Make.{Make}
+use Rattle.nb_effects.specs.declared.effects.Emit.{Emit}
+use Rattle.nb_effects.specs.declared.effects.Few.{Few}
 use Rattle.nb_graph.specs.Trace.{Nature, Said, in_list, lent}
 use Rattle.nb_graph.specs.Deeds.{Stage, Closes, Sends, Returns, Settles, closes_of, makes_of, returns_of, emit_of, few_of, runs_of, settles_by, no_memory}
 use Rattle.nb_graph.specs.Whole.{port_at}

@@ -8,7 +8,7 @@ use Rattle.nb_ledger.specs.declared.port.PortState.TheVariants as port
 use Rattle.nb_ledger.specs.declared.event.GraphEvent.{GraphEvent}
 use Rattle.nb_ledger.specs.declared.event.GraphEvent.TheVariants.{Made, Held, LetGo, Plugged, Entered, Left, Dropped, Closed, Unplugged, Freed}
 use Rattle.nb_ledger.specs.GraphRun.{port_but, ports_but}
-use Rattle.nb_graph.specs.declared.effects.Fx.{Fx}
+use Rattle.nb_effects.specs.declared.effects.Fx.{Fx}
 use Rattle.nb_graph.specs.Trace.{Nature, Said, silence}
 use Rattle.nb_graph.specs.Deeds.{Deed, writes, begins, calls, turns, Stage, runs_of}
 use Rattle.nb_graph.specs.Scene.{Scene, shut_of, state_at, after_noted}

@@ -2,9 +2,9 @@
 use Rattle.std.proofs.Common.{◌≡◌, ℕ, ◌≤◌, Option, Some, None, refl, ap, sym, ◌∙◌, subst, arith}
 use Rattle.std.specs.Prelude.{IfSome}
 use Rattle.nb_terms.specs.declared.acts.Acts.{Acts}
-use Rattle.nb_graph.specs.declared.effects.Emit.{Emit}
-use Rattle.nb_graph.specs.declared.effects.Few.{Few}
-use Rattle.nb_graph.specs.declared.effects.Fx.{Fx}
+use Rattle.nb_effects.specs.declared.effects.Emit.{Emit}
+use Rattle.nb_effects.specs.declared.effects.Few.{Few}
+use Rattle.nb_effects.specs.declared.effects.Fx.{Fx}
 use Rattle.nb_graph.specs.Trace.{Said}
 use Rattle.nb_graph.specs.Effects.{AreUps, IsUp}
 use Rattle.nb_nodes.specs.declared.load.Load.{Load}

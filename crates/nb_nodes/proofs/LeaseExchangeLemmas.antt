@@ -6,7 +6,7 @@ use Rattle.std.specs.Option.{is_some, option_map}
 use Rattle.std.proofs.Math.Seq.{take-length}
 use Rattle.nb_terms.specs.declared.acts.Acts.{Acts}
 use Rattle.nb_terms.specs.declared.cause.Cause.{Cause}
-use Rattle.nb_graph.specs.declared.effects.Emit.{Emit}
+use Rattle.nb_effects.specs.declared.effects.Emit.{Emit}
 use Rattle.nb_graph.specs.Trace.{Said, bytes_between}
 use Rattle.nb_graph.specs.Effects.{IsUp}
 use Rattle.nb_dhcp.specs.declared.asker.Asker.{Asker}

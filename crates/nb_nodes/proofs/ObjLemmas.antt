@@ -3,8 +3,8 @@ use Rattle.std.proofs.Common.{◌≡◌, ℕ, ◌+◌, ◌==◌, ◌&&◌, Bool,
 use Rattle.std.specs.Prelude.{IfSome, Result, Ok, Err, OnOk, OnErr}
 use Rattle.std.specs.declared.alloc.Global.{Global}
 use Rattle.nb_terms.specs.declared.cause.Cause.{Cause}
-use Rattle.nb_graph.specs.declared.effects.Make.{Make}
-use Rattle.nb_graph.specs.declared.effects.Fx.{Fx}
+use Rattle.nb_effects.specs.declared.effects.Make.{Make}
+use Rattle.nb_effects.specs.declared.effects.Fx.{Fx}
 use Rattle.nb_graph.specs.Effects.{IsMake, IsNothing, MayAsk}
 use Rattle.nb_nodes.specs.declared.fetch.Fetch.{Fetch}
 use Rattle.nb_nodes.specs.declared.fetch.Fetch.TheVariants.{Gathering, Whole, HandedOut, Moved, Failed}

@@ -4,7 +4,7 @@ use Rattle.std.proofs.lemmas.Bool.{lt-ltb, le-ltb}
 use Rattle.std.specs.Option.{is_some}
 use Rattle.nb_terms.specs.declared.acts.Acts.{Acts}
 use Rattle.nb_terms.specs.declared.cause.Cause.{Cause}
-use Rattle.nb_graph.specs.declared.effects.Fx.{Fx}
+use Rattle.nb_effects.specs.declared.effects.Fx.{Fx}
 use Rattle.nb_ledger.specs.declared.message.Msg.{Msg}
 use Rattle.nb_graph.specs.Trace.{Said, said, NodeEntry, up, down, closed, time, regain, silence}
 use Rattle.nb_tftp.specs.Asks.{Begun}
@@ -22,7 +22,7 @@ use Rattle.nb_nodes.specs.declared.tftp.Tftp.{Tftp}
 use Rattle.nb_nodes.specs.Tags.{tag_number}
 use Rattle.nb_nodes.specs.Asking.{AskValue, ask_in, begun_with}
 use Rattle.std.specs.Prelude.{IfSome}
-use Rattle.nb_graph.specs.declared.effects.Emit.{Emit}
+use Rattle.nb_effects.specs.declared.effects.Emit.{Emit}
 use Rattle.nb_graph.specs.Effects.{IsDown, IsUp, AreCloses}
 use Rattle.nb_nodes.specs.Carried.{EffectsOf, AsksNone, AsksWithin}
 use Rattle.nb_nodes.specs.Conversations.{Conversation, unbegun, under_way, over, cancelled, talk_has_ended, ended_of, talk_went_on, is_datagram, is_begin, first_acts, is_idle, is_fatal, TakesWhole, AsksOfIdle, PassesClose, Continues, begins, receives, ticks, ends, rests, RunsTo, WorksAt, waits, runs, stays, never, is_waiting, talk_is_done, TftpStands, ContinuesAs}

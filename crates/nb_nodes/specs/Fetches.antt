@@ -7,8 +7,8 @@ use Rattle.nb_terms.specs.declared.reason.Large.TheVariants as large
 use Rattle.nb_terms.specs.declared.reason.Plain.TheVariants as plain
 use Rattle.nb_terms.specs.declared.reason.Reason.TheVariants as reason
 use Rattle.nb_terms.specs.Reasons.{as_cause}
-use Rattle.nb_graph.specs.declared.effects.Emit.{Emit}
-use Rattle.nb_graph.specs.declared.effects.Fx.{Fx}
+use Rattle.nb_effects.specs.declared.effects.Emit.{Emit}
+use Rattle.nb_effects.specs.declared.effects.Fx.{Fx}
 use Rattle.nb_graph.specs.Trace.{Said, NodeEntry, up, down, closed, time, regain}
 use Rattle.nb_graph.specs.Accounts.{taken_by}
 use Rattle.nb_nodes.specs.declared.fetch.Fetch.{Fetch}

@@ -1,7 +1,7 @@
 -- What a Dhcp has done over its trace (RFC 2131), in terms of nb_dhcp's history: our own.
 use Rattle.std.specs.Prelude.{◌≡◌, ◌==◌, ◌&&◌, ℕ, Bool, true, false, List, [], ◌∷◌, ◌++◌, length, take, drop, nat_le, Option, Some, None, if◌then◌else◌}
 use Rattle.std.specs.Int.{w16, w32, to_be_bytes, from_be_bytes}
-use Rattle.nb_graph.specs.declared.effects.Emit.{Emit}
+use Rattle.nb_effects.specs.declared.effects.Emit.{Emit}
 use Rattle.nb_graph.specs.Trace.{Said}
 use Rattle.nb_dhcp.specs.declared.asker.Asker.{Asker}
 use Rattle.nb_dhcp.specs.declared.state.State.{State}

@@ -7,7 +7,7 @@ use Rattle.nb_ledger.specs.declared.port.PortState.TheVariants.{Open, Linked}
 use Rattle.nb_ledger.specs.declared.event.GraphEvent.TheVariants.{Entered, Left}
 use Rattle.nb_ledger.specs.Flat.{Given, Heard, Notice, event, flat}
 use Rattle.nb_ledger.specs.Ledger.{open_count}
-use Rattle.nb_graph.specs.declared.effects.Fx.{Fx}
+use Rattle.nb_effects.specs.declared.effects.Fx.{Fx}
 use Rattle.nb_graph.specs.Trace.{NodeEntry, Said, down, bytes_between}
 use Rattle.nb_graph.specs.Deeds.{Deed, Stage, Holds, Offers, Sends, told_of, few_of, runs_of, said_of}
 use Rattle.nb_graph.specs.Scene.{Scene, scene_of}

@@ -7,7 +7,7 @@ use Rattle.nb_ledger.specs.declared.event.Way.TheVariants as way
 use Rattle.nb_ledger.specs.declared.event.GraphEvent.TheVariants.{Closed, Entered, Left, Unplugged}
 use Rattle.nb_ledger.specs.Flat.{Heard, Notice, Given}
 use Rattle.nb_ledger.proofs.RunLemmas.{Given-append}
-use Rattle.nb_graph.specs.declared.effects.Fx.{Fx}
+use Rattle.nb_effects.specs.declared.effects.Fx.{Fx}
 use Rattle.nb_graph.specs.Trace.{NodeEntry, closed, silence}
 use Rattle.nb_graph.specs.Deeds.{Deed, Stage, Holds, Closes, MustUnplug, runs_of}
 use Rattle.nb_graph.specs.Scene.{Scene, scene_of, after_noted}

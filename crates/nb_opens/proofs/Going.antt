@@ -11,7 +11,7 @@ use Rattle.nb_ledger.specs.declared.event.GraphEvent.{GraphEvent}
 use Rattle.nb_ledger.specs.declared.event.GraphEvent.TheVariants.{Made, Held, LetGo, Plugged, Entered, Left, Dropped, Closed, Unplugged, Freed}
 use Rattle.nb_ledger.specs.Flat.{Notice, event, message, flat}
 use Rattle.nb_ledger.specs.Ledger.{open_count}
-use Rattle.nb_graph.specs.declared.effects.Fx.{Fx}
+use Rattle.nb_effects.specs.declared.effects.Fx.{Fx}
 use Rattle.nb_graph.specs.Whole.{port_at}
 use Rattle.nb_graph.specs.Trace.{NodeEntry, Said, up, closed, time, regain, silence}
 use Rattle.nb_graph.specs.Deeds.{Deed, writes, calls, turns, Turn, goes_out, arrives, stays, is_shut, notice_of, Stage, Holds, Closes, Sends, Offers, Ticks, Returns, MustUnplug, Settles, events_of, told_of, rest, runs_of, settles_by}

@@ -8,7 +8,7 @@ use Rattle.nb_ledger.specs.declared.event.GraphEvent.{GraphEvent}
 use Rattle.nb_ledger.specs.declared.event.GraphEvent.TheVariants.{Entered}
 use Rattle.nb_ledger.specs.Flat.{event, flat}
 use Rattle.nb_ledger.specs.Ledger.{open_count}
-use Rattle.nb_graph.specs.declared.effects.Fx.{Fx}
+use Rattle.nb_effects.specs.declared.effects.Fx.{Fx}
 use Rattle.nb_graph.specs.Whole.{port_at}
 use Rattle.nb_graph.specs.Trace.{NodeEntry, Said, down, lent}
 use Rattle.nb_graph.specs.Deeds.{Deed, writes, calls, arrives, Stage, Closes, Sends, Offers, told_of, no_memory, returns_of, all_closes, runs_of}

@@ -9,7 +9,7 @@ use Rattle.nb_ledger.specs.declared.event.Way.{Way}
 use Rattle.nb_ledger.specs.declared.event.Way.TheVariants as way
 use Rattle.nb_ledger.specs.declared.event.GraphEvent.TheVariants.{Entered}
 use Rattle.nb_ledger.specs.Flat.{Given, Heard, Notice}
-use Rattle.nb_graph.specs.declared.effects.Fx.{Fx}
+use Rattle.nb_effects.specs.declared.effects.Fx.{Fx}
 use Rattle.nb_graph.specs.Whole.{Objects, port_at}
 use Rattle.nb_graph.specs.Trace.{NodeEntry, Said, up, time, silence, left}
 use Rattle.nb_graph.specs.Deeds.{Stage, Offers, Ticks, Holds, Settles, told_of, rest, runs_of, settles_by}

@@ -10,7 +10,7 @@ use Rattle.nb_ledger.specs.declared.event.Way.TheVariants as way
 use Rattle.nb_ledger.specs.declared.event.GraphEvent.TheVariants.{Entered, Left, Dropped, Closed, Unplugged}
 use Rattle.nb_ledger.specs.Flat.{Notice}
 use Rattle.nb_ledger.specs.Ledger.{open_count}
-use Rattle.nb_graph.specs.declared.effects.Fx.{Fx}
+use Rattle.nb_effects.specs.declared.effects.Fx.{Fx}
 use Rattle.nb_graph.specs.Whole.{port_at}
 use Rattle.nb_graph.specs.Trace.{NodeEntry, Said, closed, silence}
 use Rattle.nb_graph.specs.Deeds.{Deed, Stage, Holds, Closes, MustUnplug, Settles, closes_of, settles_by, runs_of}

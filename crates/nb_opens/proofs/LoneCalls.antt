@@ -11,7 +11,7 @@ use Rattle.nb_ledger.specs.declared.event.GraphEvent.TheVariants.{Entered, Left,
 use Rattle.nb_ledger.specs.Flat.{Heard, Notice}
 use Rattle.nb_ledger.specs.GraphRun.{but_at, new_ports}
 use Rattle.nb_ledger.specs.Ledger.{open_count}
-use Rattle.nb_graph.specs.declared.effects.Fx.{Fx}
+use Rattle.nb_effects.specs.declared.effects.Fx.{Fx}
 use Rattle.nb_graph.specs.Laws.{EntersThen}
 use Rattle.nb_graph.specs.Scene.{Scene, scene_of, after_noted}
 use Rattle.nb_graph.specs.Trace.{NodeEntry, Said, up, time, silence, left}

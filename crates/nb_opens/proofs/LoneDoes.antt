@@ -7,7 +7,7 @@ use Rattle.nb_ledger.specs.declared.event.GraphEvent.TheVariants.{Entered}
 use Rattle.nb_ledger.specs.Flat.{Given, Heard, Notice}
 use Rattle.nb_ledger.specs.GraphRun.{new_ports}
 use Rattle.nb_ledger.specs.Ledger.{open_count}
-use Rattle.nb_graph.specs.declared.effects.Fx.{Fx}
+use Rattle.nb_effects.specs.declared.effects.Fx.{Fx}
 use Rattle.nb_graph.specs.Noded.{AreNoded}
 use Rattle.nb_graph.specs.Scene.{scene_of}
 use Rattle.nb_graph.specs.Trace.{Said, up, down, time, silence, left}

@@ -3,7 +3,7 @@ use Rattle.std.proofs.Common.{◌≡◌, ℕ, ◌++◌, ◌&&◌, Bool, true, fa
 use Rattle.std.proofs.lemmas.Bool.{eq-eqb}
 use Rattle.std.specs.Option.{is_some}
 use Rattle.nb_terms.specs.declared.acts.Acts.{Acts}
-use Rattle.nb_graph.specs.declared.effects.Fx.{Fx}
+use Rattle.nb_effects.specs.declared.effects.Fx.{Fx}
 use Rattle.nb_graph.specs.Trace.{Said, NodeEntry, up, down, closed, time, regain, silence}
 use Rattle.nb_nodes.specs.declared.load.Load.{Load}
 use Rattle.nb_nodes.specs.declared.obj.Obj.{Obj}

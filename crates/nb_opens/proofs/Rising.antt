@@ -11,7 +11,7 @@ use Rattle.nb_ledger.specs.declared.event.Way.{Way}
 use Rattle.nb_ledger.specs.declared.event.Way.TheVariants as way
 use Rattle.nb_ledger.specs.declared.event.GraphEvent.TheVariants.{Entered, Left, Dropped, Closed, Unplugged}
 use Rattle.nb_ledger.specs.Flat.{Notice}
-use Rattle.nb_graph.specs.declared.effects.Fx.{Fx}
+use Rattle.nb_effects.specs.declared.effects.Fx.{Fx}
 use Rattle.nb_graph.specs.Whole.{port_at}
 use Rattle.nb_graph.specs.Trace.{NodeEntry, Said, up, lent, left, said_behind}
 use Rattle.nb_graph.specs.Deeds.{Deed, Stage, Holds, Closes, Settles, told_of, closes_of, returns_of, all_closes, few_of, settles_by, runs_of, rest, no_memory}

@@ -2,9 +2,9 @@
 use Rattle.std.proofs.Common.{◌≡◌, ◌<◌, ◌^◌, ℕ, ◌&&◌, Bool, true, false, not, List, [], ◌∷◌, ◌++◌, length, Option, Some, None, refl, sym, ap, subst, if◌then◌else◌}
 use Rattle.std.specs.List.{AllByRecursion}
 use Rattle.nb_terms.specs.declared.cause.Cause.{Cause}
-use Rattle.nb_graph.specs.declared.effects.Emit.{Emit}
-use Rattle.nb_graph.specs.declared.effects.Few.{Few}
-use Rattle.nb_graph.specs.declared.effects.Fx.{Fx}
+use Rattle.nb_effects.specs.declared.effects.Emit.{Emit}
+use Rattle.nb_effects.specs.declared.effects.Few.{Few}
+use Rattle.nb_effects.specs.declared.effects.Fx.{Fx}
 use Rattle.nb_graph.specs.Deeds.{rest}
 use Rattle.nb_graph.specs.Trace.{NodeEntry, Said, up, down, closed, time, regain}
 use Rattle.nb_conns.specs.ConnEffects.{ConnEffects, SaysNothing, TookAll, emits_of}

@@ -6,9 +6,9 @@ use Rattle.nb_terms.specs.declared.cause.Cause.{Cause}
 use Rattle.nb_ledger.specs.declared.port.Port.{Port}
 use Rattle.nb_ledger.specs.declared.port.PortState.TheVariants as port
 use Rattle.nb_ledger.specs.declared.event.Way.{Way}
-use Rattle.nb_graph.specs.declared.effects.Emit.{Emit}
-use Rattle.nb_graph.specs.declared.effects.Fx.{Fx}
-use Rattle.nb_graph.specs.declared.effects.Make.{Make}
+use Rattle.nb_effects.specs.declared.effects.Emit.{Emit}
+use Rattle.nb_effects.specs.declared.effects.Fx.{Fx}
+use Rattle.nb_effects.specs.declared.effects.Make.{Make}
 use Rattle.nb_graph.specs.Deeds.{Stage, Holds, closes_of, all_closes, emit_of, few_of, makes_of, no_memory, rest, returns_of, runs_of}
 use Rattle.nb_graph.specs.Scene.{Scene}
 use Rattle.nb_graph.specs.Trace.{NodeEntry, Said, in_list, lent, up, down, closed, time, regain}

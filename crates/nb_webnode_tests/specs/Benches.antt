@@ -1,6 +1,6 @@
 -- The nodes of the tests: our own.
 use Rattle.std.specs.Prelude.{◌≡◌, ◌≤◌, ℕ, List, [], ◌++◌, None, refl}
-use Rattle.nb_graph.specs.declared.effects.Fx.{Fx}
+use Rattle.nb_effects.specs.declared.effects.Fx.{Fx}
 use Rattle.nb_graph.specs.Trace.{NodeEntry}
 use Rattle.nb_graph.specs.Effects.{AreDowns, AreUps, AreCloses}
 use Rattle.nb_webnodes.specs.WebEffects.{WebCarrier}

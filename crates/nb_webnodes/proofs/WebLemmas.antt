@@ -3,7 +3,7 @@ use Rattle.std.proofs.Common.{◌≡◌, ℕ, ◌==◌, ◌&&◌, ◌||◌, ◌<
 use Rattle.std.proofs.lemmas.Bool.{lt-ltb, le-ltb, false≢true}
 use Rattle.std.specs.Option.{is_some}
 use Rattle.nb_terms.specs.declared.cause.Cause.{Cause}
-use Rattle.nb_graph.specs.declared.effects.Fx.{Fx}
+use Rattle.nb_effects.specs.declared.effects.Fx.{Fx}
 use Rattle.nb_graph.specs.Trace.{Said, NodeEntry, up, down, closed, regain}
 use Rattle.nb_conns.specs.declared.stream_tag.StreamTag.TheVariants.{Begin}
 use Rattle.nb_conns.specs.StreamTags.{stream_tag_number}
@@ -14,7 +14,7 @@ use Rattle.nb_webnodes.specs.declared.web.Web.{Web}
 use Rattle.nb_webnodes.specs.WebAsks.{web_ask_in}
 use Rattle.nb_webnodes.specs.WebEffects.{WebCarrier, begin_emit, send_emit, AsksBelow}
 use Rattle.nb_conns.specs.ConnEffects.{ConnWithin}
-use Rattle.nb_graph.specs.declared.effects.Emit.{Emit}
+use Rattle.nb_effects.specs.declared.effects.Emit.{Emit}
 use Rattle.nb_graph.specs.Effects.{IsDown, IsUp, AreCloses}
 use Rattle.std.proofs.lemmas.Option.{none-some}
 use Rattle.std.specs.Prelude.{IfSome}

@@ -3,7 +3,7 @@ use Rattle.std.proofs.Common.{◌≡◌, ℕ, ◌<◌, ◌^◌, Bool, true, fals
 use Rattle.std.proofs.lemmas.Bool.{false≢true, le-ltb}
 use Rattle.nb_terms.specs.declared.acts.Acts.{Acts}
 use Rattle.nb_ledger.specs.declared.event.Way.TheVariants as way
-use Rattle.nb_graph.specs.declared.effects.Fx.{Fx}
+use Rattle.nb_effects.specs.declared.effects.Fx.{Fx}
 use Rattle.nb_graph.specs.Whole.{port_at}
 use Rattle.nb_graph.specs.Trace.{NodeEntry, Said, left, said_behind, silence, time, up}
 use Rattle.nb_graph.specs.Deeds.{Deed, Holds, Offers, Ticks, rest, runs_of}

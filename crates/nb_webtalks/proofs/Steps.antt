@@ -9,7 +9,7 @@ use Rattle.nb_ledger.specs.declared.event.Way.TheVariants as way
 use Rattle.nb_ledger.specs.declared.event.GraphEvent.TheVariants.{Entered, Left, Dropped, Closed, Unplugged}
 use Rattle.nb_ledger.specs.GraphRun.{IsOpen}
 use Rattle.nb_ledger.specs.Ledger.{open_count}
-use Rattle.nb_graph.specs.declared.effects.Fx.{Fx}
+use Rattle.nb_effects.specs.declared.effects.Fx.{Fx}
 use Rattle.nb_graph.specs.Whole.{port_at}
 use Rattle.nb_graph.specs.Trace.{NodeEntry, Said, up, down, closed, time, regain, silence}
 use Rattle.nb_graph.specs.Deeds.{Deed, writes, calls, turns, goes_out, arrives, stays, is_shut, Stage, Holds, Closes, Sends, Offers, Ticks, Returns, MustUnplug, Settles, events_of, told_of, rest, runs_of, settles_by}

@@ -1,5 +1,5 @@
 use Rattle.std.proofs.Common.{◌≡◌, Option, Some, subst, sym, arith}
-use Rattle.nb_graph.specs.declared.effects.Emit.{Emit}
+use Rattle.nb_effects.specs.declared.effects.Emit.{Emit}
 use Rattle.nb_nodes.specs.declared.load.Load.{Load}
 use Rattle.nb_nodes.specs.Carried.{AsksDown, advance_emit}
 use Rattle.nb_nodes.proofs.CarriedLemmas.{sends_both}

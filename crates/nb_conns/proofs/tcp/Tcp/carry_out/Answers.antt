@@ -1,7 +1,7 @@
 use Rattle.std.proofs.Common.{◌≡◌, sym, subst, refl, None}
 use Rattle.nb_conns.specs.ConnEffects.{boxed}
 use Rattle.nb_conns.proofs.EffectLemmas.{effects_within, no_ups_for}
-use Rattle.nb_graph.specs.declared.effects.Fx.{Fx}
+use Rattle.nb_effects.specs.declared.effects.Fx.{Fx}
 use Rattle.nb_conns.specs.ConnEffects.{ConnWithin}
 use Rattle.nb_conns.proofs.tcp.Tcp.carry_out.Goals as goal
 

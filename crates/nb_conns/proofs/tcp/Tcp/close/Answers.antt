@@ -3,7 +3,7 @@ use Rattle.nb_graph.specs.Trace.{closed}
 use Rattle.nb_conns.specs.declared.stage.ConnStage.TheVariants.{Over}
 use Rattle.nb_conns.specs.Dialogues.{CarriesOn}
 use Rattle.nb_conns.proofs.DialogueLemmas.{cuts_on, cut_close}
-use Rattle.nb_graph.specs.declared.effects.Fx.{Fx}
+use Rattle.nb_effects.specs.declared.effects.Fx.{Fx}
 use Rattle.nb_conns.proofs.tcp.Tcp.close.Goals as goal
 
 pub returns-then-slot-eq-ABOVE-clause-leads : goal.returns-then-slot-eq-ABOVE-clause-leads

@@ -4,7 +4,7 @@ use Rattle.nb_conns.specs.declared.stage.ConnStage.{ConnStage}
 use Rattle.nb_conns.specs.declared.stage.ConnStage.TheVariants.{Over}
 use Rattle.nb_conns.specs.Dialogues.{CarriesOn}
 use Rattle.nb_conns.proofs.DialogueLemmas.{cuts_on, cut_close}
-use Rattle.nb_graph.specs.declared.effects.Fx.{Fx}
+use Rattle.nb_effects.specs.declared.effects.Fx.{Fx}
 use Rattle.nb_conns.proofs.tcp.Tcp.close_above.Goals as goal
 
 pub returns-in-Running-clause-leads : goal.returns-in-Running-clause-leads

@@ -1,6 +1,6 @@
 use Rattle.std.proofs.Common.{◌≡◌, ◌==◌, ◌&&◌, ◌∙◌, Bool, true, false, [], Some, Err, ap, not, sym, refl, subst}
 use Rattle.std.specs.Option.{option_map, is_some}
-use Rattle.nb_graph.specs.declared.effects.Fx.{Fx}
+use Rattle.nb_effects.specs.declared.effects.Fx.{Fx}
 use Rattle.nb_graph.specs.Trace.{down}
 use Rattle.nb_conns.specs.ConnEffects.{closes_for}
 use Rattle.nb_login.specs.declared.refusal.LoginRefusal.{LoginRefusal}

@@ -1,6 +1,6 @@
 use Rattle.std.proofs.Common.{◌∙◌, ap, not, sym, length-append}
 use Rattle.std.proofs.lemmas.Bool.{ne_eqb}
-use Rattle.nb_graph.specs.declared.effects.Fx.{Fx}
+use Rattle.nb_effects.specs.declared.effects.Fx.{Fx}
 use Rattle.nb_graph.specs.Trace.{said}
 use Rattle.nb_conns.proofs.DialogueLemmas.{nothing_said}
 use Rattle.nb_drivenodes.proofs.DriveEffectLemmas.{passes-alone}

@@ -1,5 +1,5 @@
 use Rattle.std.proofs.Common.{◌++◌, ap, not, sym, ◌∙◌, refl, subst, []}
-use Rattle.nb_graph.specs.declared.effects.Fx.{Fx}
+use Rattle.nb_effects.specs.declared.effects.Fx.{Fx}
 use Rattle.nb_graph.specs.Trace.{said}
 use Rattle.nb_iscsipdu.specs.Streams.{pdu_of}
 use Rattle.nb_conns.proofs.DialogueLemmas.{nothing_said}

@@ -1,6 +1,6 @@
 use Rattle.std.proofs.Common.{◌≡◌, ◌++◌, ap, not, sym, ◌∙◌, subst}
 use Rattle.std.specs.Option.{option_map}
-use Rattle.nb_graph.specs.declared.effects.Fx.{Fx}
+use Rattle.nb_effects.specs.declared.effects.Fx.{Fx}
 use Rattle.nb_iscsipdu.specs.PduTexts.{PduParts, pdu_parts}
 use Rattle.nb_login.specs.LoginHistory.{PduCame, pdu_came}
 use Rattle.nb_login.specs.LoginStands.{LoginStands}

@@ -1,5 +1,5 @@
 use Rattle.std.proofs.Common.{ℕ, true, ap, sym, ◌∙◌, subst, refl, arith, if◌then◌else◌}
-use Rattle.nb_graph.specs.declared.effects.Fx.{Fx}
+use Rattle.nb_effects.specs.declared.effects.Fx.{Fx}
 use Rattle.nb_graph.specs.Trace.{up}
 use Rattle.nb_conns.specs.ConnEffects.{closes_for}
 use Rattle.nb_disk.specs.Histories.{stream_ended}

@@ -1,5 +1,5 @@
 use Rattle.std.proofs.Common.{◌-◌, ◌++◌, [], ◌∷◌, ap, sym, ◌∙◌, refl, arith}
-use Rattle.nb_graph.specs.declared.effects.Fx.{Fx}
+use Rattle.nb_effects.specs.declared.effects.Fx.{Fx}
 use Rattle.nb_graph.specs.Trace.{closed}
 use Rattle.nb_drivenodes.specs.declared.unit_stage.UnitStage.TheVariants.{Ended}
 use Rattle.nb_conns.proofs.DialogueLemmas.{nothing_said}

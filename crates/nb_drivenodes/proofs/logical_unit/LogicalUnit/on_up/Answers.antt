@@ -1,5 +1,5 @@
 use Rattle.std.proofs.Common.{ap, not, sym, ◌∙◌, length-append, min}
-use Rattle.nb_graph.specs.declared.effects.Fx.{Fx}
+use Rattle.nb_effects.specs.declared.effects.Fx.{Fx}
 use Rattle.nb_graph.specs.Trace.{said}
 use Rattle.nb_conns.proofs.DialogueLemmas.{nothing_said}
 use Rattle.nb_drivenodes.proofs.UnitLemmas.{unit-rests, unit-cuts, quiet-up-unit, off-slot, off-opened, off-served, unit-stands-on}

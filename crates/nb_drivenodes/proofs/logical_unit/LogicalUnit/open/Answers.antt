@@ -1,6 +1,6 @@
 use Rattle.std.proofs.Common.{ℕ, ◌&&◌, true, [], Some, ap, not, sym, ◌∙◌, subst}
 use Rattle.std.specs.Option.{is_some}
-use Rattle.nb_graph.specs.declared.effects.Fx.{Fx}
+use Rattle.nb_effects.specs.declared.effects.Fx.{Fx}
 use Rattle.nb_graph.specs.Trace.{up}
 use Rattle.nb_drivenodes.specs.declared.unit_stage.UnitStage.TheVariants.{Working}
 use Rattle.nb_drivenodes.specs.DriveEffects.{DriveEffects, sends_says}

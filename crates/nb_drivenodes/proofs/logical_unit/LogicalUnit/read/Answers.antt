@@ -1,6 +1,6 @@
 use Rattle.std.proofs.Common.{◌≡◌, ℕ, ◌==◌, ◌++◌, ◌∷◌, [], Some, Err, ap, not, sym, ◌∙◌, subst}
 use Rattle.std.specs.Option.{option_map}
-use Rattle.nb_graph.specs.declared.effects.Fx.{Fx}
+use Rattle.nb_effects.specs.declared.effects.Fx.{Fx}
 use Rattle.nb_conns.proofs.DialogueLemmas.{nothing_said}
 use Rattle.nb_iscsipdu.specs.PduTexts.{pdu_text}
 use Rattle.nb_disk.specs.declared.blocks.ReadRefusal.{ReadRefusal}

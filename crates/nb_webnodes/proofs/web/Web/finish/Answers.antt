@@ -1,6 +1,6 @@
 use Rattle.std.proofs.Common.{true, sym, refl, subst}
 use Rattle.nb_webnodes.proofs.AnswerLemmas.{ended_on}
-use Rattle.nb_graph.specs.declared.effects.Fx.{Fx}
+use Rattle.nb_effects.specs.declared.effects.Fx.{Fx}
 use Rattle.nb_webnodes.specs.declared.stage.WebStage.TheVariants.{Ended}
 use Rattle.nb_webnodes.specs.WebTalks.{FetchesOn}
 use Rattle.nb_graph.specs.Trace.{up}

@@ -1,5 +1,5 @@
 use Rattle.std.proofs.Common.{ap, not, sym, refl, subst, true}
-use Rattle.nb_graph.specs.declared.effects.Fx.{Fx}
+use Rattle.nb_effects.specs.declared.effects.Fx.{Fx}
 use Rattle.nb_graph.specs.Trace.{up, said}
 use Rattle.nb_conns.specs.ConnEffects.{closes_for}
 use Rattle.nb_webnodes.specs.WebTalks.{FetchesOn}
