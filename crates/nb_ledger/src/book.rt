@@ -127,6 +127,7 @@ impl Book {
     }
 
     /// The same by its key.
+    #[inline(always)]
     fn find_at(&self, id: ObjId, key: usize) -> Option<&Object>
         ensures is { option_copied result ≡ found self.now.objects id.0 }
         ensures slots { IfSome result (λ o. length o.now.ports ≡ 4) }
@@ -135,6 +136,7 @@ impl Book {
     }
 
     /// The same by its place.
+    #[inline(always)]
     fn find_in(&self, id: ObjId, index: usize) -> Option<&Object>
         requires { index ≡ place self.now id.0 }
         ensures is { option_copied result ≡ found self.now.objects id.0 }
@@ -286,6 +288,7 @@ impl Book {
     }
 
     /// Whether a live object has no hold, no link and no entry that runs, by its key.
+    #[inline(always)]
     pub fn is_unused_at(&self, id: ObjId, key: usize) -> bool
         requires { object_lives self.now id.0 ≡ true }
         ensures { result ≡ unused self.now id.0 }
@@ -318,6 +321,7 @@ fn place_among(objects: &[Object], id: ObjId) -> usize
     objects.len()
 }
 
+#[inline(always)]
 fn object_at(objects: &[Object], place: usize) -> Option<&Object>
     ensures { option_copied result ≡ slice_get objects.now place }
 {
@@ -325,6 +329,7 @@ fn object_at(objects: &[Object], place: usize) -> Option<&Object>
 }
 
 /// Whether an object stands at this place.
+#[inline(always)]
 fn stands_at(objects: &[Object], id: ObjId, place: usize) -> bool
     ensures { OnTrue result (IfSome (slice_get objects.now place) (λ o. o.id.0 ≡ id.0)
         × IsSome (slice_get objects.now place)) }

@@ -17,6 +17,7 @@ pub enum Way {
 
 impl Way {
     /// The number of a way in an event's second slot.
+    #[inline(always)]
     fn number(self) -> u8
         ensures { result ≡ way_number self }
     {
@@ -60,11 +61,8 @@ impl GraphEvent {
             GraphEvent::Held(object) => of_object(2, object),
             GraphEvent::LetGo(object) => of_object(3, object),
             GraphEvent::Plugged(upper, lower) => of_link(4, upper, lower),
-            GraphEvent::Entered(port, way) => Event {
-                other_slot: way.number(),
-                ..of_port(5, port)
-            },
-            GraphEvent::Left(port) => of_port(6, port),
+            GraphEvent::Entered(port, way) => entry_event(port, way),
+            GraphEvent::Left(port) => left_event(port),
             GraphEvent::Dropped(port) => of_port(7, port),
             GraphEvent::Closed(port, cause) => Event {
                 cause,
@@ -77,6 +75,26 @@ impl GraphEvent {
 }
 
 ghost use Rattle.nb_ledger.specs.Flat.{object_event, port_event, link_event};
+ghost use Rattle.nb_ledger.specs.declared.event.GraphEvent.TheVariants.{Entered, Left};
+
+/// An entry as it is traced. It has a function of its own, as it is frequent.
+#[inline(always)]
+pub(crate) fn entry_event(port: Port, way: Way) -> Event
+    ensures { result ≡ flat (Entered port way) }
+{
+    Event {
+        other_slot: way.number(),
+        ..of_port(5, port)
+    }
+}
+
+/// The end of an entry as it is traced.
+#[inline(always)]
+pub(crate) fn left_event(port: Port) -> Event
+    ensures { result ≡ flat (Left port) }
+{
+    of_port(6, port)
+}
 
 fn of_object(event: u8, object: ObjId) -> Event
     ensures { result ≡ object_event event object.0 }
@@ -90,6 +108,7 @@ fn of_object(event: u8, object: ObjId) -> Event
     )
 }
 
+#[inline(always)]
 fn of_port(event: u8, port: Port) -> Event
     ensures { result ≡ port_event event port }
 {
@@ -103,6 +122,7 @@ fn of_port(event: u8, port: Port) -> Event
     )
 }
 
+#[inline(always)]
 fn of_link(event: u8, port: Port, other: Port) -> Event
     ensures { result ≡ link_event event port other }
 {

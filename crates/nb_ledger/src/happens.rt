@@ -13,6 +13,7 @@ ghost use Rattle.nb_ledger.specs.Ledger.{Ledger, object_lives, holds, busy, port
 ghost use Rattle.nb_ledger.specs.Ledger.{unused};
 ghost use Rattle.nb_ledger.specs.Changes.{SetsHolds, SetsBusy, SetsPort, Adds, Removes};
 
+use crate::event::{entry_event, left_event};
 use crate::{Book, GraphEvent, ObjId, Outside, Port, PortState, Way};
 use nb_terms::Cause;
 
@@ -126,7 +127,7 @@ impl Book {
         ensures runs { busy self.new at.obj.0 ≡ true }
     {
         let was = self.set_busy(at.obj, index, true);
-        out.event(&GraphEvent::Entered(at, by).spelled());
+        out.event(&entry_event(at, by));
         was
     }
 
@@ -165,7 +166,7 @@ impl Book {
         ensures unused { result ≡ unused self.new at.obj.0 }
     {
         let unused = self.end_entry(at.obj, index, was);
-        out.event(&GraphEvent::Left(at).spelled());
+        out.event(&left_event(at));
         unused
     }
 

@@ -17,6 +17,7 @@ ghost use Rattle.nb_ledger.specs.Ledger.{object_port, object_ties, object_unused
 
 impl Object {
     /// The state of a port: Closed where there is no such slot.
+    #[inline(always)]
     pub(crate) fn port(&self, slot: u8) -> PortState
         requires { length self.now.ports ≡ 4 }
         ensures { result ≡ object_port slot self.now }
@@ -39,6 +40,7 @@ impl Object {
     }
 
     /// Whether it has no hold, no link and no entry that runs.
+    #[inline(always)]
     pub(crate) fn is_unused(&self) -> bool
         requires { length self.now.ports ≡ 4 }
         ensures { result ≡ object_unused self.now }
@@ -47,6 +49,7 @@ impl Object {
     }
 
     /// The number of its links.
+    #[inline(always)]
     fn ties(&self) -> u8
         requires { length self.now.ports ≡ 4 }
         ensures { result ≡ object_ties self.now }
@@ -54,6 +57,7 @@ impl Object {
         self.tie(0) + self.tie(1) + self.tie(2) + self.tie(3)
     }
 
+    #[inline(always)]
     fn tie(&self, slot: u8) -> u8
         requires { length self.now.ports ≡ 4 }
         ensures is { result ≡ link_count (object_port slot self.now) }
