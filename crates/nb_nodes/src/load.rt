@@ -29,6 +29,7 @@ impl Parts for Load {
 
     ghost second = { second_part };
 
+    #[inline(always)]
     fn parts(&self) -> (&[u8], &[u8]) {
         match self {
             Load::Body(_) => (&[], &[]),
@@ -78,6 +79,7 @@ impl CarriesWeb for Load {
 }
 
 /// The body of the first message, empty where there is none.
+#[inline(always)]
 fn first_body(sends: &[SendTo]) -> &[u8]
     ensures { result.now ≡ first_body sends.now }
 {

@@ -97,7 +97,7 @@ impl Obj {
         Ok(Obj::Tcp(tcp))
     }
 
-    /// A load that was lent comes back. Not inlined, as only a Tftp's are frequent.
+    /// A load that was lent comes back. Not inlined, as only a Tftp's and a Tcp's are frequent.
     #[inline(never)]
     fn take_back(&mut self, load: Load)
         ensures rank { rank_of_obj self.new ≡ rank_of_obj self.old }
@@ -220,6 +220,7 @@ impl Node for Obj {
     fn regain(&mut self, load: Load) {
         match self {
             Obj::Tftp(tftp) => tftp.regain(load),
+            Obj::Tcp(tcp) => tcp.regain::<Obj, Load>(load),
             _ => self.take_back(load),
         }
     }
