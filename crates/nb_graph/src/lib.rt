@@ -21,5 +21,7 @@ mod timing;
 mod upward;
 
 pub use graph::{Graph, NotOpen, Reach, entries_are_the_nodes_own, one_after_another};
-pub use nb_effects::{Asked, Emit, Few, Fx, Make, Node, Parts, closed_first_was_taken, drained_where_closed};
+pub use nb_effects::{
+    Asked, Emit, Few, Fx, Make, Node, Parts, closed_first_was_taken, drained_where_closed,
+};
 pub use nb_ledger::{GraphEvent, Msg, ObjId, Outside, Port, Way};
