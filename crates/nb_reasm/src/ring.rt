@@ -66,6 +66,14 @@ impl Ring {
         self.base + self.memory.size() as u32
     }
 
+    /// The first place from which on none is marked.
+    fn marked_end(&self) -> u32
+        requires { IsJoinable self.now }
+        ensures { result ≡ min self.now.end (self.now.base + capacity self.now) }
+    {
+        self.end.min(self.top())
+    }
+
     /// The slot of a place in the window.
     fn slot(&self, place: u32) -> usize
         requires ring { IsJoinable self.now }
@@ -102,8 +110,8 @@ impl Ring {
         ensures same { SameWindow self.old self.new }
         ensures held { (p : ℕ) → held_byte self.new p ≡ held_byte self.old p }
     {
-        while self.next < self.top() {
-            let run = self.run(self.next, self.top());
+        while self.next < self.marked_end() {
+            let run = self.run(self.next, self.marked_end());
             if !run.marked {
                 return;
             }
