@@ -1,3 +1,4 @@
 pub mod OptionLemmas
 pub mod HeaderLemmas
 pub mod SentLemmas
+pub mod PseudoLemmas

@@ -2,12 +2,12 @@
 
 ghost use Rattle.std.specs.Prelude.{◌≡◌, ℕ, Option, ◌+◌, ◌*◌, ◌/◌, ◌%◌, ◌<◌, ◌≤◌, ◌^◌, ◌++◌, ◌↔◌, length, take, slice_index, IfSome, IfNone, IsSomeAnd, IsErr, OnOk, OnErr, MatchBool};
 ghost use Rattle.std.specs.Option.{unwrap_or};
-ghost use Rattle.nb_wire.specs.Checksum.{checksum};
+ghost use Rattle.nb_wire.specs.Checksum.{checksum, HasSum};
 ghost use Rattle.nb_tcpseg.specs.SegmentText.{tcp_pseudo_header, IsIntact, sent_header_len};
 
 use crate::options::mss_in;
 use nb_ipv4::PROTO_TCP;
-use nb_wire::{Full, Ip4, Out, sum16};
+use nb_wire::{Full, Ip4, Out, is_intact_after, sum16};
 
 /// The flag of a segment after which the sender has no more data.
 pub const FIN: u8 = 1;
@@ -55,6 +55,7 @@ impl<'a> Segment<'a> {
     ghost use Rattle.nb_tcpseg.specs.SegmentText.{SegmentParts, IsSegment, segment_parts, segment_text, tcp_header, mss_option, sent_segment, Fits};
 
     /// The segment between these addresses that the bytes are, if they are one.
+    #[inline(always)]
     pub fn read(src: Ip4, dst: Ip4, bytes: &'a [u8]) -> Option<Segment<'a>>
         ensures sound { IfSome result (λ s. IsSegment src dst bytes.now (segment_parts s)) }
         ensures complete { (s : SegmentParts) → IsSegment src dst bytes.now s
@@ -122,6 +123,7 @@ impl<'a> Segment<'a> {
     }
 
     /// The header with checksum 0, for a layer below that fills it in: the first `header_len` bytes.
+    #[inline(always)]
     pub fn unsummed_header(&self) -> [u8; 24]
         ensures { take (sent_header_len self.now.mss) result ++ self.now.body.now
             ≡ segment_text (segment_parts self.now) 0 }
@@ -130,6 +132,7 @@ impl<'a> Segment<'a> {
     }
 
     /// How many bytes the header has with the options that are sent.
+    #[inline(always)]
     pub fn header_len(&self) -> usize
         ensures value { result ≡ sent_header_len self.now.mss }
         ensures most { result ≤ 24 }
@@ -138,6 +141,7 @@ impl<'a> Segment<'a> {
     }
 
     // The header with this checksum, and with room for the maximum segment size where there is none.
+    #[inline(always)]
     fn header(&self, checksum: u16) -> [u8; 24]
         ensures value { result ≡ tcp_header (segment_parts self.now) (4 * sent_header_len self.now.mss) checksum 0
             ++ mss_option (unwrap_or self.now.mss 0) }
@@ -161,6 +165,7 @@ impl<'a> Segment<'a> {
 }
 
 // The length of a header in bytes, by the byte of its data offset.
+#[inline(always)]
 fn header_len(offset: u8) -> Option<usize>
     ensures none { IfNone result (offset < 80) }
     ensures length { IfSome result (λ n. (n ≡ 4 * (offset / 16)) × (80 ≤ offset)) }
@@ -171,6 +176,7 @@ fn header_len(offset: u8) -> Option<usize>
     Some(4 * usize::from(offset / 16))
 }
 
+#[inline(always)]
 fn sent_header_len(mss: Option<u16>) -> usize
     ensures value { result ≡ sent_header_len mss }
     ensures most { result ≤ 24 }
@@ -193,13 +199,24 @@ fn pseudo_bytes(src: Ip4, dst: Ip4, len: u16) -> [u8; 12]
     [s0, s1, s2, s3, d0, d1, d2, d3, 0, PROTO_TCP, l0, l1]
 }
 
+// A number that stands for the words of the pseudo-header: in their sum a carry counts as 1, so each
+// address is added as one number.
+#[inline(always)]
+fn pseudo_total(src: Ip4, dst: Ip4, len: u16) -> u64
+    ensures sum { HasSum (tcp_pseudo_header src dst len) result }
+    ensures room { result < 2 ^ 40 }
+{
+    u64::from(src.0) + u64::from(dst.0) + u64::from(PROTO_TCP) + u64::from(len)
+}
+
+#[inline(always)]
 fn is_intact(src: Ip4, dst: Ip4, bytes: &[u8]) -> bool
     ensures { MatchBool result (IsIntact src dst bytes.now) (IsIntact src dst bytes.now → ⊥) }
 {
     let Ok(len) = u16::try_from(bytes.len()) else {
         return false;
     };
-    sum16(&pseudo_bytes(src, dst, len), bytes) == 0
+    is_intact_after(pseudo_total(src, dst, len), bytes)
 }
 
 // The checksum of a pseudo-header, so much of a header, and a body.
