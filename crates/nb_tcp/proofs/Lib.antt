@@ -1,5 +1,6 @@
 pub mod PlaceLemmas
 pub mod PieceLemmas
+pub mod InOrderLemmas
 pub mod WindowStandsLemmas
 pub mod DeliveryLemmas
 pub mod FlowStandsLemmas

@@ -1,5 +1,6 @@
 pub mod Arriving
 pub mod Numbers
+pub mod InOrder
 pub mod Messages
 pub mod Replies
 pub mod Receiving

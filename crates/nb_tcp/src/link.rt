@@ -31,6 +31,7 @@ pub(crate) struct Link {
 
 impl Link {
     /// Asks for the segment to be sent, with checksum 0.
+    #[inline(always)]
     pub(crate) fn send(&self, segment: &Segment<'_>, acts: &mut Acts)
         requires room { length acts.old.sends.items < 2 }
         requires fits { sent_header_len segment.now.mss + length segment.now.body.now ≤ 1480 }
@@ -92,6 +93,7 @@ impl Link {
     }
 
     /// The segment of an established connection with this place of ours and these bytes.
+    #[inline(always)]
     fn segment<'a>(
         &self,
         variables: Variables,
@@ -115,6 +117,7 @@ impl Link {
     }
 
     /// The acknowledgement of what has come.
+    #[inline(always)]
     pub(crate) fn pure_ack(&self, variables: Variables) -> Segment<'static>
         ensures { segment_parts result ≡ outgoing_parts self.now (outgoing_at 16 65535 [] variables.sent variables) }
     {

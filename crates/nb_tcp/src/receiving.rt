@@ -3,6 +3,7 @@
 ghost use Rattle.std.specs.Prelude.{◌≡◌, ℕ, ◌<◌, ◌^◌, ◌+◌, ◌-◌, ◌≤◌, length, drop, take, min};
 ghost use Rattle.nb_reasm.specs.HeldWindows.{window};
 ghost use Rattle.nb_tcp.specs.Arriving.{incoming};
+ghost use Rattle.nb_tcp.specs.InOrder.{ComesInOrder};
 ghost use Rattle.nb_tcp.specs.Receiving.{Receives, PutInto, PassesOver};
 
 use crate::variables::{MAX_SIZE, Variables};
@@ -28,7 +29,27 @@ pub(crate) fn receive(
     }
 }
 
+/// The same where the segment's bytes come next, and it has nothing else that is new.
+#[inline(always)]
+pub(crate) fn receive_next(
+    held: &mut Option<Held>,
+    variables: Variables,
+    segment: &Segment<'_>,
+) -> Variables
+    requires { ComesInOrder variables (incoming segment.now) }
+    ensures { Receives variables (incoming segment.now) held.old held.new result }
+{
+    match held {
+        None => variables,
+        Some(held) => Variables {
+            next: hold(held, variables.next, segment.body),
+            ..variables
+        },
+    }
+}
+
 /// Holds these bytes from a place on. Returns the least place that isn't held.
+#[inline(always)]
 fn hold(held: &mut Held, place: u32, bytes: &[u8]) -> u32
     requires { 0 < length bytes.now → place + length bytes.now < 2 ^ 31 }
     ensures put { PutInto (window held.old) place bytes.now (window held.new) }

@@ -6,6 +6,7 @@ ghost use Rattle.nb_retry.specs.declared.plan.Plan.TheVariants.{Common, Probe};
 ghost use Rattle.nb_terms.specs.Reasons.{as_cause};
 ghost use Rattle.nb_streams.specs.Endings.{plan_tries, end_cause};
 ghost use Rattle.nb_tcp.specs.Arriving.{incoming};
+ghost use Rattle.nb_tcp.specs.InOrder.{is_next};
 ghost use Rattle.nb_tcp.specs.Numbers.{breached, judged, opened_variables};
 ghost use Rattle.nb_tcp.specs.Replies.{only_ready, also_sending, also_over, all_sending, first_tried, unacked_text, went_on, ongoing_acts, ongoing_retry, grown_acts, acknowledging, taken_acts, breach_state, breach_retry, syn_answered, syn_answer_acts, syn_answer_state, syn_answer_retry, established_acts, sent_again, has_come_all, given_acts, given_state, given_retry, has_finished};
 ghost use Rattle.nb_tcp.specs.SegmentSteps.{TakesSegment, FollowsVerdict, FollowsState};
@@ -16,7 +17,7 @@ ghost use Rattle.nb_tcp.specs.ConnStanding.{waits_in};
 
 use crate::conn::{Conn, ConnState, SendError};
 use crate::place::has;
-use crate::receiving::{forget, receive, unacked_text};
+use crate::receiving::{forget, receive, receive_next, unacked_text};
 use crate::syn_answer::{SynAnswer, judge_answer};
 use crate::variables::{Breach, LIMIT, Variables, Verdict};
 use nb_retry::{Due, Plan};
@@ -80,6 +81,9 @@ impl Conn {
         requires body { length segment.now.body.now < 2 ^ 16 }
         ensures { FollowsVerdict self.old variables rec (incoming segment.now) now (judged variables (incoming segment.now)) self.new acts.new }
     {
+        if variables.is_next(segment, self.given) {
+            return self.take_next(variables, rec, segment, now, acts);
+        }
         match variables.judge(segment) {
             Verdict::Reset => {
                 self.end(
@@ -92,6 +96,31 @@ impl Conn {
             Verdict::Answered => self.link.send(&self.link.pure_ack(variables), acts),
             Verdict::Dropped => {}
         }
+    }
+
+    /// The segment's bytes come next, and it has nothing else that is new.
+    #[inline(always)]
+    fn take_next(
+        &mut self,
+        variables: Variables,
+        _rec: u32,
+        segment: &Segment<'_>,
+        now: u64,
+        acts: &mut Acts,
+    )
+        requires none { acts.old ≡ only_ready false }
+        requires next { is_next variables self.old.given (incoming segment.now) ≡ true }
+        ensures { TakesSegment self.old variables _rec (incoming segment.now) now self.new acts.new }
+    {
+        let received = receive_next(&mut self.held, variables, segment);
+        let after = Variables {
+            room: segment.window,
+            ..received
+        };
+        tell_growth(variables.next, after.next, acts);
+        self.acknowledge(after, segment, acts);
+        self.state = ConnState::Established(after);
+        self.retry.start(now, Plan::Probe);
     }
 
     fn take(

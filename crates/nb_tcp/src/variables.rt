@@ -4,6 +4,7 @@ ghost use Rattle.std.specs.Prelude.{◌≡◌, ◌<◌, ◌^◌, ◌+◌, true, 
 ghost use Rattle.nb_streams.specs.Flows.{is_beyond, advance_of, advances};
 ghost use Rattle.nb_streams.specs.Streams.{is_stop};
 ghost use Rattle.nb_tcp.specs.Arriving.{sets_flag, incoming};
+ghost use Rattle.nb_tcp.specs.InOrder.{is_data, continues_by, has_said_all, is_next};
 ghost use Rattle.nb_tcp.specs.Numbers.{bare_flow, judged, found_stop, with_stop, with_next, with_ack, piece_place, piece_bytes, kept_bytes, passes_limit, breached, sends_more, next_sending, segment_size, ack_number, opened_variables};
 
 use crate::place::{distance, has, is_forward, number_of};
@@ -255,6 +256,35 @@ impl Variables {
         }
     }
 
+    /// The segment's bytes come next, and it has nothing else that is new: it acknowledges just what was
+    /// acknowledged, which is all of the text, of which so many bytes were given.
+    #[inline(always)]
+    pub(crate) fn is_next(self, segment: &Segment<'_>, given: u32) -> bool
+        requires { length segment.now.body.now < 2 ^ 16 }
+        ensures { result ≡ is_next self given (incoming segment.now) }
+    {
+        is_data(segment) && (self.continues_by(segment) && self.has_said_all(segment, given))
+    }
+
+    /// The segment's bytes come next, below the limit, and no end is known.
+    #[inline(always)]
+    fn continues_by(self, segment: &Segment<'_>) -> bool
+        requires { length segment.now.body.now < 2 ^ 16 }
+        ensures { result ≡ continues_by self (incoming segment.now) }
+    {
+        let end = u64::from(self.next) + segment.body.len() as u64;
+        self.stop.is_none()
+            && (distance(self.irs, self.next, segment.seq) == 0 && end <= u64::from(LIMIT))
+    }
+
+    /// All of the text was acknowledged before, and is again.
+    #[inline(always)]
+    fn has_said_all(self, segment: &Segment<'_>, given: u32) -> bool
+        ensures { result ≡ has_said_all self given (incoming segment.now) }
+    {
+        self.advance_of(segment) == 0 && (self.acked == self.sent && self.sent == given)
+    }
+
     /// A new segment of the text is to begin, of which so many bytes were given: the last one was acknowledged
     /// in part, or none waits to be acknowledged.
     pub(crate) fn is_sending(self, advanced: bool, given: u32) -> bool
@@ -302,4 +332,12 @@ impl Variables {
             Some(stop) => stop == self.next,
         }
     }
+}
+
+/// The segment acknowledges, and neither begins, ends nor resets a stream.
+#[inline(always)]
+fn is_data(segment: &Segment<'_>) -> bool
+    ensures { result ≡ is_data (incoming segment.now) }
+{
+    has(segment, ACK) && (!has(segment, SYN) && (!has(segment, RST) && !has(segment, FIN)))
 }
