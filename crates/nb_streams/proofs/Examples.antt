@@ -2,8 +2,8 @@
 use Rattle.std.proofs.Common.{◌≡◌, ℕ, List, [], ◌∷◌, ◌++◌, Option, Some, None, Bool, true, false, refl}
 use Rattle.nb_streams.specs.Segments.{Incoming, ahead}
 use Rattle.nb_streams.specs.Streams.{front, next, has_ended}
-use Rattle.nb_streams.specs.Flows.{TcpCall, segment_came, text_came, time_came, conn_phase, held_after}
-use Rattle.nb_streams.specs.Sending.{Outgoing, calls_for}
+use Rattle.nb_streams.specs.Flows.{TcpCall, segment_came, text_came, time_came, ConnPhase, asking, flowing, conn_phase, held_after}
+use Rattle.nb_streams.specs.Sending.{Outgoing, pure_ack, rst_ack, calls_for}
 use Rattle.nb_streams.specs.Trying.{timer_after, due_tries}
 
 -- going round
@@ -49,6 +49,15 @@ ten = refl
 at_end : has_ended (held_after 100 third_calls) ≡ true
 unfolding third_calls conn_phase
 at_end = refl
+
+-- an acknowledgement counts the FIN that was reached, and a reset that closes doesn't
+acknowledged_by : ConnPhase → ℕ × ℕ
+acknowledged_by (asking text) = (0, 0)
+acknowledged_by (flowing f) = ((pure_ack f).acknowledges, (rst_ack f).acknowledges)
+
+past_end : acknowledged_by (conn_phase 100 third_calls) ≡ (6, 5)
+unfolding third_calls conn_phase acknowledged_by
+past_end = refl
 
 numbers : List (Outgoing × Option ℕ) → List (ℕ × ℕ × Option ℕ)
 numbers [] = []

@@ -5,7 +5,7 @@ use Rattle.std.proofs.lemmas.Bool.{false≢true, and_parts, or_cases, ltb-true, 
 use Rattle.std.proofs.lemmas.List.{length-take, length-drop, take-append-drop, length-append}
 use Rattle.nb_streams.specs.Segments.{Incoming, Arrival}
 use Rattle.nb_streams.specs.Flows.{TcpCall, segment_came, text_came, time_came, full_window, Flow, ConnPhase, asking, flowing, conn_phase, after_tcp_call, is_taken, is_current, advance_of, advances, with_segment, size, sends_next, is_free, is_sending, going_on, after_segment, after_text, answers_syn, establishes, opened_by, established, window_bytes, is_past}
-use Rattle.nb_streams.specs.Sending.{Outgoing, segment_at, pure_ack, text_segment, rst_ack, rst_for, IsTextAt, MaySend, by_wrong_answer, by_text, by_ack, by_length, without_try, with_first_try, only_if, brings_more, ongoing_sends, taken_sends, is_answered, segment_sends, established_sends, calls_for}
+use Rattle.nb_streams.specs.Sending.{Outgoing, segment_at, pure_ack, text_segment, rst_ack, rst_ack_at, rst_for, IsTextAt, MaySend, by_wrong_answer, by_text, by_ack, by_length, without_try, with_first_try, only_if, brings_more, ongoing_sends, taken_sends, is_answered, segment_sends, established_sends, calls_for}
 use Rattle.nb_streams.proofs.StreamLaws.{either}
 use Rattle.nb_streams.proofs.TryLaws.{not_past, not_beyond, acked_now, acked_still, by_advance}
 
@@ -63,6 +63,9 @@ going_is advanced f is some = either (is_sending advanced f)
 
 segment_going : (advanced : Bool) (f : Flow) (flags width place : ℕ) (bytes : List ℕ) → segment_at flags width bytes place (going_on advanced f) ≡ segment_at flags width bytes place f
 segment_going advanced f flags width place bytes = either (is_sending advanced f) (λ go. rw go refl) (λ stay. rw stay refl)
+
+reset_going : (advanced : Bool) (f : Flow) (place : ℕ) → rst_ack_at place (going_on advanced f) ≡ rst_ack_at place f
+reset_going advanced f place = either (is_sending advanced f) (λ go. rw go refl) (λ stay. rw stay refl)
 
 sent_going : (advanced : Bool) (f : Flow) → f.sent ≤ (going_on advanced f).sent
 sent_going advanced f = either (is_sending advanced f) (λ go. rw go (above f.sent (min (f.acked + size f) (length f.text)))) (λ stay. rw stay (same f.sent))
@@ -204,7 +207,7 @@ reset_may : (isn : ℕ) (all : List TcpCall) (f : Flow) (s : Incoming) → list_
 reset_may isn all f s past e = by_length (going_on (advances f s) (with_segment s f)) (with_segment s f).sent e
     (ap (λ h. list_any is_past h.pairs) (held_going (advances f s) (with_segment s f)) ∙ any_more f.held.pairs (window_bytes f s) past)
     (sent_going (advances f s) (with_segment s f))
-    (sym (segment_going (advances f s) (with_segment s f) 20 0 (with_segment s f).sent []))
+    (sym (reset_going (advances f s) (with_segment s f) (with_segment s f).sent))
 
 taken_may : (isn : ℕ) (all : List TcpCall) (f : Flow) (s : Incoming) → IsFlow f → is_taken f s ≡ true → conn_phase isn all ≡ flowing (going_on (advances f s) (with_segment s f)) → AllByRecursion (May isn all) (taken_sends f s)
 taken_may isn all f s is taken e = either (list_any is_past (window_bytes f s))

@@ -46,8 +46,12 @@ probe f = record (segment_at 16 full_window [] f.sent f) { number = (f.ours + f.
 abbrev pub fin_ack : Flow → Outgoing
 fin_ack f = segment_at 17 full_window [] f.sent f
 
+-- a reset that closes acknowledges what has come, without the one for a FIN
+abbrev pub rst_ack_at : ℕ → Flow → Outgoing
+rst_ack_at place f = record (segment_at 20 0 [] place f) { acknowledges = wrapped (f.theirs + next f.held) }
+
 abbrev pub rst_ack : Flow → Outgoing
-rst_ack f = segment_at 20 0 [] f.sent f
+rst_ack f = rst_ack_at f.sent f
 
 -- a close before the connection is established
 abbrev pub rst_asking : ℕ → Outgoing
@@ -78,7 +82,7 @@ pub data MaySend (isn : ℕ) (calls : List TcpCall) (sent : Outgoing) : Type 0 w
   by_closing_early : (text : List ℕ) → conn_phase isn calls ≡ asking text → sent ≡ rst_asking isn → MaySend isn calls sent
   by_closing : (f : Flow) → conn_phase isn calls ≡ flowing f → has_stop f.held.stop ≡ false → sent ≡ rst_ack f → MaySend isn calls sent
   by_closing_behind : (f : Flow) → conn_phase isn calls ≡ flowing f → has_stop f.held.stop ≡ true → sent ≡ fin_ack f → MaySend isn calls sent
-  by_length : (f : Flow) (place : ℕ) → conn_phase isn calls ≡ flowing f → list_any is_past f.held.pairs ≡ true → place ≤ f.sent → sent ≡ segment_at 20 0 [] place f → MaySend isn calls sent
+  by_length : (f : Flow) (place : ℕ) → conn_phase isn calls ≡ flowing f → list_any is_past f.held.pairs ≡ true → place ≤ f.sent → sent ≡ rst_ack_at place f → MaySend isn calls sent
 
 -- a segment and, where it is a message's first sending, its try
 abbrev pub without_try : Outgoing → Outgoing × Option ℕ

@@ -19,7 +19,9 @@ pub ack_out : (v : Variables) (h : HeldBytes) (text : List ℕ) → v.next ≡ n
 ack_out v h text next stop = same_out 16 full_window [] v.sent v h text next stop
 
 pub reset_out : (v : Variables) (h : HeldBytes) (text : List ℕ) → v.next ≡ next h → v.stop ≡ h.stop → rst_ack (flow_of v h text) ≡ conn_reset v
-reset_out v h text next stop = same_out 20 0 [] v.sent v h text next stop
+reset_out v h text next stop =
+    let made : ℕ → Outgoing = λ n. record { number = wrapped (v.iss + 1 + v.sent); acknowledges = wrapped ((v.irs + 1) + n); flags = 20; window = 0; mss = None; body = [] } in
+    ap made (sym next)
 
 pub fin_out : (v : Variables) (h : HeldBytes) (text : List ℕ) → v.next ≡ next h → v.stop ≡ h.stop → fin_ack (flow_of v h text) ≡ outgoing_at 17 full_window [] v.sent v
 fin_out v h text next stop = same_out 17 full_window [] v.sent v h text next stop

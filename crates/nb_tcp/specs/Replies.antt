@@ -1,5 +1,5 @@
 -- RFC 9293, section 3.10: what each call of a connection asks and leaves, by its variables
-use Rattle.std.specs.Prelude.{ℕ, ◌-◌, ◌==◌, not, ◌&&◌, min, Bool, true, false, List, [], ◌∷◌, ◌++◌, take, Some, None, nat_lt, if◌then◌else◌}
+use Rattle.std.specs.Prelude.{ℕ, ◌+◌, ◌-◌, ◌==◌, not, ◌&&◌, min, Bool, true, false, List, [], ◌∷◌, ◌++◌, take, Some, None, nat_lt, if◌then◌else◌}
 use Rattle.nb_retry.specs.declared.plan.Plan.TheVariants.{Common, Probe}
 use Rattle.nb_retry.specs.declared.retry.Retry.{Retry}
 use Rattle.nb_retry.specs.Timer.{started}
@@ -8,7 +8,7 @@ use Rattle.nb_terms.specs.declared.cause.Cause.{Cause}
 use Rattle.nb_streams.specs.Segments.{Incoming}
 use Rattle.nb_streams.specs.Streams.{is_stop}
 use Rattle.nb_streams.specs.Flows.{full_window, advances, answers_syn}
-use Rattle.nb_streams.specs.Sending.{Outgoing, brings_more, syn, rst_asking, rst_for, has_stop}
+use Rattle.nb_streams.specs.Sending.{Outgoing, wrapped, brings_more, syn, rst_asking, rst_for, has_stop}
 use Rattle.nb_streams.specs.Endings.{end_cause}
 use Rattle.nb_tcp.specs.declared.link.Link.{Link}
 use Rattle.nb_tcp.specs.declared.variables.Variables.{Variables}
@@ -41,8 +41,9 @@ unacked_text v unacked = outgoing_at 24 full_window (take (min (v.upto - v.acked
 abbrev pub ack_of_variables : Variables → Outgoing
 ack_of_variables v = outgoing_at 16 full_window [] v.sent v
 
+-- what has come is acknowledged, without the one for a FIN
 abbrev pub conn_reset : Variables → Outgoing
-conn_reset v = outgoing_at 20 0 [] v.sent v
+conn_reset v = record (outgoing_at 20 0 [] v.sent v) { acknowledges = wrapped (v.irs + 1 + v.next) }
 
 -- the text goes on, where a new segment is to begin
 abbrev pub went_on : Bool → ℕ → Variables → Variables

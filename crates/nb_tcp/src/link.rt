@@ -6,6 +6,7 @@ ghost use Rattle.nb_tcpseg.specs.SegmentText.{segment_parts, sent_header_len};
 ghost use Rattle.nb_tcp.specs.Arriving.{incoming};
 ghost use Rattle.nb_tcp.specs.Messages.{outgoing_parts, packet};
 ghost use Rattle.nb_tcp.specs.Numbers.{outgoing_at, probe_at};
+ghost use Rattle.nb_tcp.specs.Replies.{conn_reset};
 
 use crate::place::{as_it_is, number_of};
 use crate::variables::{Variables, WINDOW};
@@ -142,7 +143,7 @@ impl Link {
 
     /// A close: a FIN where the peer's has come, else a reset.
     pub(crate) fn closing(&self, variables: Variables) -> Segment<'static>
-        ensures { segment_parts result ≡ outgoing_parts self.now (if has_stop variables.stop then outgoing_at 17 65535 [] variables.sent variables else outgoing_at 20 0 [] variables.sent variables) }
+        ensures { segment_parts result ≡ outgoing_parts self.now (if has_stop variables.stop then outgoing_at 17 65535 [] variables.sent variables else conn_reset variables) }
     {
         if variables.stop.is_some() {
             return self.fin(variables);
@@ -157,10 +158,12 @@ impl Link {
         self.segment(variables, variables.sent, FIN + ACK, WINDOW, &[])
     }
 
-    /// A close before the peer's.
+    /// A close before the peer's. It acknowledges what has come, and no FIN.
     pub(crate) fn reset_now(&self, variables: Variables) -> Segment<'static>
-        ensures { segment_parts result ≡ outgoing_parts self.now (outgoing_at 20 0 [] variables.sent variables) }
+        ensures { segment_parts result ≡ outgoing_parts self.now (conn_reset variables) }
     {
-        self.segment(variables, variables.sent, RST + ACK, 0, &[])
+        let mut reset = self.segment(variables, variables.sent, RST + ACK, 0, &[]);
+        reset.ack = number_of(variables.irs, variables.next);
+        reset
     }
 }
