@@ -1,6 +1,7 @@
 -- Puts into a log, one after another.
-use Rattle.std.proofs.Common.{◌≡◌, ℕ, ◌+◌, ◌<◌, Bool, true, false, List, [], ◌++◌, length, refl, sym, ap, subst, ◌∙◌, append_assoc, arith}
+use Rattle.std.proofs.Common.{◌≡◌, ℕ, ◌+◌, ◌<◌, Bool, true, false, List, [], ◌++◌, length, take, refl, sym, ap, subst, ◌∙◌, append_assoc, arith}
 use Rattle.std.proofs.lemmas.List.{append-nil, length-append}
+use Rattle.std.proofs.Math.Seq.{take-append_seam}
 use Rattle.nb_record.specs.Logged.{Logged, Puts}
 
 -- putting nothing
@@ -79,6 +80,14 @@ Puts-none a b x long e small = record {
   too_small = λ f g. small;
 }
 
+-- bytes that were written after those gathered
+pub Puts-written : (a : Logged) (len len' room : ℕ) (short : Bool) (items items' x : List ℕ) → record { bytes = take len items; room = room; is_short = short } ≡ a → short ≡ false → take len' items' ≡ take len items ++ x → Puts a (record { bytes = take len' items'; room = room; is_short = short }) x
+Puts-written a len len' room short items items' x same long held =
+    let log : List ℕ → Bool → Logged = λ b s. record { bytes = b; room = room; is_short = s } in
+    subst (λ (l : Logged). Puts l (log (take len' items') short) x) same
+    (Puts-all (log (take len items) short) (log (take len' items') short) x long
+    (ap (λ (b : List ℕ). log b short) held ∙ ap (λ (s : Bool). log (take len items ++ x) s) long))
+
 -- a short log stays as it is
 pub Puts-short : (a b : Logged) (x : List ℕ) → a.is_short ≡ true → b ≡ a → Puts a b x
 Puts-short a b x short e = record {
@@ -99,3 +108,11 @@ Puts-same a b x y e p = subst (λ (w : List ℕ). Puts a b w) e p
 -- three puts
 pub Puts-three : (a b c d : Logged) (x y z : List ℕ) → Puts a b x → Puts b c y → Puts c d z → Puts a d ((x ++ y) ++ z)
 Puts-three a b c d x y z p q r = Puts-then a c d (x ++ y) z (Puts-then a b c x y p q) r
+
+-- a log is as it was at a place, where what was put after it is gone
+pub went_back : (at from : Logged) (added : List ℕ) (len : ℕ) (short : Bool) → len ≡ length at.bytes → short ≡ at.is_short → Puts at from added → record { bytes = take len from.bytes; room = from.room; is_short = short } ≡ at
+went_back at from added len short e f p =
+    let bytes : take len from.bytes ≡ at.bytes = ap (λ (n : ℕ). take n from.bytes) e ∙ ap (λ (w : List ℕ). take (length at.bytes) w) p.appended ∙ take-append_seam at.bytes p.part in
+    ap (λ (w : List ℕ). record { bytes = w; room = from.room; is_short = short }) bytes
+    ∙ ap (λ (n : ℕ). record { bytes = at.bytes; room = n; is_short = short }) p.room_stays
+    ∙ ap (λ (b : Bool). record { bytes = at.bytes; room = at.room; is_short = b }) f

@@ -4,6 +4,7 @@ pub mod View
 pub mod Bytes
 pub mod Held
 pub mod Logged
+pub mod LogPlaces
 pub mod Reading
 pub mod Memory
 pub mod MemoryLines

@@ -19,7 +19,7 @@ mod sure_line;
 pub use feed::{BadRecord, Feed, Front};
 pub use input::{InRec, Start, StartRecord};
 pub use line::{Failed, Line, Target};
-pub use log::Log;
+pub use log::{Log, LogPlace};
 pub use mem_line::MemLine;
 pub use nb_terms::{Acts, Cause, Event, NoMemory, SendTo};
 pub use notes::{ReadNote, ReadNotes};
