@@ -1,33 +1,43 @@
 -- An open for what a command asks, once it was begun: its command waits, or it has ended at once.
-use Rattle.std.proofs.Common.{◌≡◌, ℕ, ◌+◌, ◌*◌, ◌≤◌, List, [], ◌∷◌, ◌++◌, Option, Some, None, refl, sym, ◌∙◌, ap, subst, append-nil, append_assoc, arith}
+use Rattle.std.proofs.Common.{◌≡◌, ◌⊎◌, inl, inr, ℕ, ◌+◌, ◌*◌, ◌≤◌, List, [], ◌∷◌, ◌++◌, Option, Some, None, refl, sym, ◌∙◌, ap, subst, append-nil, append_assoc, arith}
 use Rattle.std.specs.List.{AllByRecursion}
 use Rattle.nb_chains.specs.declared.chain.Chain.{Chain}
+use Rattle.nb_chains.specs.declared.kind.ChainKind.TheVariants as chain
+use Rattle.nb_chains.specs.declared.kind.ChainKind.{ChainKind}
+use Rattle.nb_chains.specs.Kinds.{top_number}
+use Rattle.nb_ledger.specs.declared.port.ObjId.{ObjId}
 use Rattle.nb_terms.specs.declared.cause.Cause.{Cause}
 use Rattle.nb_defs.specs.Records.{Out, out_texts, result}
 use Rattle.nb_ledger.specs.declared.event.GraphEvent.{GraphEvent}
-use Rattle.nb_machine.specs.Lives.{Live, end_record, open_record}
+use Rattle.nb_machine.specs.Lives.{Live, end_record, kind_number, open_record}
 use Rattle.nb_machine.specs.Running.{Running, with_result}
 use Rattle.nb_network.specs.Many.{AreSound, FitsHoldings, Many, IsUntied}
 use Rattle.nb_network.specs.Openings.{OpensOne, begun_records, number_by}
 use Rattle.nb_open.specs.declared.opening.Opening.{Opening}
 use Rattle.nb_open.specs.Begins.{waiting_pieces}
-use Rattle.nb_open.specs.Opening.{chain_kind, live_by}
+use Rattle.nb_open.specs.declared.opening.Opening.TheVariants as opening
+use Rattle.nb_open.specs.Open.{pieces_below}
+use Rattle.nb_open.specs.Opening.{chain_kind, kind_by, live_by}
 use Rattle.nb_traced.specs.Plain.{without_graph}
 use Rattle.nb_traced.proofs.Plain.{plain_append, plain_behind}
 use Rattle.nb_record.specs.Logged.{Logged, Puts}
 use Rattle.nb_runner.proofs.Puts.{Puts-outs}
 use Rattle.nb_runner.specs.World.{IsLinkOfState}
+use Rattle.nb_runner.specs.declared.errand.Errand.{Errand}
+use Rattle.nb_runner.specs.declared.errand.Errand.TheVariants as errand
+use Rattle.nb_runner.specs.declared.query.Query.TheVariants as query
 use Rattle.nb_runner.specs.declared.world.World.{World}
 use Rattle.nb_stack.specs.Client.{Client}
-use Rattle.nb_traced.specs.Outputs.{Traced, apart}
+use Rattle.nb_traced.specs.Outputs.{MayWaitOn, Traced, apart}
 use Rattle.nb_traced.specs.Pieces.{event_records}
-use Rattle.nb_client.specs.Asked.{beside_kind, job_asked, live_asked}
+use Rattle.nb_client.specs.Asked.{beside_kind, errand_kind, job_asked, live_asked}
 use Rattle.nb_client.specs.Beginnings.{BeginsNext, DropsWaiting, asked_kind}
 use Rattle.nb_client.specs.Openings.{IsOpenedIn, Opened, begun_script, front_records}
 use Rattle.nb_client.specs.Serving.{world_at}
 use Rattle.nb_client.specs.Snapshots.{snapshot, state_of_world}
 use Rattle.nb_client.specs.Soundness.{FitsAsked, HasWaiting, IsBacked, IsSound}
 use Rattle.nb_client.specs.declared.asked.Asked.{Asked}
+use Rattle.nb_client.specs.declared.asked.Asked.TheVariants.{File, Query as Exchange}
 use Rattle.nb_client.specs.declared.opening.NewOpen.{NewOpen}
 use Rattle.nb_client.specs.declared.pending.Expected.TheVariants.{Open}
 use Rattle.nb_client.specs.declared.pending.Pending.{Pending}
@@ -55,6 +65,36 @@ has_begun a o waits before begun made ended is b =
       linked = subst IsLinkOfState b.world b.linked;
       waiting = b.waiting;
     })
+
+-- WHAT WAITS BESIDE IT
+
+name_number : (o : Opening) → chain_kind o ≡ chain.Name → kind_number (kind_by o) ≡ 4
+name_number (opening.Name a) e = refl
+name_number (opening.File a) e = absurd (let no : chain.File ≡ chain.Name = e in cc)
+name_number (opening.Web a) e = absurd (let no : chain.File ≡ chain.Name = e in cc)
+name_number (opening.Lease a) e = absurd (let no : chain.Lease ≡ chain.Name = e in cc)
+name_number (opening.Echo a) e = absurd (let no : chain.Echo ≡ chain.Name = e in cc)
+
+errand_number : (e : Errand) → (top_number (errand_kind e) ≡ 1) ⊎ (top_number (errand_kind e) ≡ 7)
+errand_number (errand.File f) = inl refl
+errand_number errand.Echo = inr refl
+
+nothing_beside : (n : ℕ) (kind : ChainKind) (left : Option Chain) → left ≡ None → MayWaitOn n (waiting_pieces kind left)
+nothing_beside n kind left e = subst (λ x. MayWaitOn n (waiting_pieces kind x)) (sym e) tt
+
+one_beside : (n : ℕ) (kind : ChainKind) (left : Option Chain) (c : Chain) → left ≡ Some c → c.below ≡ None → n ≡ 4 → (top_number kind ≡ 1) ⊎ (top_number kind ≡ 7) → MayWaitOn n (waiting_pieces kind left)
+one_beside n kind left c e alone name has = subst (λ x. MayWaitOn n (waiting_pieces kind x)) (sym e)
+    (subst (λ (d : Option ObjId). MayWaitOn n (record { serial = c.top.0; kind = top_number kind } ∷ pieces_below d)) (sym alone) (name, has))
+
+-- it is the one object that has a server, beside the look-up of its name
+may_wait : (a : Asked) (o : Opening) (left : Option Chain) (awaited : Option ℕ) (m : Many) → chain_kind o ≡ asked_kind a → IsBacked a left → HasWaiting (beside_kind a) left awaited m →
+    MayWaitOn (kind_number (kind_by o)) (waiting_pieces (beside_kind a) left)
+may_wait (File w) o left awaited m is backed h = nothing_beside (kind_number (kind_by o)) chain.File left backed
+may_wait (Exchange query.Lease) o left awaited m is backed h = nothing_beside (kind_number (kind_by o)) chain.File left backed
+may_wait (Exchange (query.Echo server)) o left awaited m is backed h = nothing_beside (kind_number (kind_by o)) chain.Echo left backed
+may_wait (Exchange (query.Address setting name by)) o left awaited m is backed h = nothing_beside (kind_number (kind_by o)) chain.File left backed
+may_wait (Exchange (query.Host e name by)) o left awaited m is backed h =
+    one_beside (kind_number (kind_by o)) (errand_kind e) left backed.0 backed.1 (h.beside backed.0 backed.1).waits.alone (name_number o is) (errand_number e)
 
 -- what is put of it
 abbrev pub PutsBegun : Option (List (List ℕ)) → Running → Opening → World → Option Cause → List ℕ → List ℕ → Logged → Logged → Type 0
@@ -90,7 +130,7 @@ opened_waits {old} {new} a o waits left shown script before net m sound fits is 
           (subst (λ x. IsOpenedIn s x (job_asked a) (begun_script shown script) w.outer before.used (open_record l ∷ without_graph h.opens.told) after) (is.live live)
           (lives_on before.used w net m live o (pending_for w a left) (begun_script shown script) (without_graph h.opens.told) refl h.opens.first_put (h.opens.state s (state_is before.opens w live are))));
       traces = λ outs k so_far t stood.
-          let on = h.opens.traces outs k so_far t (subst (λ x. FitsHoldings before.opens w.opens (waiting_pieces x waits) k) (sym is.kind) stood) in
+          let on = h.opens.traces outs k so_far t (subst (λ x. FitsHoldings before.opens w.opens (waiting_pieces x waits) k) (sym is.kind) stood) (may_wait a o left _ m is.kind backed h.waiting) in
           record { holdings = on.after; traced = subst (λ x. Traced (outs ++ records) on.after x) (append-nil so_far) on.traced; fits = on.fits };
       sound = record {
         time = sound.time;
@@ -108,11 +148,11 @@ opened_waits {old} {new} a o waits left shown script before net m sound fits is 
 
 -- there was no way to its server, and what was to wait beside it is let go
 pub opened_back : {old mid new : Logged} {made_text told_text : List ℕ} (a : Asked) (o : Opening) (waits left : Option Chain) (shown : Option (List (List ℕ))) (script : Running) (before begun now : Site) (cause : Cause) →
-    IsSound before.used before.world before.opens (stage.Running script) → IsOpeningFor a o before.world → begun.world ≡ world_at before.world begun.world.net before.world.time →
+    IsSound before.used before.world before.opens (stage.Running script) → IsOpeningFor a o before.world → IsBacked a left → begun.world ≡ world_at before.world begun.world.net before.world.time →
     HasBegun a o waits left before begun.world.net begun.opens (Some cause) made_text told_text → PutsBegun shown script o before.world (Some cause) made_text told_text old mid →
     DropsWaiting (beside_kind a) left (before.world.opens + 1) begun now (result cause ∷ []) mid new →
     Opened a (waiting_pieces (asked_kind a) waits) shown script before (snapshot before.used (world_begun before.world begun.world.net) now.opens (stage.Running (with_result (begun_script shown script) cause))) old new
-opened_back {old} {mid} {new} a o waits left shown script before begun now cause sound is world h puts lets =
+opened_back {old} {mid} {new} a o waits left shown script before begun now cause sound is backed world h puts lets =
     let w = before.world in
     let l = live_by o w.opens w.time in
     let front = front_records shown script in
@@ -136,7 +176,7 @@ opened_back {old} {mid} {new} a o waits left shown script before begun now cause
           (goes_back before.used w begun.world.net now.opens live o a inner cause (without_graph h.opens.told) h.opens.first_put
           (lets.state begun.world.net w.time s (h.opens.state s (state_is before.opens w live are)))));
       traces = λ outs k so_far t stood.
-          let on = h.opens.traces outs k so_far t (subst (λ x. FitsHoldings before.opens w.opens (waiting_pieces x waits) k) (sym is.kind) stood) in
+          let on = h.opens.traces outs k so_far t (subst (λ x. FitsHoldings before.opens w.opens (waiting_pieces x waits) k) (sym is.kind) stood) (may_wait a o left _ begun.opens is.kind backed h.waiting) in
           let t1 : Traced (outs ++ records) on.after so_far = subst (λ x. Traced (outs ++ records) on.after x) (append-nil so_far) on.traced in
           let later = lets.traces (outs ++ records) on.after so_far t1 on.fits in
           let t2 : Traced ((outs ++ records) ++ freed) later.after so_far = subst (λ x. Traced ((outs ++ records) ++ freed) later.after x) (append-nil so_far) later.traced in

@@ -1,5 +1,5 @@
 -- An open begins, of which an object may have waited, or beside which another's waits then.
-use Rattle.std.proofs.Common.{◌≡◌, ℕ, ◌+◌, ◌<◌, ◌==◌, ◌||◌, true, false, List, [], ◌∷◌, Option, Some, None, sym, ◌∙◌, ap, subst, arith}
+use Rattle.std.proofs.Common.{◌≡◌, inl, inr, refl, ℕ, ◌+◌, ◌<◌, ◌==◌, ◌||◌, true, false, List, [], ◌∷◌, Option, Some, None, sym, ◌∙◌, ap, subst, arith}
 use Rattle.std.specs.List.{AllByRecursion}
 use Rattle.std.proofs.lemmas.Bool.{eqb-true}
 use Rattle.nb_terms.specs.declared.cause.Cause.{Cause}
@@ -67,7 +67,7 @@ module _ (a : Opening) (number now : ℕ) (waits : Option Chain) (link : Client)
     first_put = begun_first a number now link b.open x.mid g h list list' net' x.records (far_all sound.lives) stay end sets;
     state = begun_state a number now link b.open x.mid g h list list' net' x.records (far_all sound.lives) stay end sets enters;
     tied = begun_tied end b.open number g h list list' link net' (number_is a number b.open x.speaker) enters;
-    traces = begun_traces [] waits a number now link b.open x.speaker g list made x.mid x.makes latest end h x.records list' link net' sets enters;
+    traces = begun_traces [] waits a number now link b.open x.speaker g list made x.mid x.makes latest (inl refl) end h x.records list' link net' sets enters;
   }
 
   pub one_sound : (w : ℕ) → AreSound w number link (record { graph = g; list = list }) → number < 16384 → own_by a ≡ port_for (chain_kind a) w number →
@@ -104,7 +104,7 @@ module _ (kind : ChainKind) (a : Opening) (number now : ℕ) (link : Client) (g 
     first_put = begun_first a number now link b.open x.mid g h list list' net' x.records (beside_all list sound.lives) beside_stay end beside_sets;
     state = begun_state a number now link b.open x.mid g h list list' net' x.records (beside_all list sound.lives) beside_stay end beside_sets enters;
     tied = begun_tied end b.open number g h list list' link net' (number_is a number b.open x.speaker) enters;
-    traces = begun_traces (pieces_of kind c) None a number now link b.open x.speaker g list made x.mid x.makes tt end h x.records list' link net' beside_sets enters;
+    traces = begun_traces (pieces_of kind c) None a number now link b.open x.speaker g list made x.mid x.makes tt (inr refl) end h x.records list' link net' beside_sets enters;
   }
 
   pub beside_sound : (w : ℕ) → AreSound w number link (record { graph = g; list = list }) → number < 16384 → own_by a ≡ port_for (chain_kind a) w number →

@@ -1,5 +1,5 @@
 -- One more open begins beside those that live.
-use Rattle.std.proofs.Common.{◌≡◌, ℕ, ◌+◌, ◌≤◌, List, [], ◌∷◌, ◌++◌, map, Option, Some, None, refl, sym, ◌∙◌, ap, subst, append_assoc, append-nil, arith}
+use Rattle.std.proofs.Common.{◌≡◌, ◌⊎◌, inl, inr, ℕ, ◌+◌, ◌≤◌, List, [], ◌∷◌, ◌++◌, map, Option, Some, None, refl, sym, ◌∙◌, ap, subst, append_assoc, append-nil, arith}
 use Rattle.std.specs.List.{AllByRecursion}
 use Rattle.std.proofs.lemmas.List.{map-append}
 use Rattle.nb_terms.specs.declared.cause.Cause.{Cause}
@@ -15,7 +15,7 @@ use Rattle.nb_machine.specs.States.{State, bare}
 use Rattle.nb_chains.specs.declared.chain.Chain.{Chain}
 use Rattle.nb_teller.specs.Spelling.{Spelling}
 use Rattle.nb_traced.specs.Holdings.{Holdings, GraphObject}
-use Rattle.nb_traced.specs.Outputs.{Arrived, Traced, makes, opens, calls, ends}
+use Rattle.nb_traced.specs.Outputs.{Arrived, MayWaitOn, Traced, opens, calls, ends}
 use Rattle.nb_traced.specs.Pieces.{event_records, pieces_made}
 use Rattle.nb_open.specs.declared.open.Open.{Open}
 use Rattle.nb_open.specs.declared.opening.Opening.{Opening}
@@ -40,21 +40,25 @@ some_pieces : (os : OpenObjects) → objects_pieces os ≡ [] → ⊥
 some_pieces (objects.Chain kind chain) e = cc
 some_pieces (objects.Web port own chain) e = cc
 
-module _ (left : List GraphObject) (waits : Option Chain) (a : Opening) (number now : ℕ) (link : Client) (o : Open) (is : o.speaker ≡ speaker_for a number) (g : Objects Obj) (list : List Open) (made : Spelling) (mid : GraphState) (x : MakesObjects left (chain_kind a) (kind_number (kind_by a)) waits o g made mid) (latest : IsLatest waits g) where
+module _ (left : List GraphObject) (waits : Option Chain) (a : Opening) (number now : ℕ) (link : Client) (o : Open) (is : o.speaker ≡ speaker_for a number) (g : Objects Obj) (list : List Open) (made : Spelling) (mid : GraphState) (x : MakesObjects left (chain_kind a) (kind_number (kind_by a)) waits o g made mid) (latest : IsLatest waits g) (lone : (left ≡ []) ⊎ (waits ≡ None)) where
+  -- what waits on is alone
+  waits_alone : (h : Holdings) → h.waits ≡ waiting_pieces (chain_kind a) waits → (left ≡ []) ⊎ (h.waits ≡ [])
+  waits_alone h are = elim lone [
+    | inl e ↦ inl e
+    | inr e ↦ inr (are ∙ ap (waiting_pieces (chain_kind a)) e)
+  ]
+
   -- it has begun
   begun_so : (outs : List Out) (h : Holdings) (so_far : List Arrived) → Traced outs h so_far → FitsHoldings (record { graph = g; list = list }) number (waiting_pieces (chain_kind a) waits) h →
-      Traced (outs ++ (event_records x.events ++ (open_record (live_by a number now) ∷ []))) (record { state = mid; living = h.living ++ kin_of o ∷ []; waits = left; begun = number + 1 }) so_far
-  begun_so outs h so_far traced fits =
-      let h1 : Holdings = record h { state = mid; waits = h.waits ++ pieces_made x.events } in
-      let t1 : Traced (outs ++ event_records x.events) h1 so_far = makes outs h so_far x.events mid traced x.makes (subst (λ s. GraphRunOf s x.events mid) (sym fits.state) x.run) in
+      MayWaitOn (kind_number (kind_by a)) left → Traced (outs ++ (event_records x.events ++ (open_record (live_by a number now) ∷ []))) (record { state = mid; living = h.living ++ kin_of o ∷ []; waits = left; begun = number + 1 }) so_far
+  begun_so outs h so_far traced fits on =
       let k = o.speaker.number in
-      let waiting : h1.waits ≡ left ++ (kin_of o).pieces = ap (λ z. z ++ pieces_made x.events) fits.waiting ∙ sym x.pieces in
+      let waiting : h.waits ++ pieces_made x.events ≡ left ++ (kin_of o).pieces = ap (λ z. z ++ pieces_made x.events) fits.waiting ∙ sym x.pieces in
       let l = live_by a number now in
-      let t2 : Traced ((outs ++ event_records x.events) ++ (opened k (kind_number l.kind) l.server l.port l.own l.target ∷ [])) (record { state = mid; living = h.living ++ kin_of o ∷ []; waits = left; begun = k + 1 }) so_far =
-      opens (outs ++ event_records x.events) h1 so_far left (kin_of o) (kind_number l.kind) l.server l.port l.own l.target t1 waiting
-      x.kinds_are (some_pieces o.objects) x.joined (x.newest latest) (subst (λ z. h.begun ≤ z) (sym (number_is a number o is)) fits.numbered) in
-      subst (λ z. Traced z (record { state = mid; living = h.living ++ kin_of o ∷ []; waits = left; begun = number + 1 }) so_far) (append_assoc outs (event_records x.events) (open_record l ∷ []))
-      (subst (λ z. Traced ((outs ++ event_records x.events) ++ (opened z (kind_number l.kind) l.server l.port l.own l.target ∷ [])) (record { state = mid; living = h.living ++ kin_of o ∷ []; waits = left; begun = z + 1 }) so_far) (number_is a number o is) t2)
+      let t : Traced (outs ++ (event_records x.events ++ (opened k (kind_number l.kind) l.server l.port l.own l.target ∷ []))) (record { state = mid; living = h.living ++ kin_of o ∷ []; waits = left; begun = k + 1 }) so_far =
+      opens outs h so_far x.events mid left (kin_of o) (kind_number l.kind) l.server l.port l.own l.target traced x.makes (subst (λ s. GraphRunOf s x.events mid) (sym fits.state) x.run)
+      waiting on (waits_alone h fits.waiting) x.kinds_are (some_pieces o.objects) x.joined (x.newest latest) (subst (λ z. h.begun ≤ z) (sym (number_is a number o is)) fits.numbered) in
+      subst (λ z. Traced (outs ++ (event_records x.events ++ (opened z (kind_number l.kind) l.server l.port l.own l.target ∷ []))) (record { state = mid; living = h.living ++ kin_of o ∷ []; waits = left; begun = z + 1 }) so_far) (number_is a number o is) t
 
   all_records : (outs told : List Out) → outs ++ (event_records x.events ++ (open_record (live_by a number now) ∷ told)) ≡ (outs ++ (event_records x.events ++ (open_record (live_by a number now) ∷ []))) ++ told
   all_records outs told =
@@ -62,9 +66,9 @@ module _ (left : List GraphObject) (waits : Option Chain) (a : Opening) (number 
 
   pub begun_traces : (end : Option Cause) (h : Objects Obj) (told : List Out) (list' : List Open) (net net' : Client) → SetsOutOr end a number now link o mid h told → EntersBy end o list net list' net' →
       (outs : List Out) (hold : Holdings) (so_far : List Arrived) → Traced outs hold so_far → FitsHoldings (record { graph = g; list = list }) number (waiting_pieces (chain_kind a) waits) hold →
-      TracesOn (record { graph = g; list = list }) number (waiting_pieces (chain_kind a) waits) (begun_records x.events (live_by a number now) told end) [] (record { graph = h; list = list' }) (number + 1) left outs hold so_far
-  begun_traces None h told list' net net' sets enters outs hold so_far traced fits =
-      let t = begun_so outs hold so_far traced fits in
+      MayWaitOn (kind_number (kind_by a)) left → TracesOn (record { graph = g; list = list }) number (waiting_pieces (chain_kind a) waits) (begun_records x.events (live_by a number now) told end) [] (record { graph = h; list = list' }) (number + 1) left outs hold so_far
+  begun_traces None h told list' net net' sets enters outs hold so_far traced fits on =
+      let t = begun_so outs hold so_far traced fits on in
       let outs1 = outs ++ (event_records x.events ++ (open_record (live_by a number now) ∷ [])) in
       let h1 : Holdings = record { state = mid; living = hold.living ++ kin_of o ∷ []; waits = left; begun = number + 1 } in
       record {
@@ -73,8 +77,8 @@ module _ (left : List GraphObject) (waits : Option Chain) (a : Opening) (number 
             (calls outs1 told h1 so_far hold.living [] (kin_of o) None (run_state h.book []) t refl sets.call sets.no_close);
         fits = record { state = refl; living = ap (λ z. z ++ kin_of o ∷ []) fits.living ∙ sym (map-append kin_of list (o ∷ [])) ∙ ap (map kin_of) (sym enters.0); waiting = refl; numbered = omega arith };
       }
-  begun_traces (Some cause) h told list' net net' sets enters outs hold so_far traced fits =
-      let t = begun_so outs hold so_far traced fits in
+  begun_traces (Some cause) h told list' net net' sets enters outs hold so_far traced fits on =
+      let t = begun_so outs hold so_far traced fits on in
       let outs1 = outs ++ (event_records x.events ++ (open_record (live_by a number now) ∷ [])) in
       let h1 : Holdings = record { state = mid; living = hold.living ++ kin_of o ∷ []; waits = left; begun = number + 1 } in
       let h2 : Holdings = record h1 { state = run_state h.book []; living = hold.living ++ [] } in

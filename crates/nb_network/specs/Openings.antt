@@ -7,10 +7,10 @@ use Rattle.nb_traced.specs.Plain.{without_graph}
 use Rattle.nb_stack.specs.Client.{Client}
 use Rattle.nb_machine.specs.CommandRecords.{no_route}
 use Rattle.nb_machine.specs.Kinds.{first_records}
-use Rattle.nb_machine.specs.Lives.{Live, open_record, end_record}
+use Rattle.nb_machine.specs.Lives.{Live, kind_number, open_record, end_record}
 use Rattle.nb_machine.specs.States.{State, with_live}
 use Rattle.nb_traced.specs.Holdings.{Holdings, GraphObject}
-use Rattle.nb_traced.specs.Outputs.{Arrived, Traced}
+use Rattle.nb_traced.specs.Outputs.{Arrived, MayWaitOn, Traced}
 use Rattle.nb_traced.specs.Pieces.{event_records}
 use Rattle.nb_stack.specs.Bound.{with_port}
 use Rattle.nb_stack.specs.declared.address.Addr.{Addr}
@@ -18,7 +18,7 @@ use Rattle.nb_teller.specs.Speakers.{carrier_number}
 use Rattle.nb_open.specs.declared.open.Open.{Open}
 use Rattle.nb_open.specs.declared.opening.Opening.{Opening}
 use Rattle.nb_open.specs.declared.opening.Opening.TheVariants.{File, Web, Name, Lease, Echo}
-use Rattle.nb_open.specs.Opening.{live_by}
+use Rattle.nb_open.specs.Opening.{kind_by, live_by}
 use Rattle.nb_network.specs.Many.{FitsHoldings, HasTiedOnlyOf, HasNoneTied, IsStateOf, Many}
 use Rattle.nb_network.specs.Takes.{TracesOn}
 
@@ -74,5 +74,5 @@ pub record OpensOne (m : Many) (net : Client) (now opens : ℕ) (a : Opening) (f
   pub first_put : FirstBy ended (live_by a opens now) net (without_graph told)
   pub state : (s : State) → IsStateOf m net now s → BegunBy ended m' net' now (live_by a opens now) (without_graph told) s
   pub tied : HasNoneTied m → HasTiedOnlyOf (number_by ended opens) m'
-  pub traces : (outs : List Out) (h : Holdings) (so_far : List Arrived) → Traced outs h so_far → FitsHoldings m opens first h →
+  pub traces : (outs : List Out) (h : Holdings) (so_far : List Arrived) → Traced outs h so_far → FitsHoldings m opens first h → MayWaitOn (kind_number (kind_by a)) left →
       TracesOn m opens first (begun_records made (live_by a opens now) told ended) [] m' (opens + 1) left outs h so_far

@@ -7,14 +7,14 @@ use Rattle.nb_ledger.specs.declared.event.GraphEvent.{GraphEvent}
 use Rattle.nb_ledger.specs.GraphRun.{GraphState}
 use Rattle.nb_traced.specs.Holdings.{Holdings, lowest_of, serials}
 use Rattle.nb_traced.specs.Pieces.{IsApart, IsCallOn, IsOfOpen, StandOnEntries, event_records, is_entry_of, none_more, happens_then, puts_then}
-use Rattle.nb_traced.specs.Outputs.{Arrived, Traced, own_serials, at_first, apart, replies, commands, makes, opens, calls, ends, ends_with_all, gives_up}
+use Rattle.nb_traced.specs.Outputs.{Arrived, Traced, own_serials, at_first, apart, replies, commands, opens, calls, ends, ends_with_all, gives_up}
 use Rattle.nb_traced.specs.LowestObjects.{GraphSoFar, graph_so_far, graph_by}
 use Rattle.nb_traced.specs.Entries.{IsOutside}
 use Rattle.nb_traced.specs.Places.{IsOfNoCall, OthersStandOutside}
 use Rattle.nb_traced.proofs.StateLemmas.{runners}
 use Rattle.nb_traced.proofs.Seeing.{so_far_append}
 use Rattle.nb_traced.proofs.Calling.{called}
-use Rattle.nb_traced.proofs.Rules.{kept}
+use Rattle.nb_traced.proofs.Rules.{kept, kept_makes}
 use Rattle.nb_traced.proofs.Following.{rests}
 
 abbrev EachAside : List Out → List Out → Type 0
@@ -100,8 +100,9 @@ asides _ _ _ (apart outs added h came t aside) = both_aside (asides outs h came 
 asides _ _ _ (replies outs n bytes h came t) =
     subst (AreAsideAfter []) (append_assoc outs (step n ∷ []) (sent bytes ∷ [])) (both_aside (asides (outs ++ (step n ∷ [])) h came t) (record { each = (λ none. absurd none, tt) }))
 asides _ _ _ (commands outs depth line place expanded words h came t none) = both_aside (asides outs h came t) (one_aside (rests outs h came t))
-asides _ _ _ (makes outs h came es s t w run) = both_aside (asides outs h came t) (events_aside es)
-asides _ _ _ (opens outs h came first o kind server port own target t waits are some joined newest later) = both_aside (asides outs h came t) (one_aside (rests outs h came t))
+asides _ _ _ (opens outs h came es s first o kind server port own target t w run waits on lone are some joined newest later) =
+    let a = kept_makes outs h es s (kept outs h came t) w run in
+    both_aside (asides outs h came t) (both_aside (events_aside es) (one_aside (a.sees.runs ∙ ap runners a.rests)))
 asides _ _ _ (calls outs added h came before after o by s t living call none) =
     both_aside (asides outs h came t) (call_aside o.number (own_serials o) (lowest_of (own_serials o)) added h.state s call)
 asides _ _ _ (ends outs added h came before after o by s cause t living call closed gone) =

@@ -14,7 +14,7 @@ use Rattle.nb_frames.specs.Frames.{is_one_of}
 use Rattle.nb_frames.specs.Within.{IsEventWithin}
 use Rattle.nb_traced.specs.Holdings.{Holdings, lowest_of, serials}
 use Rattle.nb_traced.specs.Pieces.{AreInner, BeginsBy, EntersFirst, IsCallOn, IsInnerEvent, IsMaking, IsOutsideWay, StandOnEntries, event_records, is_entry_of, none_more, happens_then, puts_then}
-use Rattle.nb_traced.specs.Outputs.{Arrived, Traced, arrived, last_step, own_serials, at_first, apart, replies, commands, makes, opens, calls, ends, ends_with_all, gives_up}
+use Rattle.nb_traced.specs.Outputs.{Arrived, Traced, arrived, last_step, own_serials, at_first, apart, replies, commands, opens, calls, ends, ends_with_all, gives_up}
 use Rattle.nb_traced.specs.LowestObjects.{GraphSoFar, graph_so_far, graph_by, graph_moves, is_it, no_graph}
 use Rattle.nb_traced.specs.Entries.{EntryArrival, came_to, entries, entries_from, entry_at, entry_in}
 use Rattle.nb_traced.proofs.EventLemmas.{all_each, all_map}
@@ -214,11 +214,10 @@ entered _ _ _ (replies outs n bytes h came t) k =
     ∙ none_entered k (outs ++ (step n ∷ [])) (sent bytes ∷ []) came (entered (outs ++ (step n ∷ [])) h came t k) (others_none k (graph_so_far (outs ++ (step n ∷ []))) (sent bytes ∷ []) (tt, tt))
 entered _ _ _ (commands outs depth line place expanded words h came t none) k =
     none_entered k outs (command depth line place expanded words ∷ []) came (entered outs h came t k) (others_none k (graph_so_far outs) (command depth line place expanded words ∷ []) (tt, tt))
-entered _ _ _ (makes outs h came es s t w run) k =
-    none_entered k outs (event_records es) came (entered outs h came t k)
-    (inners_none k ((graph_so_far outs).lowest k) (graph_so_far outs) es refl (all_map IsMaking (IsInnerOf ((graph_so_far outs).lowest k)) es (making_inner ((graph_so_far outs).lowest k)) w))
-entered _ _ _ (opens outs h came first o kind server port own target t waits are some joined newest later) k =
-    none_entered k outs (opened o.number kind server port own target ∷ []) came (entered outs h came t k) (others_none k (graph_so_far outs) (opened o.number kind server port own target ∷ []) (tt, tt))
+entered _ _ _ (opens outs h came es s first o kind server port own target t w run waits on lone are some joined newest later) k =
+    none_entered k outs (event_records es ++ (opened o.number kind server port own target ∷ [])) came (entered outs h came t k)
+    (before_end k (graph_so_far outs) (event_records es) (opened o.number kind server port own target ∷ []) []
+    (inners_none k ((graph_so_far outs).lowest k) (graph_so_far outs) es refl (all_map IsMaking (IsInnerOf ((graph_so_far outs).lowest k)) es (making_inner ((graph_so_far outs).lowest k)) w)) (tt, tt))
 entered _ _ _ (calls outs added h came before after o by s t living call none) k =
     let a = kept outs h came t in
     let b = beside outs h before after o a living in

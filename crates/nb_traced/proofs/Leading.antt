@@ -10,7 +10,7 @@ use Rattle.nb_ledger.specs.GraphRun.{GraphState, GraphRunOf}
 use Rattle.nb_ledger.proofs.RunLemmas.{Run-append}
 use Rattle.nb_traced.specs.Holdings.{Holdings, no_state}
 use Rattle.nb_traced.specs.Pieces.{IsCallOn, event_records}
-use Rattle.nb_traced.specs.Outputs.{Arrived, Traced, at_first, apart, replies, commands, makes, opens, calls, ends, ends_with_all, gives_up}
+use Rattle.nb_traced.specs.Outputs.{Arrived, Traced, at_first, apart, replies, commands, opens, calls, ends, ends_with_all, gives_up}
 use Rattle.nb_traced.specs.Runs.{LeadsBy, HasLedTo, events_in}
 use Rattle.nb_traced.proofs.EventLemmas.{Spells, spells_events, spells_apart, events_append}
 use Rattle.nb_traced.proofs.OnEntries.{spells_on_entries}
@@ -42,9 +42,9 @@ has_led _ _ _ (replies outs n bytes h came traced) =
     (leads_then no_state h.state h.state (outs ++ (step n ∷ [])) (sent bytes ∷ []) (has_led (outs ++ (step n ∷ [])) h came traced) (record { events = []; are = refl; run = refl }))
 has_led _ _ _ (commands outs depth line place expanded words h came traced none) =
     leads_then no_state h.state h.state outs (command depth line place expanded words ∷ []) (has_led outs h came traced) (record { events = []; are = refl; run = refl })
-has_led _ _ _ (makes outs h came es s traced making run) = leads_then no_state h.state s outs (event_records es) (has_led outs h came traced) (leads_by h.state s es (event_records es) (spells_events es) run)
-has_led _ _ _ (opens outs h came first o kind server port own target traced waits are some joined newest later) =
-    leads_then no_state h.state h.state outs (opened o.number kind server port own target ∷ []) (has_led outs h came traced) (record { events = []; are = refl; run = refl })
+has_led _ _ _ (opens outs h came es s first o kind server port own target traced making run waits on lone are some joined newest later) =
+    leads_then no_state h.state s outs (event_records es ++ (opened o.number kind server port own target ∷ [])) (has_led outs h came traced)
+    (leads_then h.state s s (event_records es) (opened o.number kind server port own target ∷ []) (leads_by h.state s es (event_records es) (spells_events es) run) (record { events = []; are = refl; run = refl }))
 has_led _ _ _ (calls outs added h came before after o way s traced living call none) =
     leads_then no_state h.state s outs added (has_led outs h came traced) (call_leads _ _ _ _ added h.state s call)
 has_led _ _ _ (ends outs added h came before after o way s cause traced living call closed gone) =

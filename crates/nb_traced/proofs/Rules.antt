@@ -11,7 +11,7 @@ use Rattle.nb_frames.specs.Frames.{is_one_of}
 use Rattle.nb_frames.specs.Within.{IsEventWithin}
 use Rattle.nb_traced.specs.Holdings.{Holdings, Kin, GraphObject, AreJoined, kinds, lowest_of, no_holdings, objects_for, serials}
 use Rattle.nb_traced.specs.Pieces.{AreGone, IsMaking, event_records, first_close_of, pieces_made}
-use Rattle.nb_traced.specs.Outputs.{Arrived, CallsOpen, IsNewest, ShutsOpen, Traced, own_serials, at_first, apart, replies, commands, makes, opens, calls, ends, ends_with_all, gives_up}
+use Rattle.nb_traced.specs.Outputs.{Arrived, CallsOpen, IsNewest, ShutsOpen, Traced, own_serials, at_first, apart, replies, commands, opens, calls, ends, ends_with_all, gives_up}
 use Rattle.nb_traced.specs.Runs.{HasLedTo, LeadsBy}
 use Rattle.nb_traced.specs.Openings.{HaveNoCommand, HasPieces, WasMadeLast, IsNumberedBelow}
 use Rattle.nb_traced.specs.LowestObjects.{graph_so_far, first_in}
@@ -19,7 +19,7 @@ use Rattle.nb_traced.proofs.EventLemmas.{all_append, all_first, all_last, all_ma
 use Rattle.nb_traced.proofs.Serials.{AreRising, at_serial, each_serial, lowest_in, not_one, one_in_either, one_in_first, one_in_last, rising_append, rising_first, rising_parts, serials_append}
 use Rattle.nb_traced.proofs.StateLemmas.{making}
 use Rattle.nb_traced.proofs.RecordLemmas.{AreAside, aparts_aside, aparts_no_command, all_made_last, closes_aside, closes_making, events_no_command, goes_on_aside, goes_on_events, goes_on_then, made_last_then, spells_aside}
-use Rattle.nb_traced.proofs.Leading.{has_led, leads_by, leads_none}
+use Rattle.nb_traced.proofs.Leading.{has_led, leads_by, leads_none, leads_then}
 use Rattle.nb_traced.proofs.Seeing.{Sees, first_is_newest, sees_none, sees_others, sees_run, so_far_append, IsNoOpening}
 use Rattle.nb_traced.proofs.Keeping.{Kept, Lives, Waits, HeldBy, held_first, held_last, held_without, AreNumbered, numbered_more, numbered_without, numbered_below, IsAnother, another_first, another_last, another_new, all_named_raised, goes_on_new, lowest_then, lives_on, Called, IsStranger, strangers_live, waits_on, ended_strangers, ended_waits}
 use Rattle.nb_traced.proofs.Calling.{asides_unopened, asides_named, events_unopened, events_named, sees_then, sees_aside, called, given_up}
@@ -82,7 +82,7 @@ new_waits outs s made owner [] unmade a b c d = tt
 new_waits outs s made owner (p ∷ ps) unmade a b c d = (record { made = a.0; lives = b.0; below = d.0; free = unmade p.serial c.0 }, new_waits outs s made owner ps unmade a.1 b.1 c.1 d.1)
 
 -- objects are made
-kept_makes : (outs : List Out) (h : Holdings) (es : List GraphEvent) (s : GraphState) → Kept outs h → AllByRecursion IsMaking es → GraphRunOf h.state es s →
+pub kept_makes : (outs : List Out) (h : Holdings) (es : List GraphEvent) (s : GraphState) → Kept outs h → AllByRecursion IsMaking es → GraphRunOf h.state es s →
     Kept (outs ++ event_records es) (record h { state = s; waits = h.waits ++ pieces_made es })
 kept_makes outs h es s a w r =
     let m = making es h.state s w r in
@@ -115,6 +115,13 @@ kept_makes outs h es s a w r =
         | inr e ↦ inr (ap (λ z. is_one_of z x) (serials_append h.waits (pieces_made es)) ∙ one_in_last (serials h.waits) (serials (pieces_made es)) x e)
       ];
     }
+
+-- what an open has, once that is made
+abbrev pub made_for : Holdings → List GraphEvent → GraphState → Holdings
+made_for h es s = record h { state = s; waits = h.waits ++ pieces_made es }
+
+pub made_led : (outs : List Out) (h : Holdings) (es : List GraphEvent) (s : GraphState) → HasLedTo outs h.state → GraphRunOf h.state es s → HasLedTo (outs ++ event_records es) s
+made_led outs h es s led run = leads_then no_holdings.state h.state s outs (event_records es) led (leads_by h.state s es (event_records es) (spells_events es) run)
 
 -- an open begins
 
@@ -394,9 +401,9 @@ kept _ _ _ (apart outs added h came t aside) = kept_aside outs added h (kept out
 kept _ _ _ (replies outs n bytes h came t) =
     subst (λ z. Kept z h) (append_assoc outs (step n ∷ []) (sent bytes ∷ [])) (kept_aside (outs ++ (step n ∷ [])) (sent bytes ∷ []) h (kept (outs ++ (step n ∷ [])) h came t) (tt, tt) (inl ((λ z. z), tt)))
 kept _ _ _ (commands outs depth line place expanded words h came t none) = kept_aside outs (command depth line place expanded words ∷ []) h (kept outs h came t) (tt, tt) (inr none)
-kept _ _ _ (makes outs h came es s t w run) = kept_makes outs h es s (kept outs h came t) w run
-kept _ _ _ (opens outs h came first o kind server port own target t waits are some joined newest later) =
-    kept_opens outs h first o kind server port own target (kept outs h came t) (has_led outs h came t) waits are some joined newest later
+kept _ _ _ (opens outs h came es s first o kind server port own target t w run waits on lone are some joined newest later) =
+    subst (λ z. Kept z (record { state = s; living = h.living ++ o ∷ []; waits = first; begun = o.number + 1 })) (append_assoc outs (event_records es) (opened o.number kind server port own target ∷ []))
+    (kept_opens (outs ++ event_records es) (made_for h es s) first o kind server port own target (kept_makes outs h es s (kept outs h came t) w run) (made_led outs h es s (has_led outs h came t) run) waits are some joined newest later)
 kept _ _ _ (calls outs added h came before after o by s t living call none) = kept_calls outs added h before after o by s (kept outs h came t) living call none
 kept _ _ _ (ends outs added h came before after o by s cause t living call closed gone) = kept_ends outs added h before after o by s cause (kept outs h came t) living call gone
 kept _ _ _ (ends_with_all outs added h came before after o s cause t living call closed gone) = kept_ends_all outs added h before after o s cause (kept outs h came t) living call gone

@@ -12,7 +12,7 @@ use Rattle.nb_ledger.specs.GraphRun.{GraphState}
 use Rattle.nb_frames.specs.Frames.{is_one_of}
 use Rattle.nb_traced.specs.Holdings.{Holdings, Kin, GraphObject, lowest_of, serials}
 use Rattle.nb_traced.specs.Pieces.{AreGone, IsApart, IsCallOn, IsOfOpen, StandOnEntries, event_records, first_close_of, is_entry_of, none_more, happens_then, puts_then}
-use Rattle.nb_traced.specs.Outputs.{Arrived, Traced, own_serials, at_first, apart, replies, commands, makes, opens, calls, ends, ends_with_all, gives_up}
+use Rattle.nb_traced.specs.Outputs.{Arrived, Traced, own_serials, at_first, apart, replies, commands, opens, calls, ends, ends_with_all, gives_up}
 use Rattle.nb_traced.specs.Runs.{HasLedTo, LeadsBy}
 use Rattle.nb_traced.specs.Openings.{HasOpened, HasPieces, EndsAs, WasFreed, IsNoEnd, HasNoEnd, IsOfLiving, LeavesNone, IsNumberedBelow}
 use Rattle.nb_traced.specs.LowestObjects.{GraphSoFar, graph_so_far, graph_by, first_in}
@@ -24,7 +24,7 @@ use Rattle.nb_traced.proofs.Leading.{has_led, leads_then}
 use Rattle.nb_traced.proofs.Seeing.{IsNoOpening, so_far_append}
 use Rattle.nb_traced.proofs.Keeping.{Kept, Lives, HeldBy, lowest_then, opened_then, all_named_raised, Called}
 use Rattle.nb_traced.proofs.Calling.{called, unopened_aside}
-use Rattle.nb_traced.proofs.Rules.{beside, has_pieces, kept, newest_is}
+use Rattle.nb_traced.proofs.Rules.{beside, has_pieces, kept, kept_makes, made_for, made_led, newest_is}
 
 -- an OPEN has its objects, of which the lowest is the newest of all that live, and its number is above all before it
 pub record OpensSo (before : List Out) (k kind : ℕ) : Type 0 where
@@ -249,21 +249,22 @@ says _ _ _ (replies outs n bytes h came t) =
     (each_append (says (outs ++ (step n ∷ [])) h came t) (record { each = (by_step outs n refl (a.sees.runs ∙ ap runners a.rests), tt) }))
 says _ _ _ (commands outs depth line place expanded words h came t none) =
     each_append (says outs h came t) (record { each = (leaves_none outs h (kept outs h came t) (has_led outs h came t) none, tt) })
-says _ _ _ (makes outs h came es s t w run) = each_append (says outs h came t) (each_events es)
-says _ _ _ (opens outs h came first o kind server port own target t waits are some joined newest later) =
-    let a = kept outs h came t in
-    let led = has_led outs h came t in
-    each_append (says outs h came t) (record {
+says _ _ _ (opens outs h came es s first o kind server port own target t w run waits on lone are some joined newest later) =
+    let a = kept_makes outs h es s (kept outs h came t) w run in
+    let led = made_led outs h es s (has_led outs h came t) run in
+    let front : List Out = outs ++ event_records es in
+    let h1 : Holdings = made_for h es s in
+    each_append (says outs h came t) (each_append (each_events es) (record {
       each = (
         record {
           pieces = o.pieces;
-          has = has_pieces outs h first o kind server port own target a led waits are some joined newest later;
-          newest = newest_is outs h first o kind server port own target a led waits are some joined newest later;
-          rising = all_named_raised h.begun o.number outs later a.named;
+          has = has_pieces front h1 first o kind server port own target a led waits are some joined newest later;
+          newest = newest_is front h1 first o kind server port own target a led waits are some joined newest later;
+          rising = all_named_raised h.begun o.number front later a.named;
         },
         tt,
       );
-    })
+    }))
 says _ _ _ (calls outs added h came before after o by s t living call none) =
     let a = kept outs h came t in
     let b = beside outs h before after o a living in

@@ -14,7 +14,7 @@ use Rattle.nb_graph.specs.Whole.{port_at}
 use Rattle.nb_frames.specs.Frames.{is_one_of}
 use Rattle.nb_traced.specs.Holdings.{Holdings, Kin, GraphObject, no_holdings, no_state}
 use Rattle.nb_traced.specs.Pieces.{IsCallOn, AreGone, BeginsBy, event_records, happens_then, puts_then}
-use Rattle.nb_traced.specs.Outputs.{Traced, last_step, at_first, apart, commands, makes, opens, calls, ends}
+use Rattle.nb_traced.specs.Outputs.{Traced, last_step, at_first, apart, commands, opens, calls, ends}
 use Rattle.nb_traced.specs.Example.{ping_made, ping_asks, ping_begins, ping_ends, two_pings, one_ends, came_to_two, came_to_both}
 use Rattle.nb_traced.proofs.OnEntries.{events_on_entries}
 use Rattle.nb_traced.proofs.Serials.{one_cases}
@@ -123,16 +123,14 @@ second_ends cause = (
 at_first_open : Traced (ping_begins 0 1) (record { state = first_made; living = first_ping ∷ []; waits = []; begun = 1 }) []
 at_first_open =
     let a : Traced (command 0 1 0 false [] ∷ []) no_holdings [] = commands [] 0 1 0 false [] no_holdings [] at_first refl in
-    let b = makes (command 0 1 0 false [] ∷ []) no_holdings [] (ping_made 1) first_made a (tt, (tt, tt)) first_run in
-    let c = opens _ _ [] [] first_ping 6 0 0 0 [] b refl refl (some_pieces _ []) tt (newest_made 1 0 no_state.live (omega arith) none_lives) (omega arith) in
+    let c = opens (command 0 1 0 false [] ∷ []) no_holdings [] (ping_made 1) first_made [] first_ping 6 0 0 0 [] a (tt, (tt, tt)) first_run refl tt (inl refl) refl (some_pieces _ []) tt (newest_made 1 0 no_state.live (omega arith) none_lives) (omega arith) in
     calls _ _ _ _ [] [] first_ping None first_made c refl (a_call 0 1 (port_at 1 0) Down first_made first_begins refl refl refl None (tt, (tt, tt))) refl
 
 at_second_open : Traced (ping_begins 0 1 ++ ping_begins 1 2) (record { state = both_made; living = first_ping ∷ second_ping ∷ []; waits = []; begun = 2 }) []
 at_second_open =
     let h : Holdings = record { state = first_made; living = first_ping ∷ []; waits = []; begun = 1 } in
     let a = commands (ping_begins 0 1) 0 1 0 false [] h [] at_first_open refl in
-    let b = makes _ h [] (ping_made 2) both_made a (tt, (tt, tt)) second_run in
-    let c = opens _ _ [] [] second_ping 6 0 0 0 [] b refl refl (some_pieces _ []) tt (newest_made 2 1 first_made.live (omega arith) (newest_made 1 0 no_state.live (omega arith) none_lives)) (omega arith) in
+    let c = opens _ h [] (ping_made 2) both_made [] second_ping 6 0 0 0 [] a (tt, (tt, tt)) second_run refl tt (inl refl) refl (some_pieces _ []) tt (newest_made 2 1 first_made.live (omega arith) (newest_made 1 0 no_state.live (omega arith) none_lives)) (omega arith) in
     calls _ _ _ _ (first_ping ∷ []) [] second_ping None both_made c refl (a_call 1 2 (port_at 2 0) Down both_made second_begins refl refl refl None (tt, (tt, tt))) refl
 
 abbrev pub both_live : Holdings

@@ -1,5 +1,5 @@
 -- In which order the records of the graph stand among the others in an output, for opens of any kind and any number of them that live. Our own.
-use Rattle.std.specs.Prelude.{◌≡◌, ◌≤◌, ◌+◌, ℕ, Bool, true, List, [], ◌∷◌, ◌++◌, fold, Option, Some, None}
+use Rattle.std.specs.Prelude.{◌≡◌, ◌⊎◌, ◌≤◌, ◌+◌, ℕ, Bool, true, List, [], ◌∷◌, ◌++◌, fold, Option, Some, None}
 use Rattle.std.specs.List.{AllByRecursion}
 use Rattle.nb_terms.specs.declared.cause.Cause.{Cause}
 use Rattle.nb_defs.specs.Records.{Out, step, sent, command, opened, ended}
@@ -44,6 +44,13 @@ CallsOpen o by records s t = IsCallOn o.number (own_serials o) (lowest_of (own_s
 abbrev pub ShutsOpen : Kin → List GraphObject → List Out → GraphState → GraphState → Type 0
 ShutsOpen o waits records s t = IsCallOn o.number (own_serials o ++ serials waits) (lowest_of (own_serials o)) None records s t
 
+-- What waits on where an open of this kind begins: nothing; or, beside the look-up of a name (4), one object that has a server, a Fetch (1) or a
+-- Ping (7).
+abbrev pub MayWaitOn : ℕ → List GraphObject → Type 0
+MayWaitOn kind [] = Unit {0}
+MayWaitOn kind (p ∷ []) = (kind ≡ 4) × ((p.kind ≡ 1) ⊎ (p.kind ≡ 7))
+MayWaitOn kind (p ∷ (q ∷ ps)) = ⊥
+
 -- The output has led the graph here, and these came to the opens from outside, each with its way, in this order.
 pub data Traced : List Out → Holdings → List Arrived → Type 0 where
   -- before any record
@@ -55,14 +62,13 @@ pub data Traced : List Out → Holdings → List Arrived → Type 0 where
   -- a command begins: no object waits, so that each that lives is one of an open that lives
   commands : (outs : List Out) (depth line place : ℕ) (expanded : Bool) (words : List (List ℕ)) (h : Holdings) (came : List Arrived) → Traced outs h came → h.waits ≡ [] →
       Traced (outs ++ (command depth line place expanded words ∷ [])) h came
-  -- objects are made and plugged, and wait for their open
-  makes : (outs : List Out) (h : Holdings) (came : List Arrived) (es : List GraphEvent) (s : GraphState) → Traced outs h came → AllByRecursion IsMaking es → GraphRunOf h.state es s →
-      Traced (outs ++ event_records es) (record h { state = s; waits = h.waits ++ pieces_made es }) came
-  -- an open begins: its objects, as its kind has them, were made for it, each plugged to the next, and the lowest is the newest of all; no earlier
-  -- open had its number or a greater one
-  opens : (outs : List Out) (h : Holdings) (came : List Arrived) (first : List GraphObject) (o : Kin) (kind server port own : ℕ) (target : List ℕ) → Traced outs h came → h.waits ≡ first ++ o.pieces →
-      kinds o.pieces ≡ objects_for kind → (o.pieces ≡ [] → ⊥) → AreJoined h.state (own_serials o) → IsNewest h.state (lowest_of (own_serials o)) → h.begun ≤ o.number →
-      Traced (outs ++ (opened o.number kind server port own target ∷ [])) (record h { living = h.living ++ o ∷ []; waits = first; begun = o.number + 1 }) came
+  -- An open begins: what is missing of its objects is made and plugged, directly before its OPEN. They are all that have waited, as its kind has
+  -- them, each plugged to the next, and the lowest is the newest of all; beside a look-up alone another was made, which waits on. No earlier open had
+  -- its number or a greater one.
+  opens : (outs : List Out) (h : Holdings) (came : List Arrived) (es : List GraphEvent) (s : GraphState) (first : List GraphObject) (o : Kin) (kind server port own : ℕ) (target : List ℕ) → Traced outs h came →
+      AllByRecursion IsMaking es → GraphRunOf h.state es s → h.waits ++ pieces_made es ≡ first ++ o.pieces → MayWaitOn kind first → (first ≡ []) ⊎ (h.waits ≡ []) →
+      kinds o.pieces ≡ objects_for kind → (o.pieces ≡ [] → ⊥) → AreJoined s (own_serials o) → IsNewest s (lowest_of (own_serials o)) → h.begun ≤ o.number →
+      Traced (outs ++ (event_records es ++ (opened o.number kind server port own target ∷ []))) (record { state = s; living = h.living ++ o ∷ []; waits = first; begun = o.number + 1 }) came
   -- a call on the objects of an open that goes on: no port of theirs is closed
   calls : (outs added : List Out) (h : Holdings) (came : List Arrived) (before after : List Kin) (o : Kin) (way : Option Way) (s : GraphState) → Traced outs h came → h.living ≡ before ++ o ∷ after →
       CallsOpen o way added h.state s → first_close_of (own_serials o) added ≡ None →

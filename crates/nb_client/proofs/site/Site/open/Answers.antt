@@ -70,6 +70,7 @@ returns-in-Some c =
       live = λ live. c.opening_of-opening.ensures.live live ∙ ap (live_asked (state_of_world w live)) second;
       kind = c.opening_of-opening.ensures.kind ∙ ap asked_kind second;
     } in
+    let backed : IsBacked asked made.waits = subst (λ a. IsBacked a made.waits) third c.in_ok-made.ensures.backed in
     let puts : PutsBegun shown script o w (Some cause) made.desk.made.value.text made.desk.told.value.text c.args.out.now c.put_opened.new.log =
     subst (λ e. PutsBegun shown script o w e made.desk.made.value.text made.desk.told.value.text c.args.out.now c.put_opened.new.log) c.in-Some.is c.put_opened.ensures in
     let after = c.turn_back.new.self in
@@ -81,5 +82,5 @@ returns-in-Some c =
     (subst (λ k. DropsWaiting k made.waits (begun.world.opens + 1) begun after (result cause ∷ []) c.put_opened.new.log new) (c.kind_beside-kind.ensures ∙ ap beside_kind first) lets) in
     subst (λ x. Opened asked (waiting_pieces (asked_kind asked) c.args.waits) shown script now x c.args.out.now new)
     (sym (same_snapshot _ _ (used ∙ b.used) (world ∙ ap with_ended_open b.world) refl (there ∙ ap (λ (s : Running). stage.Running (with_result s cause)) c.entered-script.ensures)))
-    (opened_back asked o c.args.waits made.waits shown script now begun after cause c.requires.sound is b.world (has_begun asked o c.args.waits now begun made (Some cause) c.in-Some.is b) puts kept))
+    (opened_back asked o c.args.waits made.waits shown script now begun after cause c.requires.sound is backed b.world (has_begun asked o c.args.waits now begun made (Some cause) c.in-Some.is b) puts kept))
     c.turn_back.ensures.used c.turn_back.ensures.world c.turn_back.ensures.lets c.turn_back.ensures.stage
