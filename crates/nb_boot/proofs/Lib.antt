@@ -27,6 +27,8 @@ pub mod EntryArrivals
 pub mod EntryOpens
 pub mod EntryPlaces
 pub mod EntrySteps
+pub mod WhoseEvents
+pub mod WhoseMades
 pub mod Showing
 mod PortLemmas
 mod PeerLemmas

@@ -28,6 +28,8 @@ use Rattle.nb_boot.specs.Shown.{EndsWhere, was_left, was_handed, was_stopped, ra
 use Rattle.nb_boot.proofs.EntryArrivals.{shuts_live}
 use Rattle.nb_boot.proofs.EntrySteps.{run_agrees}
 use Rattle.nb_boot.proofs.Following.{follows_course}
+use Rattle.nb_boot.proofs.WhoseEvents.{events_are_theirs, opens_take_all, puts_follow}
+use Rattle.nb_boot.proofs.WhoseMades.{mades_are_theirs}
 
 -- what a traced output says of the graph
 says_of_graph : (outs : List Out) (h : Holdings) (came : List Arrived) → Traced outs h came → SaysOfGraph outs
@@ -46,6 +48,13 @@ says_of_graph outs h came t = record {
   tries = tries_stand outs h came t;
   advances = advances_stand outs h came t;
   others = others_stand_outside outs h came t;
+  holdings = h;
+  came = came;
+  traced = t;
+  makes = mades_are_theirs outs h came t;
+  takes = opens_take_all outs h came t;
+  events = events_are_theirs outs h came t;
+  puts = puts_follow outs h came t;
 }
 
 leads_to_none : (outs : List Out) (h : Holdings) (came : List Arrived) → Traced outs h came → h.living ≡ [] → h.waits ≡ [] → LeadsToNone outs

@@ -16,12 +16,15 @@ use Rattle.nb_laws.specs.Lawful.{IsLawful}
 use Rattle.nb_machine.specs.States.{State}
 use Rattle.nb_machine.specs.Closings.{Shuts}
 use Rattle.nb_traced.specs.Entries.{IsOutside}
+use Rattle.nb_traced.specs.Holdings.{Holdings}
+use Rattle.nb_traced.specs.Outputs.{Arrived, Traced}
 use Rattle.nb_traced.specs.Runs.{HasLedTo}
 use Rattle.nb_traced.specs.Openings.{OpensHavePieces, NumbersRise, EndsAreTheirs, CommandsLeaveNone, LeavesTheirs}
 use Rattle.nb_traced.specs.Places.{LowestAreTheirs, LowestAreOwn, FramesStand, TriesStand, AdvancesStand, OthersStandOutside}
 use Rattle.nb_boot.specs.InTurn.{MayGoOn, AreInTurn}
 use Rattle.nb_boot.specs.Stepped.{AreStepped, ShutsLive}
 use Rattle.nb_boot.specs.Entries.{EntriesAgree}
+use Rattle.nb_boot.specs.Whose.{EventsAreTheirs, MadesAreTheirs, OpensTakeAll, PutsFollow}
 
 -- a record other than START
 abbrev pub IsOther : In → Type 0
@@ -95,7 +98,9 @@ pub data ClosedBy (p : Progress) (rest : List ℕ) (o : Outside) : List Out → 
 -- after the last COMMAND, plugged and alive; each ENDED has the cause of the first close of a port of these, which were freed, and is the only
 -- one of its open; where a COMMAND stands each object that lives is of an open that hasn't ended, and at the end of the output it is, or was made since
 -- the last COMMAND; no entry runs there; each FRAME, TRY and ADVANCE stands within an entry of the lowest object of an open, or a FRAME directly
--- after a STEP, outside of all; and no other record stands within an entry.
+-- after a STEP, outside of all; and no other record stands within an entry. The output is put together of the calls that `Traced` has: so each
+-- object is made directly before an OPEN, which takes all that was made, but for the one that waits beside a look-up; each other event is of an object
+-- of an open that hasn't ended, or of that one; and what an open puts stands directly after the event by which its lowest object is entered.
 pub record SaysOfGraph (outs : List Out) : Type 0 where
   pub state : GraphState
   pub legal : HasLedTo outs state
@@ -111,6 +116,13 @@ pub record SaysOfGraph (outs : List Out) : Type 0 where
   pub tries : TriesStand outs
   pub advances : AdvancesStand outs
   pub others : OthersStandOutside outs
+  pub holdings : Holdings
+  pub came : List Arrived
+  pub traced : Traced outs holdings came
+  pub makes : MadesAreTheirs outs
+  pub takes : OpensTakeAll outs
+  pub events : EventsAreTheirs outs
+  pub puts : PutsFollow outs
 
 -- they have led to where no object lives
 pub record LeadsToNone (outs : List Out) : Type 0 where

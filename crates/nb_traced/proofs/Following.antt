@@ -39,7 +39,7 @@ ends_are_theirs outs h came t before after k cause is = at outs h came t before 
 pub commands_leave_none : (outs : List Out) (h : Holdings) (came : List Arrived) → Traced outs h came → CommandsLeaveNone outs
 commands_leave_none outs h came t before after depth line place expanded words is = at outs h came t before after (command depth line place expanded words) is
 
-waits_made : (outs : List Out) (s : GraphState) (owner : ℕ → Option ℕ) (ps : List GraphObject) → AllByRecursion (Waits outs s owner) ps → AllByRecursion (λ p. IsMadeLast outs p.serial) ps
+pub waits_made : (outs : List Out) (s : GraphState) (owner : ℕ → Option ℕ) (ps : List GraphObject) → AllByRecursion (Waits outs s owner) ps → AllByRecursion (λ p. IsMadeLast outs p.serial) ps
 waits_made outs s owner [] all = tt
 waits_made outs s owner (p ∷ ps) all = (record { kind = p.kind; made = all.0.made }, waits_made outs s owner ps all.1)
 
