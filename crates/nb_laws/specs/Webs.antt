@@ -130,7 +130,7 @@ pub record HasNoAnswer (k : ℕ) (o : Opening) (es : List Event) (cause : Cause)
   pub tried : HasTriedAll (first_word (hardware es).identity k) o.since (time es) (connection_marks k o es)
   pub count : cause ≡ end_cause 2 (plan_tries (timer_after (first_word (hardware es).identity k) o.since (flat_map mark_calls (connection_marks k o es))).plan) 0
 
--- The last segment, and none before it, decides the response, other than as a body or a move: this is how that ends the open.
+-- The last segment, and none before it, decides the response: this is how that ends the open, with Ok where it is a whole body or a move.
 pub record DecidesResponse (k : ℕ) (o : Opening) (es : List Event) (cause : Cause) : Type 0 where
   pub before : List (Came NoTask)
   pub last : Arrival
