@@ -27,8 +27,6 @@ pub mod EntryArrivals
 pub mod EntryOpens
 pub mod EntryPlaces
 pub mod EntrySteps
-pub mod WhoseEvents
-pub mod WhoseMades
 pub mod Showing
 mod PortLemmas
 mod PeerLemmas

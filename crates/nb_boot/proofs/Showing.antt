@@ -28,8 +28,8 @@ use Rattle.nb_boot.specs.Shown.{EndsWhere, was_left, was_handed, was_stopped, ra
 use Rattle.nb_boot.proofs.EntryArrivals.{shuts_live}
 use Rattle.nb_boot.proofs.EntrySteps.{run_agrees}
 use Rattle.nb_boot.proofs.Following.{follows_course}
-use Rattle.nb_boot.proofs.WhoseEvents.{events_are_theirs, opens_take_all, puts_follow}
-use Rattle.nb_boot.proofs.WhoseMades.{mades_are_theirs}
+use Rattle.nb_traced.proofs.WhoseEvents.{events_are_theirs, opens_take_all, puts_follow}
+use Rattle.nb_traced.proofs.WhoseMades.{mades_are_theirs}
 
 -- what a traced output says of the graph
 says_of_graph : (outs : List Out) (h : Holdings) (came : List Arrived) → Traced outs h came → SaysOfGraph outs

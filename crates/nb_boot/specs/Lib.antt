@@ -2,7 +2,6 @@ pub mod Words
 pub mod InTurn
 pub mod Entries
 pub mod Stepped
-pub mod Whose
 pub mod Shown
 pub mod Following
 pub mod Run

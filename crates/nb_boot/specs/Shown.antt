@@ -24,7 +24,7 @@ use Rattle.nb_traced.specs.Places.{LowestAreTheirs, LowestAreOwn, FramesStand, T
 use Rattle.nb_boot.specs.InTurn.{MayGoOn, AreInTurn}
 use Rattle.nb_boot.specs.Stepped.{AreStepped, ShutsLive}
 use Rattle.nb_boot.specs.Entries.{EntriesAgree}
-use Rattle.nb_boot.specs.Whose.{EventsAreTheirs, MadesAreTheirs, OpensTakeAll, PutsFollow}
+use Rattle.nb_traced.specs.Whose.{EventsAreTheirs, MadesAreTheirs, OpensTakeAll, PutsFollow}
 
 -- a record other than START
 abbrev pub IsOther : In → Type 0

@@ -16,3 +16,5 @@ pub mod Entering
 pub mod OneState
 pub mod OnePieces
 pub mod Worked
+pub mod WhoseEvents
+pub mod WhoseMades

@@ -7,4 +7,5 @@ pub mod Openings
 pub mod LowestObjects
 pub mod Entries
 pub mod Places
+pub mod Whose
 pub mod Example

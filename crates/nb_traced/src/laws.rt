@@ -11,6 +11,7 @@ ghost use Rattle.nb_traced.specs.Openings.{CommandsLeaveNone, EndsAreTheirs, Has
 ghost use Rattle.nb_traced.specs.Outputs.{Arrived, Traced};
 ghost use Rattle.nb_traced.specs.Places.{AdvancesStand, FramesStand, LowestAreOwn, LowestAreTheirs, OthersStandOutside, TriesStand};
 ghost use Rattle.nb_traced.specs.Runs.{HasLedTo};
+ghost use Rattle.nb_traced.specs.Whose.{EventsAreTheirs, MadesAreTheirs, OpensTakeAll, PutsFollow};
 
 /// The records of the graph are a legal run, which leads from where no object was made to the state of the holdings.
 pub fn graph_runs()
@@ -81,6 +82,24 @@ pub fn records_stand_within()
     ensures tries { (outs : List Out) (h : Holdings) (came : List Arrived) → Traced outs h came → TriesStand outs }
     ensures advances { (outs : List Out) (h : Holdings) (came : List Arrived) → Traced outs h came → AdvancesStand outs }
     ensures others { (outs : List Out) (h : Holdings) (came : List Arrived) → Traced outs h came → OthersStandOutside outs }
+{}
+
+/// Each object is made directly before an OPEN, for it, or to wait beside a look-up; and each OPEN takes all that was made
+/// since the last COMMAND, but for that one.
+pub fn objects_are_made_for_opens()
+    ensures makes { (outs : List Out) (h : Holdings) (came : List Arrived) → Traced outs h came → MadesAreTheirs outs }
+    ensures takes { (outs : List Out) (h : Holdings) (came : List Arrived) → Traced outs h came → OpensTakeAll outs }
+{}
+
+/// Each other event is of an object of an open that has begun and hasn't ended, or of one that was made since the last
+/// COMMAND.
+pub fn events_are_theirs()
+    ensures { (outs : List Out) (h : Holdings) (came : List Arrived) → Traced outs h came → EventsAreTheirs outs }
+{}
+
+/// What an open puts stands directly after an event by which its lowest object is entered.
+pub fn records_follow_entries()
+    ensures { (outs : List Out) (h : Holdings) (came : List Arrived) → Traced outs h came → PutsFollow outs }
 {}
 
 /// Two pings that live at once are traced, and still where the second ends while the first goes on.

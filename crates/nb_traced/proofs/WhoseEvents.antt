@@ -26,7 +26,7 @@ use Rattle.nb_traced.proofs.Rules.{beside, has_pieces, kept, kept_makes, made_fo
 use Rattle.nb_traced.proofs.Saying.{held_living}
 use Rattle.nb_traced.proofs.Seeing.{IsNoOpening}
 use Rattle.nb_traced.proofs.Serials.{at_serial, one_in_either}
-use Rattle.nb_boot.specs.Whose.{EventsAreTheirs, FollowsEntry, FrameFollows, IsTheirObject, OpensTakeAll, PutsFollow, TakesAllMade, by_entry, by_step, is_making}
+use Rattle.nb_traced.specs.Whose.{EventsAreTheirs, FollowsEntry, FrameFollows, IsTheirObject, OpensTakeAll, PutsFollow, TakesAllMade, by_entry, by_step, is_making}
 
 -- EACH RECORD
 

@@ -18,8 +18,8 @@ use Rattle.nb_traced.proofs.EventLemmas.{all_map}
 use Rattle.nb_traced.proofs.Leading.{has_led}
 use Rattle.nb_traced.proofs.Rules.{kept, kept_makes, made_for, made_led}
 use Rattle.nb_traced.proofs.Serials.{one_first, one_in_first, one_in_last, serials_append}
-use Rattle.nb_boot.specs.Whose.{IsMadeFor, IsOfMaking, MadesAreTheirs, TakesAllMade}
-use Rattle.nb_boot.proofs.WhoseEvents.{takes_so}
+use Rattle.nb_traced.specs.Whose.{IsMadeFor, IsOfMaking, MadesAreTheirs, TakesAllMade}
+use Rattle.nb_traced.proofs.WhoseEvents.{takes_so}
 
 -- EACH RECORD, WITH WHAT STANDS BEHIND IT
 

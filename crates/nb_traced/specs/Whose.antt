@@ -1,4 +1,4 @@
--- Whose the objects of the graph are, by an output alone: what each was made for, whose each event is, and where in an entry stands what an open puts.
+-- Whose the objects of the graph are, by an output alone: what each was made for, whose each event is, and where in an entry stands what an open puts. Our own.
 use Rattle.std.specs.Prelude.{◌≡◌, ◌⊎◌, ℕ, Bool, true, false, ◌==◌, ◌||◌, List, [], ◌∷◌, ◌++◌, Some}
 use Rattle.std.specs.List.{AllByRecursion}
 use Rattle.nb_terms.specs.declared.event.Event.{Event as GraphRecord}
