@@ -30,7 +30,7 @@ use Rattle.nb_traced.specs.Whose.{EventsAreTheirs, FollowsEntry, FrameFollows, I
 
 -- EACH RECORD
 
-abbrev pub SaysWhose : List Out → Out → Type 0
+abbrev SaysWhose : List Out → Out → Type 0
 SaysWhose before (graph happens) = is_making happens ≡ false → IsTheirObject before happens.object
 SaysWhose before (opened number kind server port own target) = TakesAllMade before kind
 SaysWhose before (sent bytes) = FrameFollows before
@@ -232,7 +232,7 @@ takes_so outs h first o kind server port own target a led waits on are some join
 
 -- ALL OF THEM
 
-pub whose : (outs : List Out) (h : Holdings) (came : List Arrived) → Traced outs h came → AreWhose [] outs
+whose : (outs : List Out) (h : Holdings) (came : List Arrived) → Traced outs h came → AreWhose [] outs
 whose _ _ _ at_first = record { each = tt }
 whose _ _ _ (apart outs added h came t aside) = both_whose (whose outs h came t) (record { each = aparts_whose outs added aside })
 whose _ _ _ (replies outs n bytes h came t) =
