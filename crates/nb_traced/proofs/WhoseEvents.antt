@@ -1,5 +1,5 @@
 -- Whose each event of a traced output is, what each OPEN takes, and where what an open puts stands.
-use Rattle.std.proofs.Common.{◌≡◌, ◌⊎◌, inl, inr, ℕ, ◌≤◌, Bool, true, false, List, [], ◌∷◌, ◌++◌, Option, Some, None, refl, sym, ◌∙◌, ap, subst, append_assoc, append-nil}
+use Rattle.std.proofs.Common.{◌≡◌, inl, inr, ℕ, ◌≤◌, Bool, true, false, List, [], ◌∷◌, ◌++◌, Option, Some, None, refl, sym, ◌∙◌, ap, subst, append_assoc, append-nil}
 use Rattle.std.specs.List.{AllByRecursion}
 use Rattle.std.proofs.lemmas.Bool.{eqb-true, false≢true}
 use Rattle.nb_defs.specs.Records.{Out, step, sent, text, command, result, script, opened, tried, advanced, ended, graph, part, done}
@@ -12,7 +12,7 @@ use Rattle.nb_frames.specs.Frames.{is_one_of}
 use Rattle.nb_frames.specs.Within.{IsEventWithin}
 use Rattle.nb_traced.specs.Holdings.{Holdings, Kin, GraphObject, AreJoined, kinds, lowest_of, objects_for, serials}
 use Rattle.nb_traced.specs.LowestObjects.{graph_so_far}
-use Rattle.nb_traced.specs.Openings.{IsCommand, IsMadeLast, IsNoEnd, IsOfLiving}
+use Rattle.nb_traced.specs.Openings.{IsCommand, IsMadeLast, IsNoEnd}
 use Rattle.nb_traced.specs.Outputs.{Arrived, IsNewest, MayWaitOn, Traced, own_serials, at_first, apart, replies, commands, opens, calls, ends, ends_with_all, gives_up}
 use Rattle.nb_traced.specs.Pieces.{IsApart, IsCallOn, IsMaking, IsOfOpen, StandOnEntries, event_records, is_entry_of, none_more, happens_then, puts_then}
 use Rattle.nb_traced.specs.Runs.{HasLedTo}
@@ -24,7 +24,6 @@ use Rattle.nb_traced.proofs.Leading.{has_led}
 use Rattle.nb_traced.proofs.RecordLemmas.{goes_on_then, made_last_then, no_end_aside, put_aside, put_no_command}
 use Rattle.nb_traced.proofs.Rules.{beside, has_pieces, kept, kept_makes, made_for, made_led}
 use Rattle.nb_traced.proofs.Saying.{held_living}
-use Rattle.nb_traced.proofs.Seeing.{IsNoOpening}
 use Rattle.nb_traced.proofs.Serials.{at_serial, one_in_either}
 use Rattle.nb_traced.specs.Whose.{EventsAreTheirs, FollowsEntry, FrameFollows, IsTheirObject, OpensTakeAll, PutsFollow, TakesAllMade, by_entry, by_step, is_making}
 
