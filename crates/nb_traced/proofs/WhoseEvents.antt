@@ -12,14 +12,14 @@ use Rattle.nb_frames.specs.Frames.{is_one_of}
 use Rattle.nb_frames.specs.Within.{IsEventWithin}
 use Rattle.nb_traced.specs.Holdings.{Holdings, Kin, GraphObject, AreJoined, kinds, lowest_of, objects_for, serials}
 use Rattle.nb_traced.specs.LowestObjects.{graph_so_far}
-use Rattle.nb_traced.specs.Openings.{IsCommand, IsMadeLast, IsNoEnd}
+use Rattle.nb_traced.specs.Openings.{IsCommand, IsMadeLast, IsNoEnd, WasMadeLast}
 use Rattle.nb_traced.specs.Outputs.{Arrived, IsNewest, MayWaitOn, Traced, own_serials, at_first, apart, replies, commands, opens, calls, ends, ends_with_all, gives_up}
 use Rattle.nb_traced.specs.Pieces.{IsApart, IsCallOn, IsMaking, IsOfOpen, StandOnEntries, event_records, is_entry_of, none_more, happens_then, puts_then}
 use Rattle.nb_traced.specs.Runs.{HasLedTo}
 use Rattle.nb_traced.proofs.Calling.{unopened_aside}
-use Rattle.nb_traced.proofs.EventLemmas.{all_append}
+use Rattle.nb_traced.proofs.EventLemmas.{all_append, all_first, all_map}
 use Rattle.nb_traced.proofs.Following.{waits_made}
-use Rattle.nb_traced.proofs.Keeping.{Kept, Lives, lowest_then, opened_then}
+use Rattle.nb_traced.proofs.Keeping.{Kept, Lives, Waits, lowest_then, opened_then}
 use Rattle.nb_traced.proofs.Leading.{has_led}
 use Rattle.nb_traced.proofs.RecordLemmas.{goes_on_then, made_last_then, no_end_aside, put_aside, put_no_command}
 use Rattle.nb_traced.proofs.Rules.{beside, has_pieces, kept, kept_makes, made_for, made_led}
@@ -221,6 +221,7 @@ takes_so outs h first o kind server port own target a led waits on are some join
   has = has_pieces outs h first o kind server port own target a led waits are some joined newest later;
   waits = first;
   may = on;
+  made = all_map (Waits outs h.state a.owner) (WasMadeLast outs) first (λ p w. w.made) (all_first (Waits outs h.state a.owner) first o.pieces (subst (AllByRecursion (Waits outs h.state a.owner)) waits a.waits));
   state = h.state;
   led = led;
   theirs = λ x lives. elim (a.held x lives) [

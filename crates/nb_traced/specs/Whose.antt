@@ -11,7 +11,7 @@ use Rattle.nb_ledger.specs.GraphRun.{GraphState}
 use Rattle.nb_frames.specs.Frames.{is_one_of}
 use Rattle.nb_traced.specs.Holdings.{GraphObject, serials}
 use Rattle.nb_traced.specs.LowestObjects.{graph_so_far}
-use Rattle.nb_traced.specs.Openings.{HasPieces, IsMadeLast, IsOfLiving, made_record}
+use Rattle.nb_traced.specs.Openings.{HasPieces, IsMadeLast, IsOfLiving, WasMadeLast, made_record}
 use Rattle.nb_traced.specs.Outputs.{MayWaitOn}
 use Rattle.nb_traced.specs.Pieces.{IsOfOpen}
 use Rattle.nb_traced.specs.Runs.{HasLedTo}
@@ -34,6 +34,7 @@ pub record TakesAllMade (before : List Out) (kind : ℕ) : Type 0 where
   pub has : HasPieces before kind pieces
   pub waits : List GraphObject
   pub may : MayWaitOn kind waits
+  pub made : AllByRecursion (WasMadeLast before) waits
   pub state : GraphState
   pub led : HasLedTo before state
   pub theirs : (x : ℕ) → state.live x ≡ true → IsOfLiving before x ⊎ (is_one_of (serials (waits ++ pieces)) x ≡ true)
