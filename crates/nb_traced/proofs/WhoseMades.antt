@@ -1,4 +1,4 @@
--- What each object of a traced output is made for: the OPEN that stands directly behind.
+-- What each object of a traced output is made for: the OPEN that comes next.
 use Rattle.std.proofs.Common.{◌≡◌, ℕ, Bool, true, false, List, [], ◌∷◌, ◌++◌, Option, None, refl, sym, ◌∙◌, ap, subst, append_assoc, append-nil}
 use Rattle.std.specs.List.{AllByRecursion}
 use Rattle.nb_terms.specs.declared.event.Event.{Event as GraphRecord}
@@ -21,7 +21,7 @@ use Rattle.nb_traced.proofs.Serials.{one_first, one_in_first, one_in_last, seria
 use Rattle.nb_traced.specs.Whose.{IsMadeFor, IsOfMaking, MadesAreTheirs, TakesAllMade}
 use Rattle.nb_traced.proofs.WhoseEvents.{takes_so}
 
--- EACH RECORD, WITH WHAT STANDS BEHIND IT
+-- EACH RECORD, WITH WHAT STANDS AFTER IT
 
 abbrev MadeSo : List Out → Out → List Out → Type 0
 MadeSo before o after = (p : GraphObject) → o ≡ made_record p → IsMadeFor before p after

@@ -44,8 +44,8 @@ abbrev pub OpensTakeAll : List Out → Type 0
 OpensTakeAll outs = (before after : List Out) (k kind server port own : ℕ) (target : List ℕ) →
     outs ≡ before ++ (opened k kind server port own target ∷ after) → TakesAllMade before kind
 
--- An object is made for the OPEN that stands directly behind, with nothing but more making before it: it is one of the open's objects, or waits on
--- beside a look-up.
+-- An object is made for the OPEN that comes next, before which nothing but more making stands: it is one of the open's objects, or waits on beside a
+-- look-up.
 pub record IsMadeFor (before : List Out) (p : GraphObject) (after : List Out) : Type 0 where
   pub making : List Out
   pub are : AllByRecursion IsOfMaking making
