@@ -244,16 +244,13 @@ sound_after s p (Some e) sound v =
     )
 
 -- a step in which a command waits for an open
-pub waited_goes : {r : In} {before mid : Site} {g0 g1 old new : Logged} (g2 : Logged) (s : Running) (p : Pending) (e : Option HasEnded) (after : Snapshot) → IsIn r → IsServed r → IsSound before.used before.world before.opens (stage.Waiting s (Open p)) →
-    Serves r (Some p.number) e before mid g0 g1 → IsClean g0 → WaitsOrEnds e p s mid after g1 g2 → g2.is_short ≡ false → Puts old new g2.bytes →
-    GoesOnBy (r ∷ []) (snapshot_at before (stage.Waiting s (Open p))) after old new
-waited_goes {r} {before} {mid} {g0} {g1} {old} {new} g2 s p None after valid is sound v clean does whole puts =
+pub waited_goes : {r : In} {before mid : Site} {old l1 new : Logged} (s : Running) (p : Pending) (e : Option HasEnded) (after : Snapshot) → IsIn r → IsServed r → IsSound before.used before.world before.opens (stage.Waiting s (Open p)) →
+    Serves r (Some p.number) e before mid old l1 → WaitsOrEnds e p s mid after l1 new → GoesOnBy (r ∷ []) (snapshot_at before (stage.Waiting s (Open p))) after old new
+waited_goes {r} {before} {mid} {old} {l1} {new} s p None after valid is sound v does =
     let one = sound_after s p None sound v in
-    let q : Puts old new g1.bytes = subst (λ (x : Logged). Puts old new x.bytes) does.1 puts in
-    let w : g1.is_short ≡ false = subst (λ (x : Logged). x.is_short ≡ false) does.1 whole in
-    subst (λ x. GoesOnBy (r ∷ []) (snapshot_at before (stage.Waiting s (Open p))) x old new) (sym does.0)
-    (waits_goes s p valid is sound v (λ records u. gathered_puts _ clean w (nothing_more g0 g1 (before.used + 1) records u) q)
-    (record { time = one.time; opens = one.opens; serials = one.serials; tied = one.tied; well = one.well; short = one.short; named = one.named; linked = one.linked }))
-waited_goes {r} {before} {mid} {g0} {g1} {old} {new} g2 s p (Some e) after valid is sound v clean does whole puts =
-    ends_goes s p e after valid is v does
-    (λ records u. gathered_puts _ clean whole (Puts-outs (step (before.used + 1) ∷ records) does.rest u does.puts) puts)
+    subst (λ (l : Logged). GoesOnBy (r ∷ []) (snapshot_at before (stage.Waiting s (Open p))) after old l) (sym does.1)
+    (subst (λ x. GoesOnBy (r ∷ []) (snapshot_at before (stage.Waiting s (Open p))) x old l1) (sym does.0)
+    (waits_goes s p valid is sound v (nothing_more old l1 (before.used + 1))
+    (record { time = one.time; opens = one.opens; serials = one.serials; tied = one.tied; well = one.well; short = one.short; named = one.named; linked = one.linked })))
+waited_goes {r} {before} {mid} {old} {l1} {new} s p (Some e) after valid is sound v does =
+    ends_goes s p e after valid is v does (λ records u. Puts-outs (step (before.used + 1) ∷ records) does.rest u does.puts)

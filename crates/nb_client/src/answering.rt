@@ -2,8 +2,9 @@ ghost use Rattle.std.specs.Prelude.{◌≡◌, ◌-◌, ◌<◌, ◌^◌, [], �
 ghost use Rattle.nb_defs.specs.Records.{IsIn, In};
 ghost use Rattle.nb_record.specs.Logged.{Logged};
 ghost use Rattle.nb_record.specs.View.{in_of};
-ghost use Rattle.nb_client.specs.Serving.{WaitsOrEnds, IsSoundAfter, WakesBy};
-ghost use Rattle.nb_client.specs.Soundness.{IsSound, snapshot_at};
+ghost use Rattle.nb_client.specs.Serving.{Concludes, WaitsOrEnds, IsSoundAfter, WakesBy};
+ghost use Rattle.nb_client.specs.Soundness.{IsPendingWell, IsSound, snapshot_at};
+ghost use Rattle.nb_open.specs.Exchanges.{IsLeaseMessage};
 ghost use Rattle.nb_client.specs.Turning.{GoesOnBy, IsServed};
 ghost use Rattle.nb_client.specs.declared.pending.Expected.TheVariants as expected;
 ghost use Rattle.nb_client.specs.declared.stage.Stage.TheVariants as stage;
@@ -57,12 +58,16 @@ impl Site {
             (snapshot_at self.new st) log.old log.new) }
         ensures nothing { OnErr result (log.new ≡ log.old) }
     {
-        let mut out = lent_log(self.alloc, self.gathered.take())?;
+        let place = log.place();
         let awaited = Some(pending.get().number);
-        let ended = self.serve(entry, awaited, &mut out)?;
-        let stage = self.answer(script, pending, ended, &mut out)?;
-        self.put_gathered(out, log)?;
-        Ok(stage)
+        let ended = self.serve(entry, awaited, log)?;
+        match self.answer(script, pending, ended, log) {
+            Ok(stage) => Ok(stage),
+            Err(NoMemory) => {
+                log.go_back(place);
+                Err(NoMemory)
+            }
+        }
     }
 
     /// The command waits on, or what it waits for has ended.
@@ -72,16 +77,37 @@ impl Site {
         mut script: RunningScript,
         pending: KeptPending,
         ended: Option<HasEnded>,
-        out: &mut Log,
+        log: &mut Log,
     ) -> Result<Stage, NoMemory>
         requires { IsSoundAfter ended self.old script pending }
-        ensures { IfOk result (λ st. WaitsOrEnds ended pending script self.old (snapshot_at self.new st) out.old out.new) }
+        ensures answers { IfOk result (λ st. WaitsOrEnds ended pending script self.old (snapshot_at self.new st) log.old log.new) }
+        ensures nothing { OnErr result (log.new ≡ log.old) }
     {
         script.begin_step();
         match ended {
             None => Ok(Stage::Waiting(script, Expected::Open(pending))),
-            Some(ended) => self.conclude(script, pending.into_inner(), ended, out),
+            Some(ended) => self.conclude_apart(script, pending, ended, log),
         }
+    }
+
+    /// What the command waits for has ended. What comes of it is gathered until nothing can fail any more.
+    #[inline(never)]
+    fn conclude_apart(
+        &mut self,
+        script: RunningScript,
+        pending: KeptPending,
+        ended: HasEnded,
+        log: &mut Log,
+    ) -> Result<Stage, NoMemory>
+        requires { IsSound self.old.used self.old.world self.old.opens (stage.Running script)
+            × IsPendingWell pending None self.old.opens × IsLeaseMessage ended.bytes }
+        ensures concludes { IfOk result (λ st. Concludes pending ended script self.old (snapshot_at self.new st) log.old log.new) }
+        ensures nothing { OnErr result (log.new ≡ log.old) }
+    {
+        let mut out = lent_log(self.alloc, self.gathered.take())?;
+        let stage = self.conclude(script, pending.into_inner(), ended, &mut out)?;
+        self.put_gathered(out, log)?;
+        Ok(stage)
     }
 
     /// A record is used while the script's command waits for a time.

@@ -1,5 +1,9 @@
-use Rattle.std.proofs.Common.{◌≡◌, ap}
+use Rattle.std.proofs.Common.{◌≡◌, length, sym, ap, subst, arith}
+use Rattle.std.proofs.lemmas.List.{length-append}
+use Rattle.nb_record.specs.Logged.{Logged, Puts}
+use Rattle.nb_record.specs.declared.log.LogPlace.{LogPlace}
 use Rattle.nb_client.specs.declared.pending.Pending.{Pending}
+use Rattle.nb_client.proofs.Served.{takes_some}
 use Rattle.nb_client.proofs.Waits.{sound_after, waited_goes}
 use Rattle.nb_client.proofs.site.Site.wait_for_end.Goals as goal
 
@@ -9,10 +13,20 @@ answer-requires c =
     let v = rw number at c.in_ok-ended.ensures.serves in
     sound_after c.args.script c.args.pending c.in_ok-ended.ended c.requires.sound v
 
-pub returns-clause-goes : goal.returns-clause-goes
-returns-clause-goes c =
+pub returns-in-Ok-clause-goes : goal.returns-in-Ok-clause-goes
+returns-in-Ok-clause-goes c =
     let number : c.get.result.now.number ≡ c.args.pending.number = ap (λ (p : Pending). p.number) c.get.ensures in
     let v = rw number at c.in_ok-ended.ensures.serves in
-    let p = c.put_gathered.ensures in
-    let q = c.in_ok-put_gathered.ensures in
-    rw (p.used, p.world, p.opens) (waited_goes c.answer.new.out c.args.script c.args.pending c.in_ok-ended.ended _ c.requires.valid c.requires.served c.requires.sound v c.in_ok-out.ensures c.in_ok-stage.ensures q.whole q.puts)
+    waited_goes c.args.script c.args.pending c.in_ok-ended.ended _ c.requires.valid c.requires.served c.requires.sound v c.in-Ok.ensures.answers
+
+-- what was put stands after the place
+pub go_back-requires : goal.go_back-requires
+go_back-requires c =
+    let t = takes_some c.requires.sound.opens c.in_ok-ended.ensures.serves in
+    let p = subst (λ (l : Logged). Puts c.args.log.now l _) (sym c.in-Err.ensures.nothing) t.takes.puts in
+    omega (arith, ap length p.appended, length-append c.args.log.now.bytes p.part, ap (λ (x : LogPlace). x.len) c.place.ensures)
+
+pub returns-in-Err-clause-nothing : goal.returns-in-Err-clause-nothing
+returns-in-Err-clause-nothing c =
+    let t = takes_some c.requires.sound.opens c.in_ok-ended.ensures.serves in
+    c.go_back.ensures c.args.log.now _ c.place.ensures (subst (λ (l : Logged). Puts c.args.log.now l _) (sym c.in-Err.ensures.nothing) t.takes.puts)

@@ -1,0 +1,22 @@
+use Rattle.std.proofs.Common.{refl, sym, subst}
+use Rattle.nb_defs.specs.Records.{out_texts}
+use Rattle.nb_client.specs.Serving.{Concludes}
+use Rattle.nb_client.specs.Snapshots.{Snapshot}
+use Rattle.nb_client.proofs.OpenSites.{same_snapshot}
+use Rattle.nb_client.proofs.Waits.{gathered_puts}
+use Rattle.nb_client.proofs.site.Site.conclude_apart.Goals as goal
+
+pub returns-clause-concludes : goal.returns-clause-concludes
+returns-clause-concludes c =
+    let g = c.in_ok-put_gathered.ensures in
+    let same = same_snapshot _ _ c.put_gathered.ensures.used c.put_gathered.ensures.world c.put_gathered.ensures.opens refl in
+    let l = rw c.into_inner.ensures at c.in_ok-stage.ensures in
+    subst (λ (x : Snapshot). Concludes c.args.pending c.args.ended c.args.script c.args.self.now x c.args.log.now c.put_gathered.new.log) (sym same)
+    (record {
+      rest = l.rest;
+      puts = gathered_puts (out_texts l.rest) c.in_ok-out.ensures g.whole l.puts g.puts;
+      comes = l.comes;
+      traces = l.traces;
+      sound = l.sound;
+      under_way = l.under_way;
+    })
