@@ -11,7 +11,7 @@ ghost use Rattle.nb_client.specs.declared.stage.Stage.TheVariants as stage;
 
 use crate::site::{Site, lent_log};
 use crate::{Expected, KeptPending, Stage};
-use nb_network::HasEnded;
+use nb_network::KeptEnd;
 use nb_record::{InRec, Log, NoMemory};
 use nb_runner::RunningScript;
 use nb_teller::put_result;
@@ -76,7 +76,7 @@ impl Site {
         &mut self,
         mut script: RunningScript,
         pending: KeptPending,
-        ended: Option<HasEnded>,
+        ended: Option<KeptEnd>,
         log: &mut Log,
     ) -> Result<Stage, NoMemory>
         requires { IsSoundAfter ended self.old script pending }
@@ -96,7 +96,7 @@ impl Site {
         &mut self,
         script: RunningScript,
         pending: KeptPending,
-        ended: HasEnded,
+        ended: KeptEnd,
         log: &mut Log,
     ) -> Result<Stage, NoMemory>
         requires { IsSound self.old.used self.old.world self.old.opens (stage.Running script)
@@ -105,7 +105,7 @@ impl Site {
         ensures nothing { OnErr result (log.new ≡ log.old) }
     {
         let mut out = lent_log(self.alloc, self.gathered.take())?;
-        let stage = self.conclude(script, pending.into_inner(), ended, &mut out)?;
+        let stage = self.conclude(script, pending.into_inner(), ended.into_inner(), &mut out)?;
         self.put_gathered(out, log)?;
         Ok(stage)
     }

@@ -8,7 +8,7 @@ ghost use Rattle.nb_client.specs.Turning.{IsServed};
 ghost use Rattle.nb_client.specs.declared.stage.Stage.{Stage as TheStage};
 
 use crate::site::Site;
-use nb_network::HasEnded;
+use nb_network::KeptEnd;
 use nb_record::{InRec, Log, NoMemory};
 use nb_teller::lent;
 
@@ -21,7 +21,7 @@ impl Site {
         entry: &InRec<'_>,
         awaited: Option<u16>,
         log: &mut Log,
-    ) -> Result<Option<HasEnded>, NoMemory>
+    ) -> Result<Option<KeptEnd>, NoMemory>
         requires valid { IsIn (in_of entry.now) }
         requires served { IsServed (in_of entry.now) }
         requires few { self.old.used < 2 ^ 32 - 1 }
@@ -43,7 +43,7 @@ impl Site {
         bytes: &[u8],
         awaited: Option<u16>,
         log: &mut Log,
-    ) -> Result<Option<HasEnded>, NoMemory>
+    ) -> Result<Option<KeptEnd>, NoMemory>
         requires valid { IsFrameRecord bytes.now }
         requires few { self.old.used < 2 ^ 32 - 1 }
         requires sound { (st : TheStage) × IsSound self.old.used self.old.world self.old.opens st }
@@ -67,7 +67,7 @@ impl Site {
         ms: u16,
         awaited: Option<u16>,
         log: &mut Log,
-    ) -> Result<Option<HasEnded>, NoMemory>
+    ) -> Result<Option<KeptEnd>, NoMemory>
         requires valid { IsTick ms }
         requires few { self.old.used < 2 ^ 32 - 1 }
         requires sound { (st : TheStage) × IsSound self.old.used self.old.world self.old.opens st }

@@ -13,7 +13,7 @@ ghost use Rattle.nb_record.specs.Logged.{Puts};
 ghost use Rattle.nb_stack.specs.Takes.{outcome};
 ghost use Rattle.nb_teller.specs.Put.{IsFrameOrNothing};
 
-use crate::{HasEnded, Opens};
+use crate::{KeptEnd, Opens};
 use nb_chains::{Arrival, ChainKind};
 use nb_open::{Open, OpenObjects};
 use nb_record::Log;
@@ -44,7 +44,7 @@ impl Opens {
         awaited: Option<u16>,
         mut desk: Desk,
         log: &mut Log,
-    ) -> Result<(Option<HasEnded>, Desk), NoMemory>
+    ) -> Result<(Option<KeptEnd>, Desk), NoMemory>
         requires valid { IsFrameRecord bytes.now }
         requires sound { (w : ℕ) × (opens : ℕ) × AreSound w opens net.old self.old }
         ensures takes { IfOk result (λ r. (w opens : ℕ) → AreSound w opens net.old self.old → (s : State)
@@ -124,7 +124,7 @@ impl Opens {
         awaited: Option<u16>,
         desk: Desk,
         log: &mut Log,
-    ) -> Result<(Option<HasEnded>, Desk), NoMemory>
+    ) -> Result<(Option<KeptEnd>, Desk), NoMemory>
         requires sound { (w : ℕ) × (opens : ℕ) × AreSound w opens net.old self.old }
         requires place { place < length self.old.list }
         requires short { length arrival.now.body.now ≤ 65535 }

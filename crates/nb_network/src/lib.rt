@@ -13,4 +13,4 @@ mod time;
 
 pub use begin::put_begun;
 pub use opens::Opens;
-pub use over::HasEnded;
+pub use over::{HasEnded, KeptEnd};

@@ -1,6 +1,10 @@
+ghost use Rattle.std.specs.Prelude.{◌≡◌, IfOk};
+
 use nb_image::Body;
-use nb_terms::Cause;
+use nb_terms::{Cause, NoMemory};
 use nb_wire::{Ip4, Text};
+use std::alloc::Global;
+use std::marker::Model;
 
 /// An open that has ended, and what it has found.
 #[derive(Drop)]
@@ -17,4 +21,36 @@ pub struct HasEnded {
     pub bytes: Option<Text>,
     /// The address of a name (RFC 1035).
     pub address: Option<Ip4>,
+}
+
+/// The same at one place of memory, where it stays: moving it moves its address alone.
+#[derive(Drop)]
+pub struct KeptEnd {
+    place: Box<HasEnded>,
+}
+
+impl Model for KeptEnd {
+    ghost use Rattle.nb_network.specs.declared.over.HasEnded.{HasEnded};
+
+    ghost Value = { HasEnded };
+
+    ghost view = { λ k. k.place.value };
+}
+
+impl KeptEnd {
+    /// Keeps it. An error where memory runs out.
+    pub fn of(alloc: Global, ended: HasEnded) -> Result<KeptEnd, NoMemory>
+        ensures { IfOk result (λ k. k ≡ ended) }
+    {
+        Ok(KeptEnd {
+            place: Box::new(alloc, ended)?,
+        })
+    }
+
+    /// What was kept.
+    pub fn into_inner(self) -> HasEnded
+        ensures { result ≡ self }
+    {
+        Box::into_inner(self.place)
+    }
 }

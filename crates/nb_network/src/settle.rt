@@ -4,8 +4,8 @@ ghost use Rattle.nb_network.specs.Steps.{EndIsSettled, IsOpenAt, answer_for, fre
 ghost use Rattle.nb_open.specs.declared.open.Open.{Open as TheOpen};
 ghost use Rattle.nb_record.specs.Logged.{Puts};
 
-use crate::{HasEnded, Opens};
-use nb_open::{Ended, Open};
+use crate::{HasEnded, KeptEnd, Opens};
+use nb_open::{Ended, KeptEnded, Open};
 use nb_record::Log;
 use nb_runner::copy;
 use nb_stack::Stack;
@@ -24,11 +24,11 @@ impl Opens {
         net: &mut Stack,
         place: usize,
         begun: Option<u32>,
-        ended: Option<Ended>,
+        ended: Option<KeptEnded>,
         awaited: Option<u16>,
         desk: &Desk,
         log: &mut Log,
-    ) -> Result<Option<HasEnded>, NoMemory>
+    ) -> Result<Option<KeptEnd>, NoMemory>
         requires place { place < length self.old.list }
         ensures graph { self.new.graph ≡ self.old.graph }
         ensures settles { IfOk result (λ answer. (o : TheOpen) → (at : IsOpenAt self.old.list place o) → EndIsSettled ended at.before o at.behind
@@ -56,11 +56,11 @@ impl Opens {
         net: &mut Stack,
         place: usize,
         begun: Option<u32>,
-        ended: Ended,
+        ended: KeptEnded,
         awaited: Option<u16>,
         desk: &Desk,
         log: &mut Log,
-    ) -> Result<Option<HasEnded>, NoMemory>
+    ) -> Result<Option<KeptEnd>, NoMemory>
         requires place { place < length self.old.list }
         ensures graph { self.new.graph ≡ self.old.graph }
         ensures settles { IfOk result (λ answer. (o : TheOpen) → (at : IsOpenAt self.old.list place o) → EndIsSettled (Some ended) at.before o
@@ -70,14 +70,14 @@ impl Opens {
         ensures address { net.new.address ≡ net.old.address }
         ensures up { net.new.up ≡ net.old.up }
     {
-        let cause = ended.cause;
+        let why = ended.cause();
         let open = self.list[place];
         let answer = found_by(alloc, awaited, &open, ended, &desk.told)?;
         self.list.remove(place);
         net.unbind(open.speaker.carrier.number(), open.speaker.own_port);
         put_begin(begun, log);
         put_told(&desk.told, log);
-        put_over(open.speaker.number, cause, log);
+        put_over(open.speaker.number, why, log);
         Ok(answer)
     }
 }
@@ -97,25 +97,27 @@ fn found_by(
     alloc: Global,
     awaited: Option<u16>,
     open: &Open,
-    ended: Ended,
+    ended: KeptEnded,
     told: &Spelled,
-) -> Result<Option<HasEnded>, NoMemory>
+) -> Result<Option<KeptEnd>, NoMemory>
     ensures { IfOk result (λ answer. answer ≡ answer_for awaited open.now.speaker.number ended told.now) }
 {
     let number = open.speaker.number;
     match awaited {
         Some(k) if number == k => {
-            let Ended { cause, body, moved } = ended;
+            let Ended { cause, body, moved } = ended.into_inner();
             let bytes = copied(alloc, told.bytes())?;
             let address = told.address();
-            Ok(Some(HasEnded {
+            let found = HasEnded {
                 number,
                 cause,
                 body,
                 moved,
                 bytes,
                 address,
-            }))
+            };
+            let kept = KeptEnd::of(alloc, found)?;
+            Ok(Some(kept))
         }
         _ => Ok(None),
     }

@@ -11,8 +11,8 @@ ghost use Rattle.nb_network.specs.Takes.{TakesRecord};
 ghost use Rattle.nb_open.specs.declared.ended.Ended.{Ended as TheEnded};
 ghost use Rattle.nb_open.specs.declared.open.Open.{Open as TheOpen};
 
-use crate::{HasEnded, Opens};
-use nb_open::Ended;
+use crate::{KeptEnd, Opens};
+use nb_open::KeptEnded;
 use nb_record::Log;
 use nb_stack::Stack;
 use nb_teller::{Desk, put_step};
@@ -35,7 +35,7 @@ impl Opens {
         awaited: Option<u16>,
         desk: Desk,
         log: &mut Log,
-    ) -> Result<(Option<HasEnded>, Desk), NoMemory>
+    ) -> Result<(Option<KeptEnd>, Desk), NoMemory>
         requires valid { IsTick ms }
         requires sound { (w : ℕ) × (opens : ℕ) × AreSound w opens net.old self.old }
         ensures takes { IfOk result (λ r. (w opens before : ℕ) → now ≡ before + ms → AreSound w opens net.old self.old → (s : State)
@@ -67,7 +67,7 @@ impl Opens {
         awaited: Option<u16>,
         desk: Desk,
         gathered: &mut Log,
-    ) -> Result<(Option<HasEnded>, Desk), NoMemory>
+    ) -> Result<(Option<KeptEnd>, Desk), NoMemory>
         requires sound { (w : ℕ) × (opens : ℕ) × AreSound w opens net.old self.old }
         requires place { place ≤ length self.old.list }
         ensures times { IfOk result (λ r. (w opens : ℕ) → AreSound w opens net.old self.old → (done rest : List TheOpen)
@@ -95,7 +95,7 @@ impl Opens {
         awaited: Option<u16>,
         desk: Desk,
         gathered: &mut Log,
-    ) -> Result<(Option<HasEnded>, usize, Desk), NoMemory>
+    ) -> Result<(Option<KeptEnd>, usize, Desk), NoMemory>
         requires sound { (w : ℕ) × (opens : ℕ) × AreSound w opens net.old self.old }
         requires place { place < length self.old.list }
         ensures comes { IfOk result (λ r. (ended : Option TheEnded) × (r.1 ≡ place_after ended place) × ((o : TheOpen)
@@ -115,7 +115,7 @@ impl Opens {
 }
 
 /// Where the next open stands after one at this place, which may have ended.
-fn next_place(ended: &Option<Ended>, place: usize) -> usize
+fn next_place(ended: &Option<KeptEnded>, place: usize) -> usize
     requires { place + 1 < 2 ^ 64 }
     ensures { result ≡ place_after ended.now place }
 {
@@ -126,7 +126,7 @@ fn next_place(ended: &Option<Ended>, place: usize) -> usize
 }
 
 /// The first of two that was found.
-fn first_found(found: Option<HasEnded>, later: Option<HasEnded>) -> Option<HasEnded>
+fn first_found(found: Option<KeptEnd>, later: Option<KeptEnd>) -> Option<KeptEnd>
     ensures { result ≡ option_or found later }
 {
     match found {

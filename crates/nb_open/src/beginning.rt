@@ -10,7 +10,7 @@ ghost use Rattle.nb_webchains.specs.WebChains.{web_ids};
 ghost use Rattle.nb_webnodes.specs.WebAsks.{web_ask_in};
 
 use crate::making::make_waiting;
-use crate::{Ended, Open, OpenObjects, Opening};
+use crate::{KeptEnded, Open, OpenObjects, Opening};
 use nb_chains::{Chain, ChainKind};
 use nb_conns::ConnAsk;
 use nb_graph::Graph;
@@ -251,11 +251,11 @@ fn head_of(alloc: Global, conn: ConnAsk, host: &[u8]) -> Result<Vec<u8>, NoMemor
 }
 
 /// Why it has ended.
-fn cause_of(ended: Option<Ended>) -> Option<Cause>
+fn cause_of(ended: Option<KeptEnded>) -> Option<Cause>
     ensures { result ≡ option_map (λ e. e.cause) ended }
 {
     match ended {
-        Some(ended) => Some(ended.cause),
+        Some(ended) => Some(ended.cause()),
         None => None,
     }
 }

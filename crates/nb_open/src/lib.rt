@@ -14,7 +14,7 @@ mod open;
 mod opening;
 
 pub use beginning::Begun;
-pub use ended::Ended;
+pub use ended::{Ended, KeptEnded};
 pub use ending::give_up;
 pub use laws::opens_stay;
 pub use objects::OpenObjects;

@@ -8,7 +8,7 @@ ghost use Rattle.nb_open.specs.Open.{IsOpenOf, LivesSome};
 ghost use Rattle.nb_open.specs.Settling.{LetsObjectsGo, MaySettle, SettlesOpen, told_so_far};
 
 use crate::objects::Brought;
-use crate::{Ended, OpenObjects};
+use crate::{Ended, KeptEnded, OpenObjects};
 use nb_chains::Arrival;
 use nb_graph::Graph;
 use nb_nodes::Obj;
@@ -42,7 +42,7 @@ impl Open {
         arrival: &Arrival<'_>,
         now: u64,
         desk: Desk,
-    ) -> Result<(Option<Ended>, Desk), NoMemory>
+    ) -> Result<(Option<KeptEnded>, Desk), NoMemory>
         requires open { LivesSome graph.old self.now }
         requires short { length arrival.now.body.now ≤ 65535 }
         ensures { IfOk result (λ r. (l : Live) (came : OpenInput) → IsOpenOf graph.old self.now l → IsInput self.now l rec arrival.now now came
@@ -76,7 +76,7 @@ impl Open {
         net: &Stack,
         now: u64,
         desk: Desk,
-    ) -> Result<(Option<Ended>, Desk), NoMemory>
+    ) -> Result<(Option<KeptEnded>, Desk), NoMemory>
         requires open { LivesSome graph.old self.now }
         ensures { IfOk result (λ r. (l : Live) → IsOpenOf graph.old self.now l
             → Exchanges self.now l (time_comes now) net.now (Some way.Time) graph.old graph.new r.1.told.value r.0) }
@@ -107,7 +107,7 @@ impl Open {
         graph: &mut Graph<Obj>,
         now: u64,
         out: &mut Teller<'_>,
-    ) -> Result<Option<Ended>, NoMemory>
+    ) -> Result<Option<KeptEnded>, NoMemory>
         requires chained { AreObjectsChained graph.old self.now.objects }
         requires may { MaySettle self.now out.old.told.value graph.old }
         ensures { IfOk result (SettlesOpen self.now out.old.told.value graph.old graph.new (told_so_far out.old)
@@ -131,7 +131,7 @@ impl Open {
         graph: &mut Graph<Obj>,
         cause: Cause,
         out: &mut Teller<'_>,
-    ) -> Result<Ended, NoMemory>
+    ) -> Result<KeptEnded, NoMemory>
         requires chained { AreObjectsChained graph.old self.now.objects }
         requires shut { AreObjectsShut self.now.objects graph.old }
         ensures cause { IfOk result (λ e. e.cause ≡ cause) }
@@ -139,7 +139,8 @@ impl Open {
     {
         let Brought { body, moved } = self.objects.collect(alloc, graph)?;
         self.objects.release(graph, out);
-        Ok(Ended { cause, body, moved })
+        let ended = KeptEnded::of(alloc, Ended { cause, body, moved })?;
+        Ok(ended)
     }
 }
 

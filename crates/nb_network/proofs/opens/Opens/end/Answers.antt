@@ -1,5 +1,6 @@
 use Rattle.std.proofs.Common.{◌≡◌, ◌∷◌, [], ◌++◌, Some, get_or, ◌∙◌, subst, ap}
 use Rattle.std.specs.List.{remove}
+use Rattle.nb_terms.specs.declared.cause.Cause.{Cause}
 use Rattle.nb_defs.specs.Records.{ended, out_texts}
 use Rattle.nb_record.specs.Logged.{Puts}
 use Rattle.nb_runner.proofs.Puts.{Puts-append}
@@ -25,5 +26,6 @@ returns-clause-settles c = λ o at.
       c.unbind.ensures ∙ ap (λ p. record c.args.net.now { ports = without p x.speaker.own_port c.args.net.now.ports }) c.number.ensures,
       c.in_ok-answer.ensures ∙ ap (λ (s : Spelling). answer_for c.args.awaited x.speaker.number c.args.ended s) c.deref.ensures,
       Puts-append begun (told.text ++ end) c.put_begin.ensures
-          (Puts-append told.text end (subst (λ (s : Spelling). Puts c.put_begin.new.log c.put_told.new.log s.text) c.deref-2.ensures c.put_told.ensures.text) c.put_over.ensures),
+          (Puts-append told.text end (subst (λ (s : Spelling). Puts c.put_begin.new.log c.put_told.new.log s.text) c.deref-2.ensures c.put_told.ensures.text)
+          (subst (λ (why : Cause). Puts c.put_told.new.log c.put_over.new.log (out_texts (ended x.speaker.number why ∷ []))) c.cause-why.ensures c.put_over.ensures)),
     )
