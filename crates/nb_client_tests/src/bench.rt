@@ -204,7 +204,7 @@ impl Bench {
             used,
             now,
         };
-        Ok((bench, ended.map(|open| open.number)))
+        Ok((bench, ended.map(|open| open.into_inner().number)))
     }
 
     /// So many milliseconds pass.
