@@ -22,9 +22,11 @@
 #include <stdlib.h>
 #include <string.h>
 #include <sys/ioctl.h>
+#include <sys/mman.h>
 #include <sys/prctl.h>
 #include <sys/random.h>
 #include <sys/stat.h>
+#include <sys/syscall.h>
 #include <sys/wait.h>
 #include <time.h>
 #include <unistd.h>
@@ -33,17 +35,22 @@
 
 enum { TICK_MS = 50, AHEAD_MS = 200, MOST_AHEAD = 5, MOST_TICK = 60000, CLIENT_MS = 30000, OFF_MS = 800,
        FAILED = 100, USAGE = 2, UNFINISHED = 5, EVERY = 0x0003, ETHERNET = 1, MOST_WAITING = 4 << 20,
-       START_BYTES = 75, MIN_ON_WIRE = 60 };
+       START_BYTES = 75, MIN_ON_WIRE = 60, AT_ONCE = 1 << 16, MOST_SENT = 64 };
+/* The card's frames come into a ring of these slots, which the system shares with this program (packet(7)). */
+enum { SLOT = 2048, SLOTS = 2048, RING_BLOCK = 1 << 16,
+       SLOT_HEAD = (sizeof(struct tpacket2_hdr) + TPACKET_ALIGNMENT - 1) / TPACKET_ALIGNMENT * TPACKET_ALIGNMENT };
 
 /* The least and the most bytes of each record's body, from STEP on. */
 static const uint32_t SIZES[][2] = {{4, 4}, {MIN_FRAME, MAX_FRAME}, {0, 4160}, {8, MOST_RECORD - 1}, {9, 9}, {11, 11},
     {13, 13 + 65535}, {3, 3}, {6, 6}, {11, 11}, {28, 28}, {7, 7 + PIECE}, {1, 1}};
 
-static struct file { const char *path; FILE *stream; } record, output;
+static struct file { const char *path; FILE *stream; char *room; } record, output;
 static const char *device = "eth0", *folder = "/run/netboot", *script, *program;
 static struct { unsigned received, sent, lost, unsent, joined; } counts;
-static struct { uint8_t bytes[MOST_WAITING + MOST_RECORD + 4]; size_t size; } waiting; /* for the client */
-static struct { uint8_t bytes[MOST_RECORD + 4]; size_t size; uint64_t passed; } held;  /* of the client */
+static struct { uint8_t bytes[MOST_WAITING + MOST_RECORD + 4]; size_t from, to; } waiting; /* for the client */
+static struct { uint8_t bytes[4 * MOST_RECORD]; size_t size; uint64_t passed; } held; /* of the client */
+static struct { struct mmsghdr all[MOST_SENT]; struct iovec parts[MOST_SENT][2]; unsigned count; } outgoing; /* frames in held */
+static struct { uint8_t *slots; unsigned next; } ring;
 static struct { bool is_begun, is_full; unsigned kind, index; uint32_t length; struct file file; } last; /* the part */
 static struct { uint64_t tick, off; } times;
 static int card = -1, client = -1, status = -1;
@@ -51,6 +58,7 @@ static pid_t child;
 static uid_t user; /* the client's, where it is another */
 static uint8_t mac[6];
 static uint32_t number, step; /* of the record given last, and of the one that the client is at */
+static bool has_left; /* the client */
 static volatile sig_atomic_t wants_off;
 
 /* ---- failures ---- */
@@ -72,8 +80,9 @@ static void put16(uint8_t *p, unsigned n) { p[0] = (uint8_t)(n >> 8), p[1] = (ui
 static void put32(uint8_t *p, uint32_t n) { put16(p, n >> 16), put16(p + 2, n & 0xffff); }
 
 static struct file opened(const char *path, const char *how) {
-    struct file file = {path, path ? fopen(path, how) : 0};
+    struct file file = {path, path ? fopen(path, how) : 0, path ? malloc(AT_ONCE) : 0};
     if (path && !file.stream) fail(path);
+    if (file.room) setvbuf(file.stream, file.room, _IOFBF, AT_ONCE);
     return file;
 }
 static void keep(struct file file, const void *bytes, size_t size) {
@@ -82,6 +91,7 @@ static void keep(struct file file, const void *bytes, size_t size) {
 static void close_file(struct file *file) {
     FILE *stream = file->stream;
     if (file->stream = 0, stream && fclose(stream)) fail(file->path);
+    free(file->room), file->room = 0;
 }
 static const char *in_folder(const char *name) {
     static char path[256];
@@ -98,8 +108,16 @@ static void bring_up(int asking, const char *name) {
     about.ifr_flags = (short)(about.ifr_flags | IFF_UP);
     if (ioctl(asking, SIOCSIFFLAGS, &about)) fail(name);
 }
+static void share_ring(void) {
+    int version = TPACKET_V2;
+    struct tpacket_req wanted = {RING_BLOCK, SLOTS * SLOT / RING_BLOCK, SLOT, SLOTS};
+    if (setsockopt(card, SOL_PACKET, PACKET_VERSION, &version, sizeof version)) fail(device);
+    if (setsockopt(card, SOL_PACKET, PACKET_RX_RING, &wanted, sizeof wanted)) fail(device);
+    ring.slots = mmap(0, (size_t)SLOTS * SLOT, PROT_READ | PROT_WRITE, MAP_SHARED, card, 0);
+    if (ring.slots == MAP_FAILED) fail(device);
+}
 static void open_card(void) {
-    int asking = socket(AF_INET, SOCK_DGRAM | SOCK_CLOEXEC, 0), one = 1, room = 4 << 20;
+    int asking = socket(AF_INET, SOCK_DGRAM | SOCK_CLOEXEC, 0), one = 1;
     bring_up(asking, "lo"), bring_up(asking, device);
     struct ifreq about = {0};
     memcpy(about.ifr_name, device, strnlen(device, IFNAMSIZ - 1));
@@ -111,17 +129,20 @@ static void open_card(void) {
     int index = about.ifr_ifindex;
     struct sockaddr_ll place = {.sll_family = AF_PACKET, .sll_protocol = htons(EVERY), .sll_ifindex = index};
     struct packet_mreq every = {.mr_ifindex = index, .mr_type = PACKET_MR_PROMISC};
-    card = socket(AF_PACKET, SOCK_RAW | SOCK_NONBLOCK | SOCK_CLOEXEC, htons(EVERY));
-    if (card < 0 || bind(card, (void *)&place, sizeof place)) fail(device);
-    setsockopt(card, SOL_PACKET, PACKET_AUXDATA, &one, sizeof one);
+    if ((card = socket(AF_PACKET, SOCK_RAW | SOCK_NONBLOCK | SOCK_CLOEXEC, 0)) < 0) fail(device);
+    share_ring();
+    setsockopt(card, SOL_PACKET, PACKET_IGNORE_OUTGOING, &one, sizeof one);
+    if (bind(card, (void *)&place, sizeof place)) fail(device);
     setsockopt(card, SOL_PACKET, PACKET_ADD_MEMBERSHIP, &every, sizeof every);
-    setsockopt(card, SOL_SOCKET, SO_RCVBUFFORCE, &room, sizeof room);
 }
+/* The sum of 16-bit words, which may be added as longer ones are (RFC 1071, section 2). */
 static uint32_t sum(const uint8_t *p, size_t n, uint32_t before) {
-    for (; n > 1; p += 2, n -= 2) before += get16(p);
-    if (n) before += (uint32_t)p[0] << 8;
-    while (before >> 16) before = (before & 0xffff) + (before >> 16);
-    return before;
+    uint64_t all = htonl(before);
+    uint32_t word;
+    for (; n >= sizeof word; p += sizeof word, n -= sizeof word) memcpy(&word, p, sizeof word), all += word;
+    for (word = 0, memcpy(&word, p, n), all += word; all >> 32;) all = (all & UINT32_MAX) + (all >> 32);
+    for (word = ntohl((uint32_t)all); word >> 16;) word = (word & 0xffff) + (word >> 16);
+    return word;
 }
 /* Fills in the checksums that a sender on this machine left to a card that isn't there (RFC 1071). */
 static void complete(uint8_t *f, size_t size) {
@@ -141,45 +162,47 @@ static void complete(uint8_t *f, size_t size) {
 
 /* ---- to the client ---- */
 static void flush_waiting(void) {
-    ssize_t n = waiting.size ? send(client, waiting.bytes, waiting.size, MSG_DONTWAIT | MSG_NOSIGNAL) : 0;
-    if (n > 0) memmove(waiting.bytes, waiting.bytes + n, waiting.size -= (size_t)n);
-    if (n < 0 && errno != EAGAIN && errno != EINTR) waiting.size = 0; /* it has gone */
+    size_t size = waiting.to - waiting.from;
+    ssize_t n = size ? send(client, waiting.bytes + waiting.from, size, MSG_DONTWAIT | MSG_NOSIGNAL) : 0;
+    if (n > 0) waiting.from += (size_t)n;
+    bool has_gone = n < 0 && errno != EAGAIN && errno != EINTR;
+    if (has_gone || waiting.from == waiting.to) waiting.from = waiting.to = 0;
 }
 /* There is room: frames end at MOST_WAITING, and TICKs at MOST_AHEAD. */
 static void put(enum type type, const uint8_t *body, size_t size) {
-    uint8_t *at = waiting.bytes + waiting.size;
+    if (waiting.to > MOST_WAITING)
+        memmove(waiting.bytes, waiting.bytes + waiting.from, waiting.to - waiting.from), waiting.to -= waiting.from, waiting.from = 0;
+    uint8_t *at = waiting.bytes + waiting.to;
     put32(at, (uint32_t)size + 1), at[4] = (uint8_t)type;
     if (size) memcpy(at + 5, body, size);
     keep(record, at, size + 5);
-    waiting.size += size + 5, number++;
+    waiting.to += size + 5, number++;
     see_input(number, type, body, size);
-    flush_waiting();
 }
 static void take_frame(uint8_t *f, size_t size, unsigned notes) {
     if (size < 12 || notes & TP_STATUS_VLAN_VALID || !memcmp(f + 6, mac, 6)) return;
     if (memcmp(f, mac, 6) && !(f[0] & 1)) return;
     if (notes & TP_STATUS_CSUMNOTREADY) complete(f, size);
     if (size < MIN_FRAME || size > MAX_FRAME) counts.joined++;
-    else if (waiting.size > MOST_WAITING) counts.lost++;
+    else if (waiting.to - waiting.from > MOST_WAITING) counts.lost++;
     else counts.received++, put(FRAME, f, size);
 }
-static void take_frames(void) {
-    union { struct cmsghdr head; uint8_t bytes[CMSG_SPACE(sizeof(struct tpacket_auxdata))]; } notes;
-    uint8_t frame[2048];
-    for (int i = 0; i < 64; i++) {
-        struct sockaddr_ll from = {0};
-        struct iovec room = {frame, sizeof frame};
-        struct msghdr m = {.msg_name = &from, .msg_namelen = sizeof from, .msg_iov = &room, .msg_iovlen = 1,
-                           .msg_control = &notes, .msg_controllen = sizeof notes};
-        struct tpacket_auxdata about = {0};
-        ssize_t n = recvmsg(card, &m, 0);
-        if (n < 0 && (errno == EAGAIN || errno == EINTR)) return;
-        if (n < 0) fail(device);
-        struct cmsghdr *head = CMSG_FIRSTHDR(&m);
-        if (head && head->cmsg_level == SOL_PACKET && head->cmsg_type == PACKET_AUXDATA)
-            memcpy(&about, CMSG_DATA(head), sizeof about);
-        if (from.sll_pkttype != PACKET_OUTGOING) take_frame(frame, (size_t)n, about.tp_status);
+/* Takes the frames that are there, as far as the client reads them at once; whether there were any. */
+static bool take_frames(void) {
+    unsigned taken = 0;
+    for (size_t end = waiting.to + AT_ONCE; taken < SLOTS && waiting.to < end; taken++) {
+        uint8_t *slot = ring.slots + (size_t)ring.next * SLOT;
+        struct tpacket2_hdr *about = (void *)slot;
+        struct sockaddr_ll *from = (void *)(slot + SLOT_HEAD);
+        uint32_t notes = __atomic_load_n(&about->tp_status, __ATOMIC_ACQUIRE);
+        if (!(notes & TP_STATUS_USER)) break;
+        size_t size = about->tp_mac + about->tp_snaplen > SLOT ? 0 : about->tp_snaplen;
+        if (size < about->tp_len) notes &= ~(uint32_t)TP_STATUS_CSUMNOTREADY, size = size < 12 ? 0 : about->tp_len;
+        if (from->sll_pkttype != PACKET_OUTGOING) take_frame(slot + about->tp_mac, size, notes);
+        __atomic_store_n(&about->tp_status, TP_STATUS_KERNEL, __ATOMIC_RELEASE);
+        ring.next = (ring.next + 1) % SLOTS;
     }
+    return taken > 0;
 }
 /* The machine's own UUID as its firmware says it; one is drawn where it says none. */
 static void find_uuid(uint8_t uuid[16]) {
@@ -255,25 +278,35 @@ static void take_part(const uint8_t *body, size_t size) {
     keep(last.file, body + 7, size - 7);
     last.length += (uint32_t)(size - 7), last.is_full = size - 7 == PIECE;
 }
-static void send_frame(const uint8_t *body, size_t size) {
-    uint8_t frame[MAX_FRAME] = {0};
-    memcpy(frame, body, size);
-    ssize_t n = send(card, frame, size < MIN_ON_WIRE ? MIN_ON_WIRE : size, 0);
-    ++*(n < 0 ? &counts.unsent : &counts.sent);
+/* Sends the frames that wait in held; one that can't be sent is left out. */
+static void send_frames(void) {
+    for (unsigned at = 0; at < outgoing.count;) {
+        long n = syscall(SYS_sendmmsg, card, outgoing.all + at, outgoing.count - at, 0); /* musl's own sends one by one */
+        if (n <= 0) counts.unsent++, at++;
+        else counts.sent += (unsigned)n, at += (unsigned)n;
+    }
+    outgoing.count = 0;
 }
-static void take(enum type type, const uint8_t *body, size_t size) {
+static void send_frame(uint8_t *body, size_t size) {
+    static uint8_t zeros[MIN_ON_WIRE];
+    struct iovec *parts = outgoing.parts[outgoing.count];
+    parts[0] = (struct iovec){body, size}, parts[1] = (struct iovec){zeros, size < MIN_ON_WIRE ? MIN_ON_WIRE - size : 0};
+    outgoing.all[outgoing.count++].msg_hdr = (struct msghdr){.msg_iov = parts, .msg_iovlen = 2};
+    if (outgoing.count == MOST_SENT) send_frames();
+}
+static void take(enum type type, uint8_t *body, size_t size) {
     if (type == STEP) step = get32(body);
     if (type == SENT) send_frame(body, size);
     see_output(type, body, size, device);
     if (type == PART) take_part(body, size);
     if (type == DONE) status = body[0];
 }
-/* Takes what the client wrote; false where it has left. */
-static bool take_output(void) {
+/* Takes what the client wrote, if anything: the number of bytes. */
+static size_t take_output(void) {
     ssize_t n = recv(client, held.bytes + held.size, sizeof held.bytes - held.size, MSG_DONTWAIT);
-    if (n < 0 && (errno == EAGAIN || errno == EINTR)) return true;
+    if (n < 0 && (errno == EAGAIN || errno == EINTR)) return 0;
     if (n <= 0 && held.size) refuse("it ends inside a record");
-    if (n <= 0) return false;
+    if (n <= 0) return has_left = true, 0;
     size_t at = 0, size = 0;
     held.size += (size_t)n;
     for (; held.size - at >= 5; at += 4 + size, held.passed += 4 + size) {
@@ -284,8 +317,9 @@ static bool take_output(void) {
         take((enum type)held.bytes[at + 4], held.bytes + at + 5, size - 1);
         keep(output, held.bytes + at, 4 + size);
     }
+    send_frames();
     memmove(held.bytes, held.bytes + at, held.size -= at);
-    return true;
+    return (size_t)n;
 }
 
 /* ---- the run ---- */
@@ -317,16 +351,20 @@ static void pass_time(void) {
     }
     if (wants_off) times.off = now, put(OFF, 0, 0);
 }
+/* Waits for a frame, for the client, or for the next TICK. */
+static void wait_for_more(void) {
+    short wanted = (short)(POLLIN | (waiting.to > waiting.from ? POLLOUT : 0));
+    struct pollfd ready[] = {{client, wanted, 0}, {card, POLLIN, 0}};
+    uint64_t passed = now_ms() - times.tick;
+    poll(ready, times.off ? 1 : 2, passed < TICK_MS ? (int)(TICK_MS - passed) : number != step ? 10 : 0);
+}
 static void play(void) {
     times.tick = now_ms();
-    while (status < 0 && !(times.off && now_ms() - times.off > OFF_MS)) {
-        struct pollfd ready[] = {{client, (short)(POLLIN | (waiting.size ? POLLOUT : 0)), 0}, {card, POLLIN, 0}};
-        uint64_t passed = now_ms() - times.tick;
-        poll(ready, times.off ? 1 : 2, passed < TICK_MS ? (int)(TICK_MS - passed) : number != step ? 10 : 0);
+    while (status < 0 && !has_left && !(times.off && now_ms() - times.off > OFF_MS)) {
         pass_time();
-        if (ready[1].revents && !times.off) take_frames();
-        if (ready[0].revents & POLLOUT) flush_waiting();
-        if (ready[0].revents & ~POLLOUT && !take_output()) return;
+        bool has_come = !times.off && take_frames();
+        flush_waiting();
+        if (!take_output() && !has_come) wait_for_more();
     }
 }
 static void switch_off(int signal) { wants_off = signal; }
