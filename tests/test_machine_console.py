@@ -22,7 +22,7 @@ from shared.wire import tftp_error, tftp_oack
 from tests import TOP, made, test_why
 from tests.case import Case
 
-SOURCES = (TOP / "tests/machine/sees.c", TOP / "tools/machine/console.c")
+SOURCES = (TOP / "tests/machine/sees.c", *(TOP / "tools/machine" / name for name in ("console.c", "sentences.c")))
 COMPILE = ("gcc", "-O1", "-g", "-Wall", "-Wextra", "-Wconversion", "-Werror", "-fsanitize=address,undefined",
            f"-I{TOP / 'tools/machine'}")
 MOST_LINES = 400

@@ -20,7 +20,7 @@ from shared.recordings import output_of
 from shared.records import Done
 from shared.seconds_table import OF_IPXE, Table
 from shared.servers import Leases, Tftp, dnsmasq
-from shared.web_server import web_server
+from shared.web_server import usual, web_server
 
 QEMU = "qemu-system-x86_64"
 NEEDS = (Need(QEMU, "qemu-system-x86"), Need("dnsmasq", "dnsmasq-base"), Need("ip", "iproute2"))
@@ -159,7 +159,7 @@ def status_of(output: Path) -> Status | None:
 def _served(folder: Path, filename: str) -> Iterator[Network]:
     """A network whose server has these files, and names one of them in its leases."""
     leases = Leases(SERVER + 99, SERVER + 149, MASK, filename)
-    with tap_network() as joined, dnsmasq(joined, Tftp(folder), leases), web_server(joined, folder):
+    with tap_network() as joined, dnsmasq(joined, Tftp(folder), leases), web_server(joined, folder, usual()):
         yield joined
 
 
