@@ -21,6 +21,7 @@ from shared.why import reasons
 from shared.wire import tftp_error, tftp_oack
 from tests import TOP, made, test_why
 from tests.case import Case
+from tests.web_rows import ROWS
 
 SOURCES = (TOP / "tests/machine/sees.c", *(TOP / "tools/machine" / name for name in ("console.c", "sentences.c")))
 COMPILE = ("gcc", "-O1", "-g", "-Wall", "-Wextra", "-Wconversion", "-Werror", "-fsanitize=address,undefined",
@@ -31,6 +32,12 @@ MODULES = tuple(f"tests.test_why{name}" for name in ("_opens", "_asking", "_name
 LEAST_RUNS = 40
 # a failure of an open that a server took part in, or was silent in
 OF_OPENS = re.compile(r"  failed: (?:Refused|TimedOut|Broken) \d+ \d+: (.*)")
+# and one of a response that passes a limit, or moves the file to where it can't be asked for
+OF_RESPONSES = re.compile(
+    r"  failed: (?:Refused \d+ \d+|TimedOut \d+ 0|Broken \d+ 0|TooMany [27] 0|TooLarge 1 0|TooLong 6 0): (.*)|"
+    r" has moved\n[^\n]*  failed: (?:NoScheme|BadUri|BadName|NoServer) 0 0: (.*)"
+)
+LEAST_RESPONSES = 30
 SPAN = re.compile(r" in [\d.]+ s\b")
 Run = tuple[bytes, bytes]
 
@@ -98,6 +105,19 @@ class Console(Case):
             is_said = any(all(part in wanted for part in parts_of(one, wanted)) for one in said)
             self.assertTrue(is_said, f"{said}\n{wanted}")
         self.assertGreaterEqual(compared, LEAST_RUNS)
+
+    def test_the_sentences_on_responses(self) -> None:
+        """The same on each row of a fetch by HTTP that fails."""
+        compared = 0
+        for name, row in ROWS.items():
+            inputs, outputs = made.spelled(row.inputs), made.spelled(row.outputs)
+            shown, wanted = self.shown(inputs, outputs), self.sentence(inputs, outputs)
+            said = [one or other for one, other in OF_RESPONSES.findall(shown)]
+            if said and wanted is not None:
+                compared += 1
+                is_said = any(all(part in wanted for part in parts_of(one, wanted)) for one in said)
+                self.assertTrue(is_said, f"{name}: {said}\n{wanted}")
+        self.assertGreaterEqual(compared, LEAST_RESPONSES)
 
     def test_size(self) -> None:
         for source in (TOP / "tools/machine").glob("*.[ch]"):

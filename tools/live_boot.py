@@ -31,8 +31,9 @@ from shared.web_server import usual, web_server
 SKIPPED = 77
 MOST_SECONDS = 600
 KERNEL_BYTES = 300_001
-FILE, SCRIPT, INITRD = "kernel", "boot.ipxe", "initrd.img"
-INITRD_BYTES = bytes(range(256)) * 9
+FILE, SCRIPT = "kernel", "boot.ipxe"
+MADE_INITRDS = (bytes(range(256)) * 9, b"the second initrd")
+WORDS = "console=ttyS0"
 ELF = b"\x7fELF"
 NUMBERS = ("key", "w", "uuid")
 BRIDGE = Path(__file__).with_name("bridge.py")
@@ -40,9 +41,10 @@ BRIDGE = Path(__file__).with_name("bridge.py")
 DESCRIPTION = """\
 Makes two network namespaces with a wire between them, starts dnsmasq as a server in one, and boots
 over the wire from the other, in several ways: from an address that is given; by a lease, which says
-what to boot from where; from a server whose name is looked up; and by a script that is fetched and
-boots a kernel with an initrd, by TFTP and by HTTP (from nginx, where it is there, or from Python's
-server). bridge.py leads the built program there, which runs a script for each. What it hands off is
+what to boot from where; from a server whose name is looked up; and by a script that is fetched and boots
+a kernel with two initrds and a command line, all by TFTP, all by HTTP (from nginx, where it is there,
+or from Python's server), and by a script that the lease names, which comes by TFTP, and the rest by
+HTTP. bridge.py leads the built program there, which runs a script for each. What it hands off is
 compared with what was served, and the run that was recorded is replayed and compared byte for byte.
 Then all of it is taken away.
 
@@ -53,7 +55,9 @@ didn't, and with 5 where Ctrl-C or SIGTERM switched a client's power off."""
 EPILOG = """\
 examples:
   tools/live_boot.py
-  tools/live_boot.py --kernel /bin/true --keep kept       (an ELF file, or a Linux kernel)"""
+  tools/live_boot.py --kernel /bin/true --keep kept       (an ELF file, or a Linux kernel)
+  tools/live_boot.py --kernel vmlinuz --initrd a.img --initrd b.img --words "console=ttyS0 quiet" --keep kept
+  tools/handoff.py kept/lease/boot.out --to started --run"""
 
 
 def parse(words: list[str]) -> argparse.Namespace:
@@ -63,6 +67,11 @@ def parse(words: list[str]) -> argparse.Namespace:
         formatter_class=argparse.RawDescriptionHelpFormatter,
     )
     parser.add_argument("--kernel", type=Path, help="the file to serve, in place of a made one")
+    parser.add_argument("--initrd", type=Path, action="append", metavar="FILE",
+                        help="an initrd beside it where a script is fetched, in place of the made ones")
+    parser.add_argument("--words", default=WORDS, help=f"the kernel's command line there (default {WORDS})")
+    parser.add_argument("--way", action="append", choices=WAYS, metavar="WAY",
+                        help=f"boot so, in place of in all ways: {', '.join(WAYS)}")
     parser.add_argument("--keep", type=Path, metavar="FOLDER", help="keep recordings and wire here")
     again = parser.add_argument_group("numbers of a run, given to bridge.py; it draws them else")
     for name in NUMBERS:
@@ -77,6 +86,27 @@ def say(line: str) -> None:
 def made_kernel() -> bytes:
     """A file that begins as an ELF file does, whose last block isn't full, the same each time."""
     return ELF + Random(0).randbytes(KERNEL_BYTES - len(ELF))
+
+
+@dataclass(frozen=True, slots=True)
+class Images:
+    """What is served: a kernel, and for the scripts that are fetched initrds and a command line."""
+
+    kernel: bytes
+    initrds: tuple[bytes, ...] = MADE_INITRDS
+    words: str = WORDS
+
+    def files(self) -> dict[str, bytes]:
+        return {FILE: self.kernel, **{initrd_name(number): one for number, one in enumerate(self.initrds)}}
+
+    def script(self, base: str) -> bytes:
+        """A script that boots them from there."""
+        lines = [f"kernel {base}{FILE} {self.words}", *(f"initrd {base}{initrd_name(k)}" for k in range(len(self.initrds)))]
+        return "\n".join(("#!ipxe", *lines, "boot", "")).encode()
+
+
+def initrd_name(number: int) -> str:
+    return f"initrd{number}.img"
 
 
 class SwitchedOff(Exception):
@@ -132,16 +162,18 @@ class Boot:
         return again.read_bytes()
 
 
-def compare_kernel(booted: Boot, served: bytes, initrd: bytes | None) -> None:
-    parts = booted.folder / "parts"
+def compare_parts(booted: Boot, images: Images, is_chained: bool) -> None:
+    parts, served = booted.folder / "parts", images.kernel
     write_parts(output_of(booted.output), parts)
     if (parts / "kernel").read_bytes() != served:
         raise Refused("the kernel that was handed off isn't the one that was served")
     say(f"the kernel is the one that was served: {len(served)} bytes, "
         f"sha256 {hashlib.sha256(served).hexdigest()}")
     initrds = [path.read_bytes() for path in sorted(parts.glob("initrd*"))]
-    if initrds != ([] if initrd is None else [initrd]):
+    if initrds != (list(images.initrds) if is_chained else []):
         raise Refused("what was handed off beside the kernel isn't what was served")
+    if is_chained and (parts / "command-line").read_text() != images.words:
+        raise Refused("another command line was handed off than the script gives")
 
 
 def compare_replay(booted: Boot) -> None:
@@ -152,22 +184,21 @@ def compare_replay(booted: Boot) -> None:
 
 @dataclass(frozen=True, slots=True)
 class Way:
-    """A way to boot: the script's commands, the client's address by START, the services beside TFTP, the script
-    that is chained, which has an initrd beside it, and whether a web server serves the files too."""
+    """A way to boot: the script's commands, the client's address by START, the services beside TFTP, from where the
+    script that is fetched has its files, and whether a web server serves them too."""
 
     commands: tuple[str, ...]
     ip: str | None = None
     services: tuple[Service, ...] = ()
-    chained: bytes | None = None
+    base: str | None = None
     is_web: bool = False
 
 
 NET = IPv4Network(f"{SERVER_ADDRESS}/{PREFIX}", strict=False)
 SERVER = IPv4Address(SERVER_ADDRESS)
 LEASES = Leases(SERVER + 99, SERVER + 149, NET.netmask, FILE)
+SCRIPT_LEASES = Leases(SERVER + 99, SERVER + 149, NET.netmask, SCRIPT)
 NAMES = Names("boot.test", SERVER)
-
-CHAINED = f"#!ipxe\nkernel {FILE} console=ttyS0\ninitrd {INITRD}\nboot\n".encode()
 
 # What is booted over.
 WAYS = {
@@ -184,19 +215,20 @@ WAYS = {
         None,
         (LEASES, NAMES),
     ),
-    "script": Way((f"chain tftp://{SERVER_ADDRESS}/{SCRIPT}",), f"{CLIENT_ADDRESS}/{PREFIX}", chained=CHAINED),
-    "HTTP": Way(
-        (f"chain http://{SERVER_ADDRESS}/{SCRIPT}",), f"{CLIENT_ADDRESS}/{PREFIX}", chained=CHAINED, is_web=True
+    "script": Way((f"chain tftp://{SERVER_ADDRESS}/{SCRIPT}",), f"{CLIENT_ADDRESS}/{PREFIX}", base=""),
+    "HTTP": Way((f"chain http://{SERVER_ADDRESS}/{SCRIPT}",), f"{CLIENT_ADDRESS}/{PREFIX}", base="", is_web=True),
+    "lease": Way(
+        ("dhcp", "chain tftp://${next-server}/${filename}"), None, (SCRIPT_LEASES,), "http://${next-server}/", True
     ),
 }
 
 
-def boot_by(name: str, joined: Network, folder: Path, kernel: bytes, numbers: list[str]) -> None:
-    """Boots a kernel in one of the ways, and compares what came of it."""
+def boot_by(name: str, joined: Network, folder: Path, images: Images, numbers: list[str]) -> None:
+    """Boots in one of the ways, and compares what came of it."""
     way, root = WAYS[name], folder / "tftp"
     root.mkdir()
     root.chmod(0o755)
-    served = {FILE: kernel} if way.chained is None else {FILE: kernel, SCRIPT: way.chained, INITRD: INITRD_BYTES}
+    served = {FILE: images.kernel} if way.base is None else {**images.files(), SCRIPT: images.script(way.base)}
     for file, content in served.items():
         with naming(root / file):
             (root / file).write_bytes(content)
@@ -208,19 +240,19 @@ def boot_by(name: str, joined: Network, folder: Path, kernel: bytes, numbers: li
         raise SwitchedOff
     if status != 0:
         raise Refused(f"the boot by {name} ended with status {status}: {boot.STATUSES.get(status)}")
-    compare_kernel(booted, kernel, served.get(INITRD))
+    compare_parts(booted, images, way.base is not None)
     compare_replay(booted)
 
 
-def boot_all(arguments: argparse.Namespace, kernel: bytes) -> int:
+def boot_all(arguments: argparse.Namespace, images: Images) -> int:
     given = ((name, getattr(arguments, name)) for name in NUMBERS)
     numbers = [f"--{name}={value}" for name, value in given if value is not None]
     with tempfile.TemporaryDirectory(prefix="netboot-") as name, network() as joined:
-        for way in WAYS:
+        for way in arguments.way or WAYS:
             folder = (arguments.keep or Path(name)) / way.lower()
             folder.mkdir(parents=True)
             try:
-                boot_by(way, joined, folder, kernel, numbers)
+                boot_by(way, joined, folder, images, numbers)
             except SwitchedOff:
                 say(f"booting by {way}: switched off")
                 return int(Status.UNFINISHED)
@@ -230,15 +262,17 @@ def boot_all(arguments: argparse.Namespace, kernel: bytes) -> int:
 
 def live_boot(words: list[str]) -> int:
     arguments = parse(words)
-    check_apart({"--keep": arguments.keep}, {"--kernel": arguments.kernel})
+    initrds = arguments.initrd or []
+    check_apart({"--keep": arguments.keep}, {"--kernel": arguments.kernel, **{f"--initrd {path}": path for path in initrds}})
     why = missing("dnsmasq") or not_runnable()
     if why:
         say(f"skipped: {why}")
         return SKIPPED
     kernel = arguments.kernel.read_bytes() if arguments.kernel else made_kernel()
+    images = Images(kernel, tuple(path.read_bytes() for path in initrds) or MADE_INITRDS, arguments.words)
     # compiled before there is a network, where it isn't built
     program()
-    return boot_all(arguments, kernel)
+    return boot_all(arguments, images)
 
 
 if __name__ == "__main__":
