@@ -23,6 +23,7 @@ from shared.program import not_runnable, program
 from shared.servers import Leases, Tftp, dnsmasq
 from shared.virtual_machine import MASK, SERVER
 from shared.virtual_machine import NEEDS as QEMU_NEEDS
+from shared.web_server import usual, web_server
 from tests.case import Case
 from tests.payload import HEAD, payload
 from tests.test_machine import Built
@@ -33,20 +34,30 @@ MOST_SECONDS = 600
 # as `try` has them, for a file that is built with its own
 MEDIA_WORDS = "console=ttyS0 quiet panic=5 netboot_fail=off no_timer_check"
 LEASES = Leases(SERVER + 99, SERVER + 149, MASK, "payload")
-SCRIPT = b"""\
+SCRIPT = """\
 #!ipxe
 dhcp
-imgfetch tftp://${next-server}/none || echo ${net0.dhcp/ip} goes on
-imgfetch tftp://${next-server}/first
-imgfetch tftp://${next-server}/second
-imgexec tftp://${next-server}/${filename}
+imgfetch {first}://${{next-server}}/none || echo ${{net0.dhcp/ip}} goes on
+imgfetch {first}://${{next-server}}/first
+imgfetch {second}://${{next-server}}/second
+imgexec {second}://${{next-server}}/${{filename}}
 """
+# what a server says of a file that isn't there
+NOT_FOUND = {
+    "tftp": " 1: 10.77.0.1 answered: file not found (none). To do: put the file there, or mend its name\n",
+    "http": " 404: 10.77.0.1 answered: 404 Not Found (http://10.77.0.1/none). To do: see the server's log\n",
+}
+WEB_SCRIPT = b"#!ipxe\ndhcp\nimgexec http://${next-server}/${filename}\n"
 WORDS = "console=ttyS0 said=here"
 # EFI for QEMU, of Debian's package ovmf
 FIRMWARE = Path("/usr/share/ovmf/OVMF.fd")
 # the same with Secure Boot, and its variables with Microsoft's keys
 SECURE, VARIABLES = Path("/usr/share/OVMF/OVMF_CODE_4M.secboot.fd"), Path("/usr/share/OVMF/OVMF_VARS_4M.ms.fd")
 FIRST, SECOND = b"the first initrd", bytes(range(256)) * 9
+
+
+def _run(*words: str) -> None:
+    subprocess.run(words, capture_output=True, check=True)
 
 
 def installed() -> str | None:
@@ -83,7 +94,13 @@ WHY_NOT_HERE = missing("dnsmasq") or missing_packages(NEEDS) or not_runnable()
 
 @unittest.skipIf(WHY_NOT_HERE, f"running a machine's files: {WHY_NOT_HERE}")
 class Running(Built):
-    def test_the_machines_files_without_a_machine(self) -> None:
+    def test_by_tftp_without_a_machine(self) -> None:
+        self.runs("boot.ipxe")
+
+    def test_by_http_without_a_machine(self) -> None:
+        self.runs("web.ipxe")
+
+    def runs(self, script: str) -> None:
         """Its bridge and its client, in its file system and with no other file, over a wire to a real server."""
         self.assertEqual(self.called(f"tools/machine.py build --to out --kernel machine --program {program()}").status, 0)
         self.unpack(gzip.decompress(self.get("out/initramfs")))
@@ -92,9 +109,13 @@ class Running(Built):
             folder.chmod(0o755)
         kernel = payload(self.folder)
         self.put("served/payload", kernel)
-        with network() as joined, dnsmasq(joined, Tftp(self.folder / "served"), LEASES):
+        self.put("in/etc/web.ipxe", WEB_SCRIPT)
+        served = self.folder / "served"
+        with network() as joined, dnsmasq(joined, Tftp(served), LEASES), web_server(joined, served, usual()):
+            # as init sets the card up: each packet comes on its own, also where the other end joins them
+            _run("ip", "-n", joined.server, "link", "set", "dev", joined.server_device, "gso_max_segs", "1")
             bridge = ["/bin/bridge", "-i", joined.client_device, "-d", "/run/parts", "-u", "65534", "-r", "/run/rec",
-                      "-o", "/run/out", "/etc/boot.ipxe", "/bin/netboot"]
+                      "-o", "/run/out", f"/etc/{script}", "/bin/netboot"]
             words = joined.in_client("chroot", str(self.folder / "in"), *bridge)
             done = subprocess.run(words, capture_output=True, text=True, check=False, timeout=MOST_SECONDS)
         self.assertEqual(done.returncode, 0, done.stdout + done.stderr)
@@ -105,8 +126,14 @@ class Running(Built):
 @unittest.skipIf(why_not(), f"booting an emulated machine: {why_not()}")
 class Booting(Case):
     def test_by_tftp(self) -> None:
+        self.boots_by("tftp")
+
+    def test_by_http(self) -> None:
+        self.boots_by("http")
+
+    def boots_by(self, scheme: str) -> None:
         """The kernel that is started says its own sum, its initrd's and its command line; the run replays."""
-        kernel = self.prepare("build --to machine")
+        kernel = self.prepare("build --to machine", by=(scheme, scheme))
         begun = time.monotonic()
         printed = self.works_as_process(
             f"try machine --serve served --file payload --script s.ipxe --emulate --seconds {MOST_SECONDS} "
@@ -117,8 +144,8 @@ class Booting(Case):
             "init: cards: eth7 eth0",
             "card: eth7: No such device\n",
             "eth0: the address is 10.77.0.",
-            " 1: 10.77.0.1 answered: file not found (none). To do: put the file there, or mend its name\n",
-            "  tftp://10.77.0.1/payload... ok, ",
+            NOT_FOUND[scheme],
+            f"  {scheme}://10.77.0.1/payload... ok, {len(kernel)} bytes, ",
             " goes on\n",
             f"payload: command line {WORDS}\n",
         ):
@@ -127,8 +154,9 @@ class Booting(Case):
 
     @unittest.skipIf(no_media(), f"booting from an ISO and an EFI file: {no_media()}")
     def test_from_a_cd_and_by_efi(self) -> None:
-        """The same from the ISO, by BIOS and by EFI, and from the EFI file, each with the script that it was built with."""
-        kernel = self.prepare("build --to machine --iso --efi --script s.ipxe --words", MEDIA_WORDS)
+        """The same from the ISO, by BIOS and by EFI, and from the EFI file, each with the script that it was built with:
+        a file by TFTP, and the others by HTTP."""
+        kernel = self.prepare("build --to machine --iso --efi --script s.ipxe --words", MEDIA_WORDS, by=("tftp", "http"))
         for start in ("iso", f"iso --firmware {FIRMWARE}", f"efi --firmware {FIRMWARE}"):
             with self.subTest(start):
                 printed = self.works_as_process(
@@ -167,11 +195,11 @@ class Booting(Case):
             subprocess.run(["mcopy", "-i", "stick", f"::{name}", to], cwd=self.folder, check=True)
         self.is_replayed(Status.SCRIPT_FAILED)
 
-    def prepare(self, build: str, *more: str) -> bytes:
-        """What is served, the script, and the machine; the kernel that is to be started."""
+    def prepare(self, build: str, *more: str, by: tuple[str, str] = ("tftp", "tftp")) -> bytes:
+        """What is served, the script by these schemes, and the machine; the kernel that is to be started."""
         kernel = payload(self.folder)
         self.serve(payload=kernel, first=FIRST, second=SECOND)
-        self.put("s.ipxe", SCRIPT)
+        self.put("s.ipxe", SCRIPT.format(first=by[0], second=by[1]).encode())
         self.works_as_process(build, *more, *(kernel_words() or ()))
         return kernel
 

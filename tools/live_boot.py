@@ -249,7 +249,7 @@ def boot_all(arguments: argparse.Namespace, images: Images) -> int:
     numbers = [f"--{name}={value}" for name, value in given if value is not None]
     with tempfile.TemporaryDirectory(prefix="netboot-") as name, network() as joined:
         for way in arguments.way or WAYS:
-            folder = (arguments.keep or Path(name)) / way.lower()
+            folder = (arguments.keep or Path(name)).resolve() / way.lower()
             folder.mkdir(parents=True)
             try:
                 boot_by(way, joined, folder, images, numbers)
