@@ -35,7 +35,7 @@
 
 enum { TICK_MS = 50, AHEAD_MS = 200, MOST_AHEAD = 5, MOST_TICK = 60000, CLIENT_MS = 30000, OFF_MS = 800,
        FAILED = 100, USAGE = 2, UNFINISHED = 5, EVERY = 0x0003, ETHERNET = 1, MOST_WAITING = 4 << 20,
-       START_BYTES = 75, MIN_ON_WIRE = 60, AT_ONCE = 1 << 16, MOST_SENT = 64 };
+       START_BYTES = 75, MIN_ON_WIRE = 60, AT_ONCE = 1 << 16, MOST_SENT = 8 };
 /* The card's frames come into a ring of these slots, which the system shares with this program (packet(7)). */
 enum { SLOT = 2048, SLOTS = 2048, RING_BLOCK = 1 << 16,
        SLOT_HEAD = (sizeof(struct tpacket2_hdr) + TPACKET_ALIGNMENT - 1) / TPACKET_ALIGNMENT * TPACKET_ALIGNMENT };
@@ -278,7 +278,8 @@ static void take_part(const uint8_t *body, size_t size) {
     keep(last.file, body + 7, size - 7);
     last.length += (uint32_t)(size - 7), last.is_full = size - 7 == PIECE;
 }
-/* Sends the frames that wait in held; one that can't be sent is left out. */
+/* Sends the frames that wait in held; one that can't be sent is left out. What comes meanwhile is passed on at once, so
+ * that the client works on it while more is sent. */
 static void send_frames(void) {
     for (unsigned at = 0; at < outgoing.count;) {
         long n = syscall(SYS_sendmmsg, card, outgoing.all + at, outgoing.count - at, 0); /* musl's own sends one by one */
@@ -286,6 +287,7 @@ static void send_frames(void) {
         else counts.sent += (unsigned)n, at += (unsigned)n;
     }
     outgoing.count = 0;
+    if (!times.off && take_frames()) flush_waiting();
 }
 static void send_frame(uint8_t *body, size_t size) {
     static uint8_t zeros[MIN_ON_WIRE];
