@@ -11,6 +11,8 @@ import tempfile
 import time
 from contextlib import contextmanager
 from dataclasses import dataclass, field
+from functools import partial
+from ipaddress import IPv4Network
 from pathlib import Path
 from random import Random
 from typing import Callable, Iterator
@@ -26,23 +28,26 @@ from shared.program import not_runnable, program  # noqa: E402
 from shared.web_server import usual, web_server  # noqa: E402
 
 SKIPPED = 77
-PRIORITY = -20
-# where a system gives each session the same share, a session's own priority counts (sched(7))
-AUTOGROUP = Path("/proc/self/autogroup")
+PRIORITY = 10
 MEGABYTE = 1_000_000
 MEMORY = Path("/dev/shm")
 WEB_NEEDS = (*NEEDS, Need("curl", "curl"), Need("ip", "iproute2"))
 ELF = b"\x7fELF"
-URI = f"http://{SERVER_ADDRESS}/image"
+# the file, and one of which the time is what a fetch takes in any case
+IMAGE, SMALL, SMALL_BYTES = "image", "small", 1_000
 ADDRESS = f"ifopen\nset net0/ip {CLIENT_ADDRESS}\nset net0/netmask 255.255.255.0\n"
-# what the client does: it only fetches, as curl does, or it also hands what it fetched off, which the bridge keeps
-WAYS = {"fetches": ("imgfetch", Status.ENDED), "fetches and hands off": ("imgexec", Status.HANDED_OFF)}
+FETCHES, BOOTS = ("imgfetch", Status.ENDED), ("imgexec", Status.HANDED_OFF)
+# Linux's usual one, whatever this machine's is
+CONGESTION = "cubic"
+AVAILABLE = Path("/proc/sys/net/ipv4/tcp_available_congestion_control")
 
 DESCRIPTION = """\
 Measures how long a file takes by HTTP between two network namespaces, from nginx where it is there: by the
 client over the bridge in C, as in a machine without a disk, and by curl. Each packet is one of the wire's, of
-1,500 bytes at most, as the client takes them. The seconds are those from a process's start to its end, the
-best of several, in turn. It needs root, iproute2, curl, gcc and the built program."""
+1,500 bytes at most, as the client takes them, and the server's congestion control is Linux's usual one. The
+seconds are those from a process's start to its end, the best of several, in turn; a small file's are those
+that a fetch takes in any case. The client fetches only, as curl does, or also hands off what it fetched, which
+the bridge keeps. It needs root, iproute2, curl, gcc and the built program."""
 
 
 @dataclass(slots=True)
@@ -75,25 +80,26 @@ class Wire:
     def __post_init__(self) -> None:
         self.bridge, card = (_compiled(name, self.folder) for name in ("bridge", "card"))
         _check(self.network.in_client(str(card), "up", self.network.client_device))
-        for name, (command, _) in WAYS.items():
-            (self.folder / f"{name}.ipxe").write_text(f"#!ipxe\n{ADDRESS}{command} {URI}\n")
 
-    def by_client(self, name: str) -> None:
-        parts = self.folder / "parts"
-        words = [str(self.bridge), "-i", self.network.client_device, "-d", str(parts), f"{self.folder / name}.ipxe"]
-        _check(self.network.in_client(*words, str(self.client)), WAYS[name][1])
+    def by_client(self, way: tuple[str, Status], name: str) -> None:
+        command, status = way
+        parts, script = self.folder / "parts", self.folder / "boot.ipxe"
+        script.write_text(f"#!ipxe\n{ADDRESS}{command} {_uri(name)}\n")
+        words = [str(self.bridge), "-i", self.network.client_device, "-d", str(parts), str(script)]
+        _check(self.network.in_client(*words, str(self.client)), status)
         kernel = parts / "kernel"
         if kernel.exists() and kernel.read_bytes() != self.image:
             raise Refused("what was handed off isn't what was served")
         for path in parts.iterdir():
             path.unlink()
 
-    def by_curl(self) -> None:
-        _check(self.network.in_client("curl", "--silent", "--fail", "--output", str(self.folder / "fetched"), URI))
+    def by_curl(self, name: str) -> None:
+        """While curl runs the system has the address that the client has else."""
+        to = str(self.folder / "fetched")
+        _check(self.network.in_client("curl", "--silent", "--fail", "--output", to, _uri(name)))
 
     @contextmanager
     def with_address(self) -> Iterator[None]:
-        """While curl runs the system has the address that the client has else."""
         words = ["ip", "-n", self.network.client, "address", "VERB", f"{CLIENT_ADDRESS}/{PREFIX}", "dev",
                  self.network.client_device]
         _check(["add" if word == "VERB" else word for word in words])
@@ -101,6 +107,10 @@ class Wire:
             yield
         finally:
             _check(["del" if word == "VERB" else word for word in words])
+
+
+def _uri(name: str) -> str:
+    return f"http://{SERVER_ADDRESS}/{name}"
 
 
 def _children() -> float:
@@ -131,37 +141,44 @@ def parse(words: list[str]) -> argparse.Namespace:
 
 
 def go_first() -> None:
-    """All that is measured goes before other work on the machine."""
-    os.setpriority(os.PRIO_PROCESS, 0, PRIORITY)
-    if AUTOGROUP.exists():
-        AUTOGROUP.write_text(str(PRIORITY))
+    """All that is measured goes before other work on the machine (sched(7)), as where there is none."""
+    os.sched_setscheduler(0, os.SCHED_FIFO, os.sched_param(PRIORITY))
 
 
 def make_wire(joined: Network, mbits: int | None) -> None:
     """No packet is longer than a wire's; and a rate, where one is wanted."""
     device = ["dev", joined.server_device]
     _check(["ip", "-n", joined.server, "link", "set", *device, "gso_max_segs", "1"])
+    if CONGESTION in AVAILABLE.read_text().split():
+        route = [str(IPv4Network(f"{SERVER_ADDRESS}/{PREFIX}", strict=False)), *device, "proto", "kernel", "scope", "link"]
+        _check(["ip", "-n", joined.server, "route", "change", *route, "src", SERVER_ADDRESS, "congctl", CONGESTION])
     if mbits:
         shaped = ["tbf", "rate", f"{mbits}mbit", "burst", "32kb", "latency", "100ms"]
         _check(["tc", "-n", joined.server, "qdisc", "add", *device, "root", *shaped])
 
 
 def measure(wire: Wire, times: int) -> list[Runner]:
-    """curl first; each in turn, so that what else the machine does comes to all of them."""
-    curl = Runner("curl", wire.by_curl)
-    ours = [Runner(f"the client {name}", lambda name=name: wire.by_client(name)) for name in WAYS]  # type: ignore[misc]
+    """Each in turn, so that what else the machine does comes to all of them; curl's first."""
+    curl = [Runner(f"curl, {name}", partial(wire.by_curl, name)) for name in (SMALL, IMAGE)]
+    ours = [Runner(f"the client, {name}", partial(wire.by_client, FETCHES, name)) for name in (SMALL, IMAGE)]
+    ours.append(Runner(f"the client, {IMAGE}, handed off", partial(wire.by_client, BOOTS, IMAGE)))
     for _ in range(times):
         with wire.with_address():
-            curl.measure()
+            for one in curl:
+                one.measure()
         for one in ours:
             one.measure()
-    return [curl, *ours]
+    return [*curl, *ours]
 
 
 def report(runners: list[Runner], size: int) -> None:
+    small, image, our_small, ours, handed_off = runners
     for one in runners:
-        print(f"{one.name:34} {one.best:7.3f} s {size / one.best / MEGABYTE:8.1f} MB/s "
-              f"{one.best / runners[0].best:6.2f} times curl's; processor {one.processor:6.3f} s")
+        print(f"{one.name:30} {one.best:7.3f} s, processor {one.processor:6.3f} s")
+    for one, before, beside in ((image, small, image), (ours, our_small, image), (handed_off, our_small, image)):
+        more = one.best - before.best
+        print(f"{one.name:30} {one.best / beside.best:6.2f} times curl's, {size / one.best / MEGABYTE:7.1f} MB/s; "
+              f"over the small file {more / (image.best - small.best):6.2f} times, {size / more / MEGABYTE:7.1f} MB/s")
 
 
 def beside_curl(words: list[str]) -> int:
@@ -177,7 +194,8 @@ def beside_curl(words: list[str]) -> int:
     with tempfile.TemporaryDirectory(prefix="netboot-", dir=base) as name, network() as joined:
         folder = Path(name)
         (folder / "served").mkdir()
-        (folder / "served" / "image").write_bytes(image)
+        (folder / "served" / IMAGE).write_bytes(image)
+        (folder / "served" / SMALL).write_bytes(image[:SMALL_BYTES])
         make_wire(joined, arguments.mbits)
         wire = Wire(joined, folder, image, client)
         with web_server(joined, folder / "served", usual()):
