@@ -21,6 +21,8 @@ from shared.why import reasons
 from shared.wire import tftp_error, tftp_oack
 from tests import TOP, made, test_why
 from tests.case import Case
+from tests.web_fetches import LENGTH, WIRE
+from tests.web_records import ACK, FIN, SYN
 from tests.web_rows import ROWS
 
 SOURCES = (TOP / "tests/machine/sees.c", *(TOP / "tools/machine" / name for name in ("console.c", "sentences.c")))
@@ -158,6 +160,29 @@ class Console(Case):
                    Ended(0, cause), Result(cause), Done(Status.SCRIPT_FAILED)]
         shown = self.shown(made.spelled([made.start(b"#!ipxe\n"), *inputs]), made.spelled(outputs))
         self.assertIn("failed: Refused 2 0: 10.0.0.1 answered: ", shown)
+
+    def test_a_transfer_by_http(self) -> None:
+        """A file that has moved has a line for each place; at the last one stands what came."""
+        row = ROWS["moved"]
+        shown = self.shown(made.spelled(row.inputs), made.spelled(row.outputs)).split("\n")
+        lines = [line.rpartition("\r")[2].partition("] ")[2] for line in shown]
+        self.assertIn("  http://10.0.0.1/a... has moved", lines)
+        self.assertTrue(any(re.match(r"  http://10\.0\.0\.1/b\.\.\. ok, \d+ bytes, \d+ kB/s$", line) for line in lines), lines)
+
+    def test_hostile_responses(self) -> None:
+        """Heads of any bytes, in any pieces, and each cut of their frames: they steer nothing, and a size is a number."""
+        sizes = (b"-1", b"9" * 40, b"", b" 7", b"\x009", b"4294967296", b"\x1b[2J")
+        heads = [*(b"HTTP/1.1 200 OK\nContent-Length:" + size + b"\n\n" for size in sizes), b"\n\n", b"\n\r\n", b"H" * 1_400,
+                 bytes(range(256)) * 5]
+        pieces = [WIRE.brings(place, head[:300], flags, LENGTH) for head in heads for place in (0, 1, 299, 2**31, 2**32 - 1)
+                  for flags in (ACK, FIN | ACK, SYN)]
+        inputs = [WIRE.answers(), *pieces, *[Received(pieces[0].frame[:size]) for size in range(14, 60)]]
+        steps = [Step(number) for number in range(2, len(inputs) + 2)]
+        opened = [one for step in steps for one in (step, *([WIRE.opened] if step.number % 3 == 0 else []))]
+        cause = Cause(Code.BROKEN, 9)
+        outputs = [Step(1), made.command(b"imgfetch x"), WIRE.opened, *opened, Ended(0, cause), Result(cause),
+                   Done(Status.SCRIPT_FAILED)]
+        self.assertIn("failed: Broken 9 0: 10.0.0.1 ", self.shown(made.spelled([made.start(b"#!ipxe\n"), *inputs]), made.spelled(outputs)))
 
     def test_each_cause_has_its_name(self) -> None:
         results = b"".join(b"\0\0\0\x0a\x85" + bytes([code]) + bytes(8) for code in [*Code, 22, 255])

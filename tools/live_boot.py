@@ -56,8 +56,7 @@ EPILOG = """\
 examples:
   tools/live_boot.py
   tools/live_boot.py --kernel /bin/true --keep kept       (an ELF file, or a Linux kernel)
-  tools/live_boot.py --kernel vmlinuz --initrd a.img --initrd b.img --words "console=ttyS0 quiet" --keep kept
-  tools/handoff.py kept/lease/boot.out --to started --run"""
+  tools/live_boot.py --kernel vmlinuz --initrd a.img --initrd b.img --words "console=ttyS0 quiet" --keep kept"""
 
 
 def parse(words: list[str]) -> argparse.Namespace:

@@ -121,13 +121,10 @@ static void read_head(void) {
     if (sscanf(head, "HTTP/%*u.%*u %3u", &current.response) != 1) current.response = 0;
     if (size <= UINT32_MAX && !strcasestr(head, "\ntransfer-encoding:")) current.size = (uint32_t)size;
 }
-/* What of the response's head comes in order, until it is whole. */
+/* The response's beginning, in whatever order it comes; ADVANCE says how much of it is there without a gap. */
 static void note_response(uint32_t at, const uint8_t *bytes, size_t size) {
-    size_t known = current.came - at, room = MOST_HEAD - current.came;
-    if (current.body || at > current.came || known >= size) return;
-    size_t more = size - known < room ? size - known : room;
-    memcpy(current.head + current.came, bytes + known, more), current.came += more;
-    read_head();
+    if (current.body || at >= MOST_HEAD) return;
+    memcpy(current.head + at, bytes, size < MOST_HEAD - at ? size : MOST_HEAD - at);
 }
 static void note_segment(uint32_t number, const uint8_t *f, size_t size) {
     size_t length = 0, head = 0;
@@ -208,6 +205,8 @@ static void advance(const uint8_t *body) {
     uint64_t now = now_ms(), passed = now - current.when;
     if (get16(body) != current.number) return;
     current.place = get32(body + 2);
+    if (current.kind == HTTP && !current.body)
+        current.came = current.place < MOST_HEAD ? current.place : MOST_HEAD, read_head();
     if (passed < REPORT_MS || !current.lives) return;
     uint64_t bytes = bytes_now(), speed = rate(bytes - current.bytes, passed);
     begin_again();

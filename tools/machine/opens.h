@@ -18,8 +18,8 @@ extern struct open_seen {
     uint32_t place, size;            /* the last ADVANCE's; what the server says, or 0 */
     uint32_t ended;                  /* the run's time at ENDED, in ms */
     uint64_t begun, when, bytes;     /* the beginning and the last report, by the machine's clock */
-    /* Of HTTP: the number of the stream's first byte, the record of the server's end, the response's status, its head as
-     * far as it has come, and where its body begins, or 0. */
+    /* Of HTTP: the number of the stream's first byte, the record of the server's end, the response's status, what has come
+     * of its head, and where its body begins, or 0. */
     uint32_t sequence, last_segment;
     unsigned response;
     size_t came, body;
