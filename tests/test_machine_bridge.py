@@ -258,6 +258,14 @@ class MachineBridge(Spaced):
             ticks = sum(isinstance(timed.record, Tick) for timed in read_input(stream))
         self.assertLessEqual(ticks, 7)
 
+    def test_a_card_that_goes_down(self) -> None:
+        with self.begun(self.line(spelled(Step(1)))) as process:
+            self.line_with(process, "this run", is_error=False)
+            self.ip("link set near down", is_inside=True)
+            printed, said = process.communicate(timeout=MOST_SECONDS)
+        self.assertEqual((process.returncode, said), (FAILED, ""), printed)
+        self.assertIn("bridge: near: Network is down", printed)
+
     def hardware(self, name: str) -> bytes:
         printed = self.ip(f"-o link show {name}", is_inside=True)
         return bytes.fromhex(printed.split("link/ether ")[1].split()[0].replace(":", ""))

@@ -47,7 +47,7 @@ static const uint32_t SIZES[][2] = {{4, 4}, {MIN_FRAME, MAX_FRAME}, {0, 4160}, {
 static struct file { const char *path; FILE *stream; char *room; } record, output;
 static const char *device = "eth0", *folder = "/run/netboot", *script, *program;
 static struct { unsigned received, sent, lost, unsent, joined; } counts;
-static struct { uint8_t bytes[MOST_WAITING + MOST_RECORD + 4]; size_t from, to; } waiting; /* for the client */
+static struct { uint8_t bytes[2 * MOST_WAITING + MOST_RECORD + 4]; size_t from, to; } waiting; /* for the client */
 static struct { uint8_t bytes[4 * MOST_RECORD]; size_t size; uint64_t passed; } held; /* of the client */
 static struct { struct mmsghdr all[MOST_SENT]; struct iovec parts[MOST_SENT][2]; unsigned count; } outgoing; /* frames in held */
 static struct { uint8_t *slots; unsigned next; } ring;
@@ -170,7 +170,7 @@ static void flush_waiting(void) {
 }
 /* There is room: frames end at MOST_WAITING, and TICKs at MOST_AHEAD. */
 static void put(enum type type, const uint8_t *body, size_t size) {
-    if (waiting.to > MOST_WAITING)
+    if (waiting.to > 2 * MOST_WAITING)
         memmove(waiting.bytes, waiting.bytes + waiting.from, waiting.to - waiting.from), waiting.to -= waiting.from, waiting.from = 0;
     uint8_t *at = waiting.bytes + waiting.to;
     put32(at, (uint32_t)size + 1), at[4] = (uint8_t)type;
@@ -359,6 +359,10 @@ static void wait_for_more(void) {
     struct pollfd ready[] = {{client, wanted, 0}, {card, POLLIN, 0}};
     uint64_t passed = now_ms() - times.tick;
     poll(ready, times.off ? 1 : 2, passed < TICK_MS ? (int)(TICK_MS - passed) : number != step ? 10 : 0);
+    int error = 0;
+    socklen_t size = sizeof error;
+    bool is_wrong = ready[1].revents & POLLERR && !getsockopt(card, SOL_SOCKET, SO_ERROR, &error, &size);
+    if (is_wrong && error) errno = error, fail(device);
 }
 static void play(void) {
     times.tick = now_ms();
@@ -381,6 +385,9 @@ int main(int count, char **words) {
     sigaction(SIGINT, &off, 0), sigaction(SIGTERM, &off, 0);
     if (mkdir(folder, 0700) && errno != EEXIST) fail(folder);
     open_card(), run_client(), start(), play();
+    struct tpacket_stats seen = {0};
+    socklen_t size = sizeof seen;
+    if (!getsockopt(card, SOL_PACKET, PACKET_STATISTICS, &seen, &size)) counts.lost += seen.tp_drops;
     say("bridge: %u frames received, %u sent, %u not; %u came too fast, %u were joined to over %d bytes and left out",
         counts.received, counts.sent, counts.unsent, counts.lost, counts.joined, MAX_FRAME);
     if (status < 0) say("bridge: the client %s", times.off ? "didn't end, and is ended" : "left before DONE");
