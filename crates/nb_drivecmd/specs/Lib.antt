@@ -1,0 +1,10 @@
+pub mod DiskNames
+pub mod DriveCommandNames
+pub mod DriveEffect
+pub mod DriveFailures
+pub mod DriveNumbers
+pub mod DriveOptions
+pub mod DriveOptionWords
+pub mod DriveReading
+pub mod HookedDrives
+pub mod Slots
