@@ -1,26 +1,7 @@
--- own, after ipxe.org's drives: those that are hooked, by rising number, and what a boot table says of each
-use Rattle.std.specs.Prelude.{◌≡◌, ℕ, ◌<◌, ◌==◌, nat_lt, Bool, not, List, [], ◌∷◌, ◌++◌, Option, Some, None, filter, find, is_some, if◌then◌else◌}
+-- own, after ipxe.org's drives: those that are hooked, by rising number
+use Rattle.std.specs.Prelude.{◌≡◌, ℕ, ◌<◌, ◌==◌, nat_lt, Bool, not, List, [], ◌∷◌, ◌++◌, Option, Some, None, filter, find, is_some}
 use Rattle.std.specs.List.{AllPairs}
-use Rattle.nb_ibft.specs.declared.info.BootTarget.{BootTarget}
-use Rattle.nb_login.specs.declared.info.LoginInfo.{LoginInfo}
 use Rattle.nb_drivecmd.specs.declared.drive.Drive.{Drive}
-use Rattle.nb_drivecmd.specs.declared.drive.HookAnswer.{HookAnswer}
-
--- a name and its secret, where the login used them
-abbrev pub used : Bool → List ℕ → List ℕ
-used is_used text = if is_used then text else []
-
--- our name and secret are known where CHAP was used at all, the target's where it was used both ways
-abbrev pub boot_target_of : HookAnswer → LoginInfo → BootTarget
-boot_target_of found login =
-    record { address = found.server; port = found.port; lun = login.lun; chap = found.chap; name = login.target;
-    user = used (not (found.chap == 0)) login.user; secret = used (not (found.chap == 0)) login.secret;
-    reverse_user = used (found.chap == 2) login.reverse_user; reverse_secret = used (found.chap == 2) login.reverse_secret }
-
--- a drive of this number that was hooked by a login
-abbrev pub hooked_drive : ℕ → Bool → HookAnswer → LoginInfo → Drive
-hooked_drive number described found login =
-    record { number = number; described = described; open = found.open; initiator = login.initiator; target = boot_target_of found login }
 
 abbrev pub is_drive : ℕ → Drive → Bool
 is_drive number drive = drive.number == number

@@ -7,12 +7,11 @@ ghost use Rattle.nb_drivecmd.specs.declared.error.DriveFailure.TheVariants as fa
 
 use crate::{Drive, DriveFailure};
 use std::marker::Model;
-use std::mem;
 
 /// The most drives that are hooked.
 pub const MAX_DRIVES: usize = 2;
 
-#[derive(Drop)]
+#[derive(Clone, Copy, Drop)]
 enum Slots {
     Neither,
     One(Drive),
@@ -100,7 +99,7 @@ impl Drives {
         requires { length self.old < 2 }
         ensures { self.new ≡ with_hooked drive self.old }
     {
-        self.slots = match mem::replace(&mut self.slots, Slots::Neither) {
+        self.slots = match self.slots {
             Slots::Neither => Slots::One(drive),
             Slots::One(other) => beside(other, drive),
             slots => slots,
@@ -111,7 +110,7 @@ impl Drives {
     pub fn unhook(&mut self, number: u8)
         ensures { self.new ≡ without_drive number self.old }
     {
-        self.slots = match mem::replace(&mut self.slots, Slots::Neither) {
+        self.slots = match self.slots {
             Slots::One(drive) if drive.number == number => Slots::Neither,
             Slots::Two(one, other) if one.number == number => Slots::One(other),
             Slots::Two(one, other) if other.number == number => Slots::One(one),
@@ -123,7 +122,7 @@ impl Drives {
     pub fn end_open(&mut self, open: u16)
         ensures { self.new ≡ without_open open self.old }
     {
-        self.slots = match mem::replace(&mut self.slots, Slots::Neither) {
+        self.slots = match self.slots {
             Slots::Neither => Slots::Neither,
             Slots::One(drive) => alone(drive, open),
             Slots::Two(one, other) if one.open == open => alone(other, open),

@@ -1,8 +1,8 @@
 // The drive commands of a script, after ipxe.org's references: `read_command` reads the words of one, which are
 // expanded already, and `carry_out` says what it comes to: a disk of an iSCSI target that is to be hooked as a drive
-// (`Hooking`), a hooked drive that is to be booted, or one that is to be closed. `Drives` are those that are hooked,
-// with what a boot table says of each. Here are sanhook, sanboot and sanunhook. Left out are the sessions with the
-// targets, and who closes a drive. Begin with `DriveCommand`, `DriveOutcome` and `Drives`.
+// (`Hooking`), a hooked drive that is to be booted, or one that is to be closed. `Drives` are those that are hooked.
+// Here are sanhook, sanboot and sanunhook. Left out are the sessions with the targets, what a boot table says of a
+// drive, and who closes one. Begin with `DriveCommand`, `DriveOutcome` and `Drives`.
 #![tactic(auto)]
 
 mod carrying_out;
@@ -21,7 +21,7 @@ mod reading;
 pub use carrying_out::carry_out;
 pub use commands::DriveCommand;
 pub use disk_names::NamedDisk;
-pub use drive::{Drive, HookAnswer};
+pub use drive::Drive;
 pub use drives::{Drives, MAX_DRIVES};
 pub use error::{DriveFailure, DriveRefusal};
 pub use laws::{

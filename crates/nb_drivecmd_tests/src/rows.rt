@@ -2,13 +2,12 @@
 //! `tftp://10.0.0.1/x/boot.ipxe`.
 
 use nb_drivecmd::{
-    AfterHook, Drive, DriveCommand, DriveOutcome, DriveRefusal, Drives, HookAnswer, Hooking,
-    carry_out, read_command,
+    AfterHook, Drive, DriveCommand, DriveOutcome, DriveRefusal, Drives, Hooking, carry_out,
+    read_command,
 };
 use nb_imagecmd::PlanError;
-use nb_login::LoginInfo;
 use nb_settings::Table;
-use nb_wire::{Ip4, Text, Word};
+use nb_wire::Word;
 use std::alloc::Global;
 use std::test::Fail;
 
@@ -86,29 +85,11 @@ fn words(alloc: Global, line: &str) -> Result<Vec<Word>, Fail> {
     Ok(words)
 }
 
-fn copy(alloc: Global, text: &[u8]) -> Result<Text, Fail> {
-    Ok(Text::from_vec(Vec::from_slice(alloc, text)?))
-}
-
 fn put(text: &mut Vec<u8>, parts: &[&[u8]]) -> Result<(), Fail> {
     for part in parts {
         text.extend_from_slice(part)?;
     }
     Ok(())
-}
-
-/// The login at a disk, without CHAP.
-fn login(alloc: Global, hooking: &Hooking) -> Result<LoginInfo, Fail> {
-    Ok(LoginInfo {
-        initiator: copy(alloc, b"iqn.i")?,
-        target: copy(alloc, hooking.disk.name.as_slice())?,
-        lun: hooking.disk.lun,
-        user: copy(alloc, b"u")?,
-        secret: copy(alloc, b"p")?,
-        reverse_user: Text::from_vec(Vec::new(alloc)),
-        reverse_secret: Text::from_vec(Vec::new(alloc)),
-        words: [0; 8],
-    })
 }
 
 /// What is asked for, and the drive, which is hooked where there is room.
@@ -131,14 +112,12 @@ fn put_hooked(
         let shown = format!(in alloc; " fails {} {}", cause.code, cause.a)?;
         return put(text, &[shown.as_bytes()]);
     }
-    let found = HookAnswer {
-        open: u16::from(hooking.number),
-        server: Ip4(0x0a00_0001),
-        port: hooking.disk.port,
-        chap: 0,
-    };
     if drives.len() < 2 {
-        drives.hook(Drive::hooked(alloc, hooking.number, hooking.described, found, login(alloc, hooking)?));
+        drives.hook(Drive {
+            number: hooking.number,
+            described: hooking.described,
+            open: 0,
+        });
     }
     match hooking.after {
         AfterHook::Keep => Ok(()),

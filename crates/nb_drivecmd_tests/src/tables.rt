@@ -1,10 +1,7 @@
-//! Settings that say which drive is meant, what a boot table says of a drive, and the list of drives.
+//! Settings that say which drive is meant, and the list of drives.
 
-use nb_drivecmd::{Drive, Drives, FIRST_DRIVE, HookAnswer, MAX_DRIVES, chosen_drive};
-use nb_login::LoginInfo;
+use nb_drivecmd::{Drive, Drives, FIRST_DRIVE, MAX_DRIVES, chosen_drive};
 use nb_settings::{Key, Kind, Table};
-use nb_wire::{Ip4, Text};
-use std::alloc::Global;
 use std::test::Fail;
 
 /// The setting `san-drive` of a kind with these bytes, and the drive that is meant: what it prints is read as a number.
@@ -40,62 +37,18 @@ fn drives_by_setting(rt: HostRuntime) -> Result<(), Fail> {
     Ok(())
 }
 
-fn copy(alloc: Global, text: &[u8]) -> Result<Text, Fail> {
-    Ok(Text::from_vec(Vec::from_slice(alloc, text)?))
-}
-
-/// A drive of this number, hooked by an open of the same number and by this kind of CHAP.
-fn drive(alloc: Global, number: u8, chap: u8) -> Result<Drive, Fail> {
-    let login = LoginInfo {
-        initiator: copy(alloc, b"iqn.i")?,
-        target: copy(alloc, b"iqn.t")?,
-        lun: [0, 1, 0, 0, 0, 0, 0, 0],
-        user: copy(alloc, b"us")?,
-        secret: copy(alloc, b"sec")?,
-        reverse_user: copy(alloc, b"back")?,
-        reverse_secret: copy(alloc, b"secret")?,
-        words: [0; 8],
-    };
-    let found = HookAnswer {
-        open: u16::from(number),
-        server: Ip4(0x0a00_0001),
-        port: 3260,
-        chap,
-    };
-    Ok(Drive::hooked(alloc, number, true, found, login))
-}
-
-/// The name and the secret are known where CHAP was used, the target's where it was used both ways.
-#[test]
-fn secrets_that_were_used(rt: HostRuntime) -> Result<(), Fail> {
-    let alloc = rt.alloc();
-    for (chap, lengths) in [(0, [5, 0, 0, 0, 0]), (1, [5, 2, 3, 0, 0]), (2, [5, 2, 3, 4, 6])] {
-        let drive = drive(alloc, 130, chap)?;
-        let target = drive.target;
-        let found = [
-            target.name.len(),
-            target.user.len(),
-            target.secret.len(),
-            target.reverse_user.len(),
-            target.reverse_secret.len(),
-        ];
-        assert!(rt; found == lengths, "{chap}");
-        assert!(rt; target.address == Ip4(0x0a00_0001) && target.port == 3260);
-        assert!(rt; target.chap == chap && target.lun == [0, 1, 0, 0, 0, 0, 0, 0]);
-        assert_eq!(rt; drive.initiator.as_slice(), b"iqn.i".as_slice());
-    }
-    Ok(())
-}
-
 /// A drive leaves the list with its open.
 #[test]
-fn opens_that_end(rt: HostRuntime) -> Result<(), Fail> {
-    let alloc = rt.alloc();
+fn opens_that_end(rt: HostRuntime) {
     for (ends, left) in [(200, [128, 0]), (128, [200, 0]), (129, [128, 200])] {
         let mut drives = Drives::new();
         for number in [200, 128] {
             if drives.len() < MAX_DRIVES {
-                drives.hook(drive(alloc, number, 0)?);
+                drives.hook(Drive {
+                    number,
+                    described: true,
+                    open: u16::from(number),
+                });
             }
         }
         drives.end_open(ends);
@@ -109,5 +62,4 @@ fn opens_that_end(rt: HostRuntime) -> Result<(), Fail> {
         let is_left = drives.find(200).is_some();
         assert_eq!(rt; is_left, ends != 200);
     }
-    Ok(())
 }
