@@ -1,2 +1,5 @@
+pub mod Finding
+pub mod LongNames
 pub mod NameTexts
+pub mod Numbering
 pub mod OptionSpelling

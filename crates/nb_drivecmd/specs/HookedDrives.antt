@@ -24,7 +24,7 @@ abbrev pub without_drive : ℕ → List Drive → List Drive
 without_drive number drives = filter (λ drive. not (is_drive number drive)) drives
 
 abbrev pub without_open : ℕ → List Drive → List Drive
-without_open open drives = filter (λ drive. not (drive.open == open)) drives
+without_open ended drives = filter (λ drive. not (drive.open_number == ended)) drives
 
 -- those that the boot table has
 abbrev pub described_drives : List Drive → List Drive

@@ -6,5 +6,5 @@ pub struct Drive {
     /// Whether the boot table has it.
     pub described: bool,
     /// The number of its open.
-    pub open: u16,
+    pub open_number: u16,
 }

@@ -85,7 +85,7 @@ impl Drives {
 
     /// Whether a drive more may be hooked.
     pub fn room(&self) -> Result<(), DriveFailure>
-        ensures { result ≡ (if nat_le 2 (length self.now) then Err failure.ManyDrives else Ok ()) }
+        ensures { result ≡ (if nat_le 2 (length self.now) then Err failure.ManyDrives else Ok tt) }
     {
         if self.len() >= MAX_DRIVES {
             Err(DriveFailure::ManyDrives)
@@ -119,14 +119,14 @@ impl Drives {
     }
 
     /// Drops what is hooked by an open, which has ended.
-    pub fn end_open(&mut self, open: u16)
-        ensures { self.new ≡ without_open open self.old }
+    pub fn end_open(&mut self, ended: u16)
+        ensures { self.new ≡ without_open ended self.old }
     {
         self.slots = match self.slots {
             Slots::Neither => Slots::Neither,
-            Slots::One(drive) => alone(drive, open),
-            Slots::Two(one, other) if one.open == open => alone(other, open),
-            Slots::Two(one, other) if other.open == open => Slots::One(one),
+            Slots::One(drive) => alone(drive, ended),
+            Slots::Two(one, other) if one.open_number == ended => alone(other, ended),
+            Slots::Two(one, other) if other.open_number == ended => Slots::One(one),
             slots => slots,
         };
     }
@@ -147,11 +147,11 @@ fn beside(other: Drive, drive: Drive) -> Slots
 }
 
 /// A drive, unless it is hooked by this open.
-fn alone(drive: Drive, open: u16) -> Slots
-    ensures value { slot_drives result ≡ without_open open (slot_drives (slots.One drive)) }
+fn alone(drive: Drive, ended: u16) -> Slots
+    ensures value { slot_drives result ≡ without_open ended (slot_drives (slots.One drive)) }
     ensures rise { slots_rise result }
 {
-    if drive.open == open {
+    if drive.open_number == ended {
         Slots::Neither
     } else {
         Slots::One(drive)

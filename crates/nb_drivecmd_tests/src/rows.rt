@@ -116,7 +116,7 @@ fn put_hooked(
         drives.hook(Drive {
             number: hooking.number,
             described: hooking.described,
-            open: 0,
+            open_number: 0,
         });
     }
     match hooking.after {

@@ -47,7 +47,7 @@ fn opens_that_end(rt: HostRuntime) {
                 drives.hook(Drive {
                     number,
                     described: true,
-                    open: u16::from(number),
+                    open_number: u16::from(number),
                 });
             }
         }
