@@ -1,5 +1,5 @@
 -- Drives are found by their numbers among those that are hooked.
-use Rattle.std.proofs.Common.{◌≡◌, ℕ, ◌<◌, ◌≤◌, ◌==◌, Bool, true, false, cond, not, List, [], ◌∷◌, ◌++◌, Option, Some, None, refl, sym, ap, ◌∙◌, subst, nat_lt, filter, find, eqb-true, eqb-false, eq-eqb, ne_eqb, lt-ltb, le-ltb, ltb-true, ltb-false, arith}
+use Rattle.std.proofs.Common.{◌≡◌, ℕ, ◌<◌, ◌≤◌, Bool, true, false, cond, not, List, [], ◌∷◌, ◌++◌, Option, Some, None, refl, sym, ap, ◌∙◌, nat_lt, filter, find, eqb-true, eq-eqb, ne_eqb, lt-ltb, le-ltb, ltb-true, ltb-false, arith}
 use Rattle.std.specs.Option.{option_or}
 use Rattle.std.proofs.lemmas.List.Folds.{find-append}
 use Rattle.nb_drivecmd.specs.declared.drive.Drive.{Drive}
@@ -12,23 +12,23 @@ unlike false e f = absurd (let z = e in cc)
 -- a filter that lets all of a number pass leaves the first of it
 keeps_found : (k : ℕ) (q : Drive → Bool) (ds : List Drive) → ((x : Drive) → is_drive k x ≡ true → q x ≡ true) → find (is_drive k) (filter q ds) ≡ find (is_drive k) ds
 keeps_found k q [] h = refl
-keeps_found k q (x ∷ xs) h = by (q x) refl (is_drive k x) refl
+keeps_found k q (x ∷ xs) h = by (q x) refl (is_drive k x) refl (keeps_found k q xs h)
   where
-    by : (b : Bool) → q x ≡ b → (t : Bool) → is_drive k x ≡ t → find (is_drive k) (cond b (x ∷ filter q xs) (filter q xs)) ≡ find (is_drive k) (x ∷ xs)
-    by true e true f = rw f refl
-    by true e false f = rw f (keeps_found k q xs h)
-    by false e true f = unlike (q x) (h x f) e
-    by false e false f = rw f (keeps_found k q xs h)
+    by : (b : Bool) → q x ≡ b → (t : Bool) → is_drive k x ≡ t → find (is_drive k) (filter q xs) ≡ find (is_drive k) xs → find (is_drive k) (cond b (x ∷ filter q xs) (filter q xs)) ≡ find (is_drive k) (x ∷ xs)
+    by true e true f rest = rw f refl
+    by true e false f rest = rw f rest
+    by false e true f rest = unlike (q x) (h x f) e
+    by false e false f rest = rw f rest
 
 -- and one that lets none of it pass leaves none
 loses_found : (k : ℕ) (q : Drive → Bool) (ds : List Drive) → ((x : Drive) → is_drive k x ≡ true → q x ≡ false) → find (is_drive k) (filter q ds) ≡ None
 loses_found k q [] h = refl
-loses_found k q (x ∷ xs) h = by (q x) refl (is_drive k x) refl
+loses_found k q (x ∷ xs) h = by (q x) refl (is_drive k x) refl (loses_found k q xs h)
   where
-    by : (b : Bool) → q x ≡ b → (t : Bool) → is_drive k x ≡ t → find (is_drive k) (cond b (x ∷ filter q xs) (filter q xs)) ≡ None
-    by true e true f = unlike (q x) e (h x f)
-    by true e false f = rw f (loses_found k q xs h)
-    by false e t f = loses_found k q xs h
+    by : (b : Bool) → q x ≡ b → (t : Bool) → is_drive k x ≡ t → find (is_drive k) (filter q xs) ≡ None → find (is_drive k) (cond b (x ∷ filter q xs) (filter q xs)) ≡ None
+    by true e true f rest = unlike (q x) e (h x f)
+    by true e false f rest = rw f rest
+    by false e t f rest = rest
 
 abbrev below_number : ℕ → Drive → Bool
 below_number n x = nat_lt x.number n

@@ -1,12 +1,12 @@
 -- A text that is too long as a URI names no disk, unless it is too long by itself.
-use Rattle.std.proofs.Common.{◌≡◌, ℕ, ◌≤◌, Bool, true, false, cond, List, length, drop, Option, Some, None, Result, Ok, Err, refl, sym, ap, ◌∙◌, nat_lt, le-ltb}
+use Rattle.std.proofs.Common.{◌≡◌, ℕ, ◌≤◌, Bool, true, false, cond, List, length, drop, Option, Some, None, Result, Ok, Err, refl, sym, ap, ◌∙◌, le-ltb}
 use Rattle.std.specs.Str.{is_utf8}
 use Rattle.nb_uri.specs.declared.target.UriTarget.{UriTarget}
 use Rattle.nb_uri.specs.declared.target.UriTarget.TheVariants.{Iscsi}
 use Rattle.nb_uri.specs.declared.target.UriError.{UriError}
 use Rattle.nb_uri.specs.declared.target.UriError.TheVariants.{BadUri, TooLong}
 use Rattle.nb_uri.specs.IscsiNames.{IscsiTarget, is_iscsi, iscsi_target}
-use Rattle.nb_uri.specs.Resolutions.{fitted, disk_target, url_target, url_of, resolution}
+use Rattle.nb_uri.specs.Resolutions.{disk_target, url_target, url_of, resolution}
 
 fits : (text : List ℕ) (disk : IscsiTarget) → length text ≤ 16384 → disk_target text (Some disk) ≡ Ok (Iscsi disk.server disk.port disk.lun disk.target text)
 fits text disk few = ap (λ b. cond b (Err TooLong) (Ok (Iscsi disk.server disk.port disk.lun disk.target text))) (le-ltb 16384 (length text) few)

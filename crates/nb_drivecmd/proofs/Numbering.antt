@@ -9,12 +9,11 @@ use Rattle.nb_imagecmd.specs.declared.error.PlanError.TheVariants.{Usage}
 use Rattle.nb_drivecmd.specs.declared.command_names.DriveCommandName.{DriveCommandName}
 use Rattle.nb_drivecmd.specs.declared.command_names.DriveCommandName.TheVariants.{Sanhook, Sanboot, Sanunhook}
 use Rattle.nb_drivecmd.specs.declared.commands.DriveCommand.{DriveCommand}
-use Rattle.nb_drivecmd.specs.declared.commands.DriveCommand.TheVariants as command
 use Rattle.nb_drivecmd.specs.DriveCommandNames.{drive_command_named}
 use Rattle.nb_drivecmd.specs.DriveEffect.{given_drive}
 use Rattle.nb_drivecmd.specs.DriveNumbers.{IsDriveNumber, as_drive, drive_in}
-use Rattle.nb_drivecmd.specs.DriveOptions.{DriveOptionsRead, no_drive_options, with_drive, with_no_describe, with_keep, with_drive_in, drive_options_read, numbered_options}
-use Rattle.nb_drivecmd.specs.DriveReading.{hook_after, hook_with, hook_of, boot_after, boot_with, boot_of, unhook_after, unhook_with, unhook_of, drive_named_read, drive_read_where, drive_command}
+use Rattle.nb_drivecmd.specs.DriveOptions.{DriveOptionsRead, with_drive, with_no_describe, with_keep, with_drive_in, drive_options_read, numbered_options}
+use Rattle.nb_drivecmd.specs.DriveReading.{hook_after, hook_of, boot_after, boot_of, unhook_after, unhook_of, drive_named_read, drive_read_where, drive_command}
 
 abbrev Numbered : Option ℕ → Type 0
 Numbered o = IfSome o IsDriveNumber

@@ -1,7 +1,6 @@
 -- own, after ipxe.org's sanhook, sanboot and sanunhook: what a drive command comes to, by its words, the settings and
 -- the drives that are hooked. It changes nothing by itself.
-use Rattle.std.specs.Prelude.{ℕ, Bool, not, List, Option, Some, None, Result, Ok, Err, if◌then◌else◌}
-use Rattle.std.specs.Result.{result_map_both}
+use Rattle.std.specs.Prelude.{ℕ, Bool, List, Option, Some, None, Result, Ok, Err, if◌then◌else◌}
 use Rattle.nb_settings.specs.Tables.{TableLists}
 use Rattle.nb_drivecmd.specs.declared.commands.DriveCommand.{DriveCommand}
 use Rattle.nb_drivecmd.specs.declared.commands.DriveCommand.TheVariants as command

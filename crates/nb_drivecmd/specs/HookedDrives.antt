@@ -1,5 +1,5 @@
 -- own, after ipxe.org's drives: those that are hooked, by rising number
-use Rattle.std.specs.Prelude.{◌≡◌, ℕ, ◌<◌, ◌==◌, nat_lt, Bool, not, List, [], ◌∷◌, ◌++◌, Option, Some, None, filter, find, is_some}
+use Rattle.std.specs.Prelude.{ℕ, ◌<◌, ◌==◌, nat_lt, Bool, not, List, ◌∷◌, ◌++◌, Option, filter, find, is_some}
 use Rattle.std.specs.List.{AllPairs}
 use Rattle.nb_drivecmd.specs.declared.drive.Drive.{Drive}
 

@@ -1,5 +1,5 @@
 -- The hooked drives, as they are kept.
-use Rattle.std.specs.Prelude.{ℕ, ◌<◌, List, [], ◌∷◌}
+use Rattle.std.specs.Prelude.{◌<◌, List, [], ◌∷◌}
 use Rattle.nb_drivecmd.specs.declared.drive.Drive.{Drive}
 use Rattle.nb_drivecmd.specs.declared.drives.Slots.{Slots}
 use Rattle.nb_drivecmd.specs.declared.drives.Slots.TheVariants.{Neither, One, Two}

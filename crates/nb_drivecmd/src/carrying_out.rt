@@ -99,7 +99,9 @@ fn outcome_for(
             uri,
         ),
         DriveCommand::Boot {
-            keep, uri: None, ..
+            keep,
+            uri: None,
+            ..
         } => if_hooked(
             number,
             DriveOutcome::Boot {

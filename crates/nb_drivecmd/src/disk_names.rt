@@ -2,7 +2,7 @@
 
 ghost use Rattle.std.specs.Prelude.{◌≡◌, ◌⊎◌, Ok, Err, IfOk, IfErr};
 ghost use Rattle.std.specs.Option.{option_copied};
-ghost use Rattle.nb_drivecmd.specs.DiskNames.{named_disk, no_disk, disk_in};
+ghost use Rattle.nb_drivecmd.specs.DiskNames.{named_disk, disk_in};
 ghost use Rattle.nb_drivecmd.specs.declared.error.DriveFailure.TheVariants as failure;
 
 use crate::DriveFailure;

@@ -1,7 +1,6 @@
-ghost use Rattle.std.specs.Prelude.{◌≡◌, ◌<◌, ◌≤◌, nat_le, List, [], Some, None, Ok, Err, length, slice_get, option_map, if◌then◌else◌};
+ghost use Rattle.std.specs.Prelude.{◌≡◌, ◌<◌, ◌≤◌, nat_le, [], Ok, Err, length, slice_get, option_map, if◌then◌else◌};
 ghost use Rattle.nb_drivecmd.specs.HookedDrives.{AreRising, drive_numbered, with_hooked, without_drive, without_open};
 ghost use Rattle.nb_drivecmd.specs.Slots.{slot_drives, slots_rise};
-ghost use Rattle.nb_drivecmd.specs.declared.drive.Drive.{Drive};
 ghost use Rattle.nb_drivecmd.specs.declared.drives.Slots.TheVariants as slots;
 ghost use Rattle.nb_drivecmd.specs.declared.error.DriveFailure.TheVariants as failure;
 

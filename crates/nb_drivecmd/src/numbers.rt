@@ -1,7 +1,6 @@
 //! The numbers of drives.
 
-ghost use Rattle.std.specs.Prelude.{◌≡◌, ◌≤◌, ◌<◌, Some, None, IfOk, IfSome};
-ghost use Rattle.nb_settings.specs.Names.{name_of};
+ghost use Rattle.std.specs.Prelude.{◌≡◌, None, IfOk, IfSome};
 ghost use Rattle.nb_drivecmd.specs.DriveNumbers.{drive_in, chosen_drive, IsDriveNumber};
 
 use nb_expand::text_of_name;

@@ -1,6 +1,6 @@
 //! The options of drive commands, which stand before all other words.
 
-ghost use Rattle.std.specs.Prelude.{◌≡◌, codes, option_map};
+ghost use Rattle.std.specs.Prelude.{◌≡◌, option_map};
 ghost use Rattle.std.specs.Str.{bytes_eq};
 ghost use Rattle.nb_defs.specs.Commands.{is_option};
 ghost use Rattle.nb_drivecmd.specs.DriveOptions.{shown_drive_options, drive_options_read, no_drive_options};

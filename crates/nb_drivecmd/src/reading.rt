@@ -1,6 +1,5 @@
 //! The words of a drive command, read.
 
-ghost use Rattle.std.specs.Prelude.{◌≡◌, Ok, Err, if◌then◌else◌};
 ghost use Rattle.nb_drivecmd.specs.DriveReading.{ReadsDriveAs, drive_command, drive_named_read};
 ghost use Rattle.nb_drivecmd.specs.DriveReading.{hook_read, hook_with, boot_read, boot_with, unhook_read, unhook_with};
 ghost use Rattle.nb_drivecmd.specs.DriveOptions.{shown_drive_options};

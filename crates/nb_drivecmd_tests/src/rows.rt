@@ -101,7 +101,14 @@ fn put_hooked(
 ) -> Result<(), Fail> {
     let shown = format!(in alloc; "hooks {} ", hooking.number)?;
     let port = format!(in alloc; " {} ", hooking.disk.port)?;
-    put(text, &[shown.as_bytes(), hooking.disk.host.as_slice(), port.as_bytes()])?;
+    put(
+        text,
+        &[
+            shown.as_bytes(),
+            hooking.disk.host.as_slice(),
+            port.as_bytes(),
+        ],
+    )?;
     for byte in hooking.disk.lun {
         put(text, &[format!(in alloc; "{byte:02x}")?.as_bytes()])?;
     }
@@ -154,7 +161,10 @@ fn put_outcome(
         Ok(DriveOutcome::Hook(hooking)) => put_hooked(alloc, text, drives, &hooking),
         Ok(DriveOutcome::Boot { number, keep }) => {
             let kept: &str = if keep { " and keeps it" } else { "" };
-            put(text, &[format!(in alloc; "boots {number}{kept}")?.as_bytes()])
+            put(
+                text,
+                &[format!(in alloc; "boots {number}{kept}")?.as_bytes()],
+            )
         }
         Ok(DriveOutcome::Unhook(number)) => {
             drives.unhook(number);
@@ -169,7 +179,10 @@ fn put_drives(alloc: Global, text: &mut Vec<u8>, drives: &Drives) -> Result<(), 
         let space: &str = if place > 0 { " " } else { "" };
         let drive = drives.get(place).ok_or("no drive")?;
         let minus: &str = if drive.described { "" } else { "-" };
-        put(text, &[format!(in alloc; "{space}{}{minus}", drive.number)?.as_bytes()])?;
+        put(
+            text,
+            &[format!(in alloc; "{space}{}{minus}", drive.number)?.as_bytes()],
+        )?;
     }
     Ok(())
 }
