@@ -1,4 +1,4 @@
-use Rattle.std.proofs.Common.{◌≡◌, length, sym, ap, subst, arith}
+use Rattle.std.proofs.Common.{◌≡◌, ◌≤◌, ℕ, List, length, sym, ap, subst, arith}
 use Rattle.std.proofs.lemmas.List.{length-append}
 use Rattle.nb_record.specs.Logged.{Logged, Puts}
 use Rattle.nb_record.specs.declared.log.LogPlace.{LogPlace}
@@ -19,14 +19,19 @@ returns-in-Ok-clause-goes c =
     let v = rw number at c.in_ok-ended.ensures.serves in
     waited_goes c.args.script c.args.pending c.in_ok-ended.ended _ c.requires.valid c.requires.served c.requires.sound v c.in-Ok.ensures.answers
 
+moved_puts : {old between new : Logged} {added : List ℕ} → new ≡ between → Puts old between added → Puts old new added
+moved_puts {old} {between} {new} {added} same p = subst (λ (l : Logged). Puts old l added) (sym same) p
+
+at_most : {old new : Logged} {added : List ℕ} → Puts old new added → length old.bytes ≤ length new.bytes
+at_most {old} {new} {added} p = omega (arith, ap length p.appended, length-append old.bytes p.part)
+
 -- what was put stands after the place
 pub go_back-requires : goal.go_back-requires
 go_back-requires c =
     let t = takes_some c.requires.sound.opens c.in_ok-ended.ensures.serves in
-    let p = subst (λ (l : Logged). Puts c.args.log.now l _) (sym c.in-Err.ensures.nothing) t.takes.puts in
-    omega (arith, ap length p.appended, length-append c.args.log.now.bytes p.part, ap (λ (x : LogPlace). x.len) c.place.ensures)
+    omega (arith, at_most (moved_puts c.in-Err.ensures.nothing t.takes.puts), ap (λ (x : LogPlace). x.len) c.place-place.ensures)
 
 pub returns-in-Err-clause-nothing : goal.returns-in-Err-clause-nothing
 returns-in-Err-clause-nothing c =
     let t = takes_some c.requires.sound.opens c.in_ok-ended.ensures.serves in
-    c.go_back.ensures c.args.log.now _ c.place.ensures (subst (λ (l : Logged). Puts c.args.log.now l _) (sym c.in-Err.ensures.nothing) t.takes.puts)
+    c.go_back.ensures c.args.log.now _ c.place-place.ensures (moved_puts c.in-Err.ensures.nothing t.takes.puts)
