@@ -94,19 +94,18 @@ class Wire:
             path.unlink()
 
     def by_curl(self, name: str) -> None:
-        """While curl runs the system has the address that the client has else."""
         to = str(self.folder / "fetched")
         _check(self.network.in_client("curl", "--silent", "--fail", "--output", to, _uri(name)))
 
     @contextmanager
     def with_address(self) -> Iterator[None]:
-        words = ["ip", "-n", self.network.client, "address", "VERB", f"{CLIENT_ADDRESS}/{PREFIX}", "dev",
-                 self.network.client_device]
-        _check(["add" if word == "VERB" else word for word in words])
+        """While curl runs the system has the address that the client has else."""
+        own = [f"{CLIENT_ADDRESS}/{PREFIX}", "dev", self.network.client_device]
+        _check(["ip", "-n", self.network.client, "address", "add", *own])
         try:
             yield
         finally:
-            _check(["del" if word == "VERB" else word for word in words])
+            _check(["ip", "-n", self.network.client, "address", "del", *own])
 
 
 def _uri(name: str) -> str:

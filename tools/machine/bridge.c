@@ -49,7 +49,8 @@ static const char *device = "eth0", *folder = "/run/netboot", *script, *program;
 static struct { unsigned received, sent, lost, unsent, joined; } counts;
 static struct { uint8_t bytes[2 * MOST_WAITING + MOST_RECORD + 4]; size_t from, to; } waiting; /* for the client */
 static struct { uint8_t bytes[4 * MOST_RECORD]; size_t size; uint64_t passed; } held; /* of the client */
-static struct { struct mmsghdr all[MOST_SENT]; struct iovec parts[MOST_SENT][2]; unsigned count; } outgoing; /* frames in held */
+/* Frames of the client, which lie in held. */
+static struct { struct mmsghdr all[MOST_SENT]; struct iovec parts[MOST_SENT][2]; unsigned count; } outgoing;
 static struct { uint8_t *slots; unsigned next; } ring;
 static struct { bool is_begun, is_full; unsigned kind, index; uint32_t length; struct file file; } last; /* the part */
 static struct { uint64_t tick, off; } times;
@@ -170,8 +171,9 @@ static void flush_waiting(void) {
 }
 /* There is room: frames end at MOST_WAITING, and TICKs at MOST_AHEAD. */
 static void put(enum type type, const uint8_t *body, size_t size) {
+    size_t waits = waiting.to - waiting.from;
     if (waiting.to > 2 * MOST_WAITING)
-        memmove(waiting.bytes, waiting.bytes + waiting.from, waiting.to - waiting.from), waiting.to -= waiting.from, waiting.from = 0;
+        memmove(waiting.bytes, waiting.bytes + waiting.from, waits), waiting.from = 0, waiting.to = waits;
     uint8_t *at = waiting.bytes + waiting.to;
     put32(at, (uint32_t)size + 1), at[4] = (uint8_t)type;
     if (size) memcpy(at + 5, body, size);

@@ -111,7 +111,8 @@ static void note_lease(uint32_t number, const struct datagram *came) {
     refusal.number = number, refusal.text = text ? word(text, size) : (struct text){""};
 }
 static void read_head(void) {
-    char *head = current.head, *blank = memmem(head, current.came, "\n\r\n", 3), *short_blank = memmem(head, current.came, "\n\n", 2);
+    char *head = current.head, *blank = memmem(head, current.came, "\n\r\n", 3);
+    char *short_blank = memmem(head, current.came, "\n\n", 2);
     size_t skipped = short_blank && (!blank || short_blank < blank) ? 2 : 3;
     char *end = skipped == 2 ? short_blank : blank;
     if (!end) return;
@@ -193,9 +194,11 @@ static uint64_t rate(uint64_t bytes, uint64_t ms) { return bytes / (ms ? ms : 1)
 static void begin_open(const uint8_t *body) {
     struct text target = word(body + 13, get16(body + 11)), name = current.target;
     bool has_name = current.is_there && current.kind == DNS && !current.lives && get16(body) == current.number + 1;
-    struct text first = current.is_there && current.first.bytes[0] ? current.first : body[2] == HTTP ? target : (struct text){""};
+    struct text first = body[2] == HTTP ? target : (struct text){""};
+    if (current.is_there && current.first.bytes[0]) first = current.first;
     memset(&current, 0, sizeof current), memset(&tries, 0, sizeof tries), memset(&refusal, 0, sizeof refusal);
-    current.is_there = current.lives = true, current.has_name = has_name, current.target = target, current.name = name, current.first = first;
+    current.is_there = current.lives = true, current.has_name = has_name;
+    current.target = target, current.name = name, current.first = first;
     current.number = get16(body), current.kind = body[2] < OPENS ? body[2] : 0, current.block_size = USUAL_BLOCK;
     current.port = get16(body + 7), current.own = get16(body + 9), current.begun = current.when = now_ms();
     memcpy(current.server, body + 3, 4);

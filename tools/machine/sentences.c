@@ -124,7 +124,8 @@ static void add_break(uint32_t number) {
     struct text server = server_name();
     const char *url = current.target.bytes;
     if (current.kind == HTTP && number == current.last_segment)
-        add("%s closed the connection after %u bytes, before its response for %s was whole", server.bytes, current.place, url);
+        add("%s closed the connection after %u bytes, before its response for %s was whole", server.bytes,
+            current.place, url);
     else if (current.kind == HTTP)
         add("%s sent no response of HTTP for %s, or a body that isn't framed as its head says", server.bytes, url);
     else if (current.kind == TFTP && current.block_size > MOST_BLOCK)
@@ -168,7 +169,8 @@ static bool add_limit(unsigned code, uint32_t what) {
     if (!current.is_there || current.kind != HTTP) return false;
     if (code == TOO_MANY && what == 2)
         add("%s was moved more than five times, the last time by %s from %s", current.first.bytes, server.bytes, url);
-    else if (code == TOO_MANY && what == 7) add("the head of the response of %s for %s has more than 64 fields", server.bytes, url);
+    else if (code == TOO_MANY && what == 7)
+        add("the head of the response of %s for %s has more than 64 fields", server.bytes, url);
     else if (code == TOO_LARGE && what == 1)
         add("%s has more than 268435456 bytes, the most of an image, as %s sends it", url, server.bytes);
     else if (code == TOO_LONG && what == 6)
