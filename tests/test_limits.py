@@ -15,8 +15,9 @@ from shared.causes import Cause, Code
 from compiler import has_compiler
 from shared.kinds import PartKind, Status
 from boot import BUILT, is_built
-from boots import BLOCK, CLIENT, MEGABYTE, image, replay, start, transfer
+from boots import BLOCK, CLIENT, MEGABYTE, image, replay, start, transfer, web_transfer
 from meter import build_meter, measure
+from sampled import parts, sample
 from shared.recordings import read_output
 from shared.records import Done, Ended, Part, Received, Record, spell
 from shared.wire import arp_request
@@ -35,6 +36,10 @@ ROOM = 256 * MEGABYTE
 
 # the file once, a quarter of it, and 8 MiB
 MOST_MEMORY = LONGEST * 5 // 4 + 8 * MEGABYTE
+
+# the image of a fetch by HTTP, and what the program takes beside what has come of it, at each moment
+WEB_IMAGE = 72 * MEGABYTE
+MOST_BESIDE = 4 * MEGABYTE
 
 
 @unittest.skipUnless(is_built(), "the program isn't built")
@@ -70,6 +75,13 @@ class Limits(Case):
         measured = measure(build_meter(self.folder), self.recorded(LONGEST))
         self.assertEqual(measured.status, 0)
         self.assertLessEqual(measured.peak, MOST_MEMORY)
+
+    def test_memory_grows_with_what_came(self) -> None:
+        """The peak so far is looked at after each megabyte, so that no jump between two looks is missed."""
+        sampled = sample(BUILT, parts(web_transfer(WEB_IMAGE), MEGABYTE), self.folder)
+        self.assertEqual(sampled.status, 0)
+        self.assertGreaterEqual(len(sampled.samples), WEB_IMAGE // MEGABYTE)
+        self.assertLessEqual(sampled.most_over(), MOST_BESIDE)
 
     def test_200_mb_of_noise_in_256_mib(self) -> None:
         """Frames that bring nothing, while a command waits; they take no memory."""
