@@ -96,13 +96,13 @@ fn put_begin(begun: Option<u32>, log: &mut Log)
 fn found_by(
     alloc: Global,
     awaited: Option<u16>,
-    open: &Open,
+    finished: &Open,
     ended: KeptEnded,
     told: &Spelled,
 ) -> Result<Option<KeptEnd>, NoMemory>
-    ensures { IfOk result (λ answer. answer ≡ answer_for awaited open.now.speaker.number ended told.now) }
+    ensures { IfOk result (λ answer. answer ≡ answer_for awaited finished.now.speaker.number ended told.now) }
 {
-    let number = open.speaker.number;
+    let number = finished.speaker.number;
     match awaited {
         Some(k) if number == k => {
             let Ended { cause, body, moved } = ended.into_inner();
