@@ -1,0 +1,5 @@
+pub mod DescribedLemmas
+pub mod PrefixLemmas
+pub mod ShortNames
+pub mod ShortTexts
+pub mod UnusedSecrets

@@ -1,0 +1,5 @@
+pub mod Described
+pub mod DriveInfos
+pub mod DriveLogins
+pub mod DriveOpens
+pub mod OwnNets
