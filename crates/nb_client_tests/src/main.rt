@@ -11,3 +11,5 @@ mod frames;
 mod opens;
 #[cfg(test)]
 mod rows;
+
+fn main() {}
