@@ -1,0 +1,93 @@
+-- A short session, by computing.
+use Rattle.std.proofs.Common.{◌≡◌, ℕ, ◌/◌, ◌%◌, List, [], ◌∷◌, ◌++◌, replicate, length, Some, None, true, false, refl}
+use Rattle.nb_iscsipdu.specs.declared.command.Command.{Command}
+use Rattle.nb_iscsipdu.specs.declared.command.Command.TheVariants.{TestUnitReady, ReadCapacity, Read}
+use Rattle.nb_iscsipdu.specs.PduTexts.{pdu_text}
+use Rattle.nb_iscsipdu.specs.Requests.{command_pdu}
+use Rattle.nb_iscsipdu.specs.Heads.{word_at}
+use Rattle.nb_iscsipdu.specs.Answers.{answer_read}
+use Rattle.nb_login.specs.LoginVerdicts.{by_response, has_digest, has_other_value, chooses_chap, has_value, names_method}
+use Rattle.nb_login.specs.declared.info.LoginInfo.{LoginInfo}
+use Rattle.nb_sans.specs.Sessions.{ReadTask, session_come, said_after_login, session_end, session_capacity, session_chap, task_answers, blocks_read, tasks_taken}
+
+info : LoginInfo
+info = record { initiator = 97 ∷ []; target = 98 ∷ []; lun = replicate 8 0; user = []; secret = []; reverse_user = []; reverse_secret = []; words = replicate 8 1 }
+
+-- a head: opcode, flags, status, so many bytes of data, the task's tag
+head : ℕ → ℕ → ℕ → ℕ → ℕ → List ℕ
+head code flags status len tag = code ∷ flags ∷ 0 ∷ status ∷ 0 ∷ 0 ∷ (len / 256) ∷ (len % 256) ∷ (replicate 8 0 ++ (0 ∷ 0 ∷ 0 ∷ tag ∷ []) ++ replicate 28 0)
+
+-- the login opens the session
+opening : List ℕ
+unfolding head
+opening = head 0x23 0x81 0 0 1 ++ head 0x23 0x87 0 0 1
+
+-- the drive is ready, and has 8 blocks
+sizing : List ℕ
+unfolding head
+sizing = head 0x21 0x80 0 0 2 ++ head 0x25 0x81 0 8 3 ++ (0 ∷ 0 ∷ 0 ∷ 7 ∷ 0 ∷ 0 ∷ 2 ∷ 0 ∷ [])
+
+block : List ℕ
+unfolding head
+block = head 0x25 0x81 0 512 4 ++ replicate 512 7
+
+before : List ℕ
+unfolding opening sizing
+before = opening ++ sizing
+
+all : List ℕ
+unfolding before block
+all = before ++ block
+
+read_block : List (ReadTask × ℕ)
+read_block = (record { lba = 3; blocks = 1 }, 200) ∷ []
+
+places : length before ≡ 200
+unfolding before opening sizing head
+places = refl
+
+sized : session_capacity info before [] ≡ Some 8
+unfolding before opening sizing block all head info read_block word_at answer_read by_response has_digest has_other_value chooses_chap has_value names_method
+sized = refl
+
+without_chap : session_chap info before ≡ Some 0
+unfolding before opening sizing block all head info read_block word_at answer_read by_response has_digest has_other_value chooses_chap has_value names_method
+without_chap = refl
+
+taken : tasks_taken info all read_block ≡ (3, 1) ∷ []
+unfolding before opening sizing block all head info read_block word_at answer_read by_response has_digest has_other_value chooses_chap has_value names_method
+taken = refl
+
+answered : task_answers info all read_block ≡ blocks_read (replicate 512 7) ∷ []
+unfolding before opening sizing block all head info read_block word_at answer_read by_response has_digest has_other_value chooses_chap has_value names_method
+answered = refl
+
+goes_on : session_end 9 info all false read_block ≡ None
+unfolding before opening sizing block all head info read_block word_at answer_read by_response has_digest has_other_value chooses_chap has_value names_method
+goes_on = refl
+
+-- data that no one asked for end it, and so does the stream's end
+unasked : session_end 9 info all false [] ≡ Some (record { code = 3; a = 9; b = 0 })
+unfolding before opening sizing block all head info read_block word_at answer_read by_response has_digest has_other_value chooses_chap has_value names_method
+unasked = refl
+
+ended : session_end 9 info all true read_block ≡ Some (record { code = 3; a = 9; b = 0 })
+unfolding before opening sizing block all head info read_block word_at answer_read by_response has_digest has_other_value chooses_chap has_value names_method
+ended = refl
+
+-- a task asked while READ CAPACITY is at work isn't taken, nor is one beyond the disk
+early : tasks_taken info all ((record { lba = 3; blocks = 1 }, 150) ∷ []) ≡ []
+unfolding before opening sizing block all head info read_block word_at answer_read by_response has_digest has_other_value chooses_chap has_value names_method
+early = refl
+
+beyond : tasks_taken info all ((record { lba = 8; blocks = 1 }, 200) ∷ read_block) ≡ (3, 1) ∷ []
+unfolding before opening sizing block all head info read_block word_at answer_read by_response has_digest has_other_value chooses_chap has_value names_method
+beyond = refl
+
+command_text : ℕ → ℕ → Command → List ℕ
+command_text tag cmd_sn command = pdu_text (command_pdu (record { lun = replicate 8 0; task_tag = tag; cmd_sn = cmd_sn; exp_stat_sn = 1; command = command }))
+
+-- after the login's requests, three commands are said
+commands : said_after_login info all read_block (session_come 0 info all) ≡ command_text 2 1 TestUnitReady ++ (command_text 3 2 ReadCapacity ++ (command_text 4 3 (Read 3 1) ++ []))
+unfolding before opening sizing block all head info read_block word_at answer_read by_response has_digest has_other_value chooses_chap has_value names_method command_text
+commands = refl

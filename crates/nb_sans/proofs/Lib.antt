@@ -1,0 +1,11 @@
+pub mod Starts
+pub mod StreamGrowth
+pub mod DriveGrowth
+pub mod SessionGrowth
+pub mod TurnLaws
+pub mod EndGrowth
+pub mod AnswerGrowth
+pub mod EndCauses
+pub mod HonestReadings
+pub mod TargetLaws
+pub mod Examples
