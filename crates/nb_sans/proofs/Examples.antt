@@ -1,14 +1,21 @@
 -- A short session, by computing.
-use Rattle.std.proofs.Common.{◌≡◌, ℕ, ◌/◌, ◌%◌, List, [], ◌∷◌, ◌++◌, replicate, length, Some, None, true, false, refl}
+use Rattle.std.proofs.Common.{◌≡◌, ℕ, ◌/◌, ◌%◌, List, [], ◌∷◌, ◌++◌, replicate, length, Some, None, true, false, refl, ap, subst}
 use Rattle.nb_iscsipdu.specs.declared.command.Command.{Command}
 use Rattle.nb_iscsipdu.specs.declared.command.Command.TheVariants.{TestUnitReady, ReadCapacity, Read}
 use Rattle.nb_iscsipdu.specs.PduTexts.{pdu_text}
-use Rattle.nb_iscsipdu.specs.Requests.{command_pdu}
+use Rattle.nb_iscsipdu.specs.Requests.{command_pdu, nop_pdu}
 use Rattle.nb_iscsipdu.specs.Heads.{word_at}
 use Rattle.nb_iscsipdu.specs.Answers.{answer_read}
 use Rattle.nb_login.specs.LoginVerdicts.{by_response, has_digest, has_other_value, chooses_chap, has_value, names_method}
 use Rattle.nb_login.specs.declared.info.LoginInfo.{LoginInfo}
-use Rattle.nb_sans.specs.Sessions.{ReadTask, session_come, said_after_login, session_end, session_capacity, session_chap, task_answers, blocks_read, tasks_taken}
+use Rattle.std.proofs.lemmas.Option.{same_Some}
+use Rattle.nb_iscsipdu.specs.Commands.{asked_len}
+use Rattle.nb_iscsipdu.specs.Answers.{DataInParts}
+use Rattle.nb_login.specs.declared.session.Session.{Session}
+use Rattle.nb_disk.specs.Histories.{DiskReading, nothing_read}
+use Rattle.nb_disk.specs.DiskAnswers.{opened_of}
+use Rattle.nb_sans.specs.Targets.{ServesData, Serves}
+use Rattle.nb_sans.specs.Sessions.{ReadTask, drive_calls, session_come, said_after_login, session_end, session_capacity, session_chap, task_answers, blocks_read, tasks_taken}
 
 info : LoginInfo
 info = record { initiator = 97 ∷ []; target = 98 ∷ []; lun = replicate 8 0; user = []; secret = []; reverse_user = []; reverse_secret = []; words = replicate 8 1 }
@@ -91,3 +98,51 @@ command_text tag cmd_sn command = pdu_text (command_pdu (record { lun = replicat
 commands : said_after_login info all read_block (session_come 0 info all) ≡ command_text 2 1 TestUnitReady ++ (command_text 3 2 ReadCapacity ++ (command_text 4 3 (Read 3 1) ++ []))
 unfolding before opening sizing block all head info read_block word_at answer_read by_response has_digest has_other_value chooses_chap has_value names_method command_text
 commands = refl
+
+-- a task before a NOP-In changes the number of its answer
+with_nop : List ℕ
+unfolding before head
+with_nop = before ++ head 0x20 0x80 0 0 0
+
+nop_text : ℕ → List ℕ
+nop_text cmd_sn = pdu_text (nop_pdu (record { lun = replicate 8 0; target_tag = 0; cmd_sn = cmd_sn; exp_stat_sn = 1 }))
+
+without_task : said_after_login info with_nop [] (session_come 0 info with_nop) ≡ command_text 2 1 TestUnitReady ++ (command_text 3 2 ReadCapacity ++ (nop_text 3 ++ []))
+unfolding before opening sizing block all head info read_block word_at answer_read by_response has_digest has_other_value chooses_chap has_value names_method command_text with_nop nop_text
+without_task = refl
+
+with_task : said_after_login info with_nop read_block (session_come 0 info with_nop) ≡ command_text 2 1 TestUnitReady ++ (command_text 3 2 ReadCapacity ++ (command_text 4 3 (Read 3 1) ++ (nop_text 4 ++ [])))
+unfolding before opening sizing block all head info read_block word_at answer_read by_response has_digest has_other_value chooses_chap has_value names_method command_text with_nop nop_text
+with_task = refl
+
+-- ---- the target serves a disk of sevens
+
+session : Session
+unfolding info
+session = record { info = info; cmd_sn = 1; exp_stat_sn = 1; task = 2; chap = 0 }
+
+opened : session_come 0 info all ≡ Some session
+unfolding before opening sizing block all head info read_block word_at answer_read by_response has_digest has_other_value chooses_chap has_value names_method session
+opened = refl
+
+sevens : List ℕ
+sevens = replicate 4096 7
+
+known : (disk : List ℕ) (r : DiskReading) (d : DataInParts) (work command : Command) → Some work ≡ Some command → ServesData disk r work d → ServesData disk r command d
+known disk r d work command is serves = subst (λ (c : Command). ServesData disk r c d) (same_Some work command is) serves
+
+serves : Serves sevens (opened_of session) nothing_read (drive_calls 0 info all read_block session)
+unfolding before opening sizing block all head info read_block word_at answer_read by_response has_digest has_other_value chooses_chap has_value names_method session sevens
+serves = (
+  λ command work tag good. ap asked_len (same_Some TestUnitReady command work),
+  (
+    λ command work tag. known sevens _ _ ReadCapacity command work (record { stand = record { rest = []; is = refl }; all = λ s is good. refl }),
+    (
+      tt,
+      (
+        λ command work tag. known sevens _ _ (Read 3 1) command work (record { stand = record { rest = replicate 2048 7; is = refl }; all = λ s is good. refl }),
+        tt,
+      ),
+    ),
+  ),
+)

@@ -6,6 +6,12 @@ pub mod TurnLaws
 pub mod EndGrowth
 pub mod AnswerGrowth
 pub mod EndCauses
+pub mod GoodResults
 pub mod HonestReadings
 pub mod TargetLaws
+pub mod DriveSteps
+pub mod Parts
+pub mod SessionSteps
+pub mod LoginSteps
+pub mod RecordLaws
 pub mod Examples

@@ -21,7 +21,7 @@ use Rattle.nb_sans.proofs.DriveGrowth.{taken_grow, puts_grow}
 
 -- ---- a login that has ended takes no more
 
-ended_stays : (i : LoginInfo) (h : List LoginEntry) (ms : List PduCame) → login_ended h ≡ true → fold (after_came i) h ms ≡ h
+pub ended_stays : (i : LoginInfo) (h : List LoginEntry) (ms : List PduCame) → login_ended h ≡ true → fold (after_came i) h ms ≡ h
 ended_stays i h [] e = refl
 ended_stays i h (m ∷ ms) e = rw e (ended_stays i h ms e)
 
@@ -76,7 +76,7 @@ module _ (rec : ℕ) (i : LoginInfo) (come later : List ℕ) (tasks more : List 
 
 -- ---- what it says
 
-said_same : (i : LoginInfo) (come later : List ℕ) → login_ended (login_so_far 0 i come) ≡ true → login_said i (pdus_came 0 (come ++ later)) ≡ login_said i (pdus_came 0 come)
+pub said_same : (i : LoginInfo) (come later : List ℕ) → login_ended (login_so_far 0 i come) ≡ true → login_said i (pdus_came 0 (come ++ later)) ≡ login_said i (pdus_came 0 come)
 said_same i come later e = let same = answers_stay 0 i come later e in rw same refl
 
 login_grows : (i : LoginInfo) (come later : List ℕ) → Starts (login_said i (pdus_came 0 come)) (login_said i (pdus_came 0 (come ++ later)))

@@ -17,7 +17,8 @@ use Rattle.nb_sans.specs.Sessions.{ReadTask, login_so_far, session_come, drive_c
 use Rattle.nb_sans.specs.Targets.{IsDisk, capacity_data, Serves, ServesDisk, IsOfDisk, AreOfDisk, stream_come}
 use Rattle.nb_sans.proofs.Starts.{Starts}
 use Rattle.nb_sans.proofs.SessionGrowth.{opened_ended, stays_open, calls_grow}
-use Rattle.nb_sans.proofs.HonestReadings.{IsGoodFor, GoodReads, GoodAfter, GoodResults, IsHonest, nothing_honest, calls_honest, serves_less}
+use Rattle.nb_sans.proofs.GoodResults.{IsGoodFor, GoodReads, GoodAfter, GoodResults}
+use Rattle.nb_sans.proofs.HonestReadings.{IsHonest, nothing_honest, calls_honest, serves_less}
 
 -- ---- the answers
 

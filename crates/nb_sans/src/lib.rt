@@ -6,6 +6,7 @@
 mod laws;
 
 pub use laws::{
-    honest_answers_are_the_disks, only_the_login_speaks_first, says_all_of_a_session,
-    sessions_end_for_a_cause, sessions_only_add, what_was_decided_stays,
+    each_is_answered_at_once, honest_answers_are_the_disks, only_ends_show_records,
+    only_the_login_speaks_first, says_all_of_a_session, sessions_end_for_a_cause,
+    sessions_only_add, what_comes_is_the_next_call, what_was_decided_stays,
 };
