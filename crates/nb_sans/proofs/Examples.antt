@@ -1,5 +1,5 @@
 -- A short session, by computing.
-use Rattle.std.proofs.Common.{◌≡◌, ℕ, ◌/◌, ◌%◌, List, [], ◌∷◌, ◌++◌, replicate, length, Some, None, true, false, refl, ap, subst}
+use Rattle.std.proofs.Common.{◌≡◌, ℕ, ◌/◌, ◌%◌, List, [], ◌∷◌, ◌++◌, replicate, length, take, drop, Some, None, true, false, refl, ap, subst}
 use Rattle.nb_iscsipdu.specs.declared.command.Command.{Command}
 use Rattle.nb_iscsipdu.specs.declared.command.Command.TheVariants.{TestUnitReady, ReadCapacity, Read}
 use Rattle.nb_iscsipdu.specs.PduTexts.{pdu_text}
@@ -98,6 +98,40 @@ command_text tag cmd_sn command = pdu_text (command_pdu (record { lun = replicat
 commands : said_after_login info all read_block (session_come 0 info all) ≡ command_text 2 1 TestUnitReady ++ (command_text 3 2 ReadCapacity ++ (command_text 4 3 (Read 3 1) ++ []))
 unfolding before opening sizing block all head info read_block word_at answer_read by_response has_digest has_other_value chooses_chap has_value names_method command_text
 commands = refl
+
+-- a login that is refused with class 2 and detail 1
+refusal : List ℕ
+unfolding head
+refusal = take 36 (head 0x23 0x81 0 0 1) ++ (2 ∷ 1 ∷ drop 38 (head 0x23 0x81 0 0 1))
+
+refused : session_end 9 info refusal false [] ≡ Some (record { code = 1; a = 9; b = 513 })
+unfolding before opening sizing block all head info read_block word_at answer_read by_response has_digest has_other_value chooses_chap has_value names_method refusal
+refused = refl
+
+-- a head with additional segments is none at its eighth byte
+additional : List ℕ
+additional = 0x25 ∷ 0x80 ∷ 0 ∷ 0 ∷ 1 ∷ 0 ∷ 0 ∷ 0 ∷ []
+
+seven_bytes : session_end 9 info (before ++ take 7 additional) false [] ≡ None
+unfolding before opening sizing block all head info read_block word_at answer_read by_response has_digest has_other_value chooses_chap has_value names_method additional
+seven_bytes = refl
+
+eight_bytes : session_end 9 info (before ++ additional) false [] ≡ Some (record { code = 3; a = 9; b = 0 })
+unfolding before opening sizing block all head info read_block word_at answer_read by_response has_digest has_other_value chooses_chap has_value names_method additional
+eight_bytes = refl
+
+in_login : session_end 9 info additional false [] ≡ Some (record { code = 3; a = 9; b = 0 })
+unfolding before opening sizing block all head info read_block word_at answer_read by_response has_digest has_other_value chooses_chap has_value names_method additional
+in_login = refl
+
+-- a login that goes on, and one whose stream ends
+waits : session_end 9 info [] false [] ≡ None
+unfolding before opening sizing block all head info read_block word_at answer_read by_response has_digest has_other_value chooses_chap has_value names_method
+waits = refl
+
+lacks : session_end 9 info (head 0x23 0x81 0 0 1) true [] ≡ Some (record { code = 3; a = 9; b = 0 })
+unfolding before opening sizing block all head info read_block word_at answer_read by_response has_digest has_other_value chooses_chap has_value names_method
+lacks = refl
 
 -- a task before a NOP-In changes the number of its answer
 with_nop : List ℕ
