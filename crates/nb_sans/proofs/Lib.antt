@@ -15,3 +15,4 @@ pub mod SessionSteps
 pub mod LoginSteps
 pub mod RecordLaws
 pub mod Examples
+pub mod Recorded
