@@ -10,3 +10,5 @@ pub mod LengthLaws
 pub mod RequestLaws
 pub mod CarriedLaws
 pub mod KeyLaws
+pub mod LoginRecordLaws
+pub mod LoginTextLaws

@@ -7,3 +7,5 @@ pub mod LoginHistory
 pub mod LoginStands
 pub mod LoginEndings
 pub mod Logins
+pub mod LoginRecords
+pub mod LoginTexts

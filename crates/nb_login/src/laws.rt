@@ -14,6 +14,8 @@ ghost use Rattle.nb_login.specs.Asking.{login_text, carried, request_keys};
 ghost use Rattle.nb_login.specs.LoginHistory.{PduCame, LoginEntry, LoginMeets, end_given, last_done, repeats};
 ghost use Rattle.nb_login.specs.LoginStands.{session_opened};
 ghost use Rattle.nb_login.specs.LoginEndings.{LoginEnding, HasProof};
+ghost use Rattle.nb_login.specs.LoginTexts.{LoginsSayOnlyRequests};
+ghost use Rattle.nb_login.specs.LoginRecords.{RecordsShowInEndsAlone, EndsAreEnds};
 ghost use Rattle.nb_login.specs.Logins.{login_history, login_said, login_end, login_session, with_secret, with_reverse_secret, HasSameResponse, IsLoginText, HasUsualNames};
 
 /// An answer gives an end exactly where its cause stands in what came and what had been asked: `LoginEnding` has
@@ -59,13 +61,14 @@ pub fn secrets_are_not_sent()
         → login_text (with_reverse_secret i secret) request sn ≡ login_text i request sn }
 {}
 
-/// Each request is an immediate Login Request of the task 1, with CmdSN 1 and its ExpStatSN; with names of usual
-/// lengths it has all of its keys.
+/// Each request is an immediate Login Request of the task 1, with CmdSN 1 and its ExpStatSN, and nothing else is
+/// said; with names of usual lengths it has all of its keys.
 pub fn requests_are_pdus()
     ensures fields { (i : LoginInfo) (request : NextRequest) (sn : ℕ) → sn < 2 ^ 32
         → IsLoginText (login_text i request sn) sn (carried (request_keys i request)) }
     ensures keys { (i : LoginInfo) (request : NextRequest) → HasUsualNames i
         → carried (request_keys i request) ≡ request_keys i request }
+    ensures alone { LoginsSayOnlyRequests }
 {}
 
 /// A login that is begun sends the keys of each request and no others: whoever reads its texts between zero bytes
@@ -73,4 +76,11 @@ pub fn requests_are_pdus()
 pub fn settings_add_no_keys()
     ensures { (i : LoginInfo) (request : NextRequest) → zero_name i ≡ None
         → texts_between (request_keys i request) ≡ request_lines i request ++ [] ∷ [] }
+{}
+
+/// Logins that were given the same PDUs say the same, have as many answers and open the same session, whichever
+/// records brought them; one that has opened a session, or given an end, has ended.
+pub fn records_show_in_ends_alone()
+    ensures alike { RecordsShowInEndsAlone }
+    ensures ends { EndsAreEnds }
 {}

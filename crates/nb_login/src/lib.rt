@@ -20,8 +20,8 @@ mod step;
 
 pub use info::LoginInfo;
 pub use laws::{
-    ends_by_the_eighth_answer, ends_for_a_cause, opens_after_proof, requests_are_pdus,
-    secrets_are_not_sent, settings_add_no_keys, what_came_determines_it,
+    ends_by_the_eighth_answer, ends_for_a_cause, opens_after_proof, records_show_in_ends_alone,
+    requests_are_pdus, secrets_are_not_sent, settings_add_no_keys, what_came_determines_it,
 };
 pub use login::Login;
 pub use refusal::{LoginRefusal, SentName};

@@ -10,9 +10,15 @@ use Rattle.nb_iscsipdu.specs.declared.answer.ScsiResponse.{ScsiResponse}
 use Rattle.nb_iscsipdu.specs.PduTexts.{PduParts}
 use Rattle.nb_iscsipdu.specs.Answers.{AnswerParts, DataInParts, login, scsi, data_in, nop_in, other, answer_read}
 use Rattle.nb_iscsipdu.specs.Streams.{cut, is_refused}
+use Rattle.nb_login.specs.declared.info.LoginInfo.{LoginInfo}
+use Rattle.nb_login.specs.declared.session.Session.{Session}
+use Rattle.nb_login.specs.LoginHistory.{pdu_came, login_ended}
+use Rattle.nb_login.specs.LoginStands.{session_opened}
+use Rattle.nb_login.specs.LoginRecords.{pdus_alone, AreAlikeLogins}
+use Rattle.nb_login.proofs.LoginRecordLaws.{records_show as records_alone}
 use Rattle.nb_disk.specs.Histories.{DiskCall, came, asked, stream_ended, DiskReading, nothing_read, SessionNumbers, completes, fits, after_call, at_work, capacity_of}
 use Rattle.nb_disk.specs.DiskAnswers.{DiskAnswer, ends, opened_of, answered, bytes_answer, data_answer, response_answer, pdu_answer, disk_answer, ended_from}
-use Rattle.nb_sans.specs.Sessions.{ReadTask, last_part, stream_parts, login_so_far, comes_from, drive_comes, is_call, taken_from}
+use Rattle.nb_sans.specs.Sessions.{ReadTask, last_part, stream_parts, pdus_came, login_so_far, session_come, comes_from, drive_comes, is_call, taken_from}
 use Rattle.nb_sans.specs.RecordNumbers.{brought_by, OnlyEndsShowRecords}
 
 -- ---- one answer
@@ -146,6 +152,21 @@ comes_same rec stream done (t ∷ tasks) = by (comes_same rec stream (max done (
         ∙ sym (map-append (brought_by rec) (drop done (stream_parts 0 (take t.1 stream))) (asked t.0.lba t.0.blocks ∷ comes_from 0 stream (max done (length (stream_parts 0 (take t.1 stream)))) tasks))
     by rest false = dropped_same rec stream done
 
+-- ---- the login
+
+alone : (rec : ℕ) (ps : List PduParts) → pdus_alone (map (pdu_came rec) ps) ≡ ps
+alone rec [] = refl
+alone rec (p ∷ ps) = ap (λ (l : List PduParts). p ∷ l) (alone rec ps)
+
+logins_alike : (rec : ℕ) (i : LoginInfo) (stream : List ℕ) → AreAlikeLogins i (pdus_came rec stream) (pdus_came 0 stream)
+logins_alike rec i stream = records_alone i (pdus_came rec stream) (pdus_came 0 stream) (alone rec (cut stream).pdus ∙ sym (alone 0 (cut stream).pdus))
+
+session_same : (rec : ℕ) (i : LoginInfo) (stream : List ℕ) → session_come rec i stream ≡ session_come 0 i stream
+session_same rec i stream =
+    let a = logins_alike rec i stream in
+    ap (λ b. if b then session_opened i (login_so_far rec i stream) else None) a.ended
+    ∙ ap (λ (o : Option Session). if login_ended (login_so_far 0 i stream) then o else None) a.session
+
 pub records_show : OnlyEndsShowRecords
 records_show = record {
   reads = λ o rec calls. reads_same o rec calls nothing_read;
@@ -153,7 +174,8 @@ records_show = record {
   give = λ o r rec call. (call_same o r rec call).give;
   over = λ o r rec call. (call_same o r rec call).over;
   ended = λ o rec calls. ended_same o rec calls nothing_read;
-  calls = λ rec i stream tasks s count.
-      ap (taken_from (opened_of s) nothing_read) (ap (λ n. comes_from rec stream n tasks) count ∙ comes_same rec stream (length (login_so_far 0 i stream)) tasks)
+  session = session_same;
+  calls = λ rec i stream tasks s.
+      ap (taken_from (opened_of s) nothing_read) (ap (λ n. comes_from rec stream n tasks) (logins_alike rec i stream).count ∙ comes_same rec stream (length (login_so_far 0 i stream)) tasks)
       ∙ taken_same (opened_of s) rec (drive_comes 0 i stream tasks) nothing_read;
 }

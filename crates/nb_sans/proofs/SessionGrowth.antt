@@ -10,6 +10,8 @@ use Rattle.nb_login.specs.declared.session.Session.{Session}
 use Rattle.nb_login.specs.LoginHistory.{PduCame, pdu_came, LoginEntry, end_given, last_done, login_ended}
 use Rattle.nb_login.specs.LoginStands.{session_opened}
 use Rattle.nb_login.specs.Logins.{after_came, login_history, login_said}
+use Rattle.nb_login.specs.LoginTexts.{AreRequestTexts}
+use Rattle.nb_login.proofs.LoginTextLaws.{only_requests}
 use Rattle.nb_login.proofs.HistoryLaws.{says_more}
 use Rattle.nb_disk.specs.Histories.{nothing_read}
 use Rattle.nb_disk.specs.DiskAnswers.{opened_of}
@@ -121,3 +123,6 @@ session_adds i = record {
 pub login_first : (i : LoginInfo) (stream : List ℕ) (ended : Bool) (tasks : List (ReadTask × ℕ)) → session_come 0 i stream ≡ None → session_says i stream ended tasks ≡ login_said i (pdus_came 0 stream)
 login_first i stream ended tasks none =
     ap (λ (o : Option Session). login_said i (pdus_came 0 stream) ++ said_after_login i stream tasks o) none ∙ append-nil (login_said i (pdus_came 0 stream))
+
+pub requests_first : (i : LoginInfo) (stream : List ℕ) (ended : Bool) (tasks : List (ReadTask × ℕ)) → session_come 0 i stream ≡ None → AreRequestTexts (session_says i stream ended tasks)
+requests_first i stream ended tasks none = subst AreRequestTexts (sym (login_first i stream ended tasks none)) (only_requests i (pdus_came 0 stream))

@@ -12,6 +12,7 @@ use Rattle.nb_login.specs.declared.session.Session.{Session}
 use Rattle.nb_login.specs.LoginHistory.{LoginEntry}
 use Rattle.nb_login.specs.LoginEndings.{LoginEnding}
 use Rattle.nb_login.specs.Logins.{login_said}
+use Rattle.nb_login.specs.LoginTexts.{AreRequestTexts}
 use Rattle.nb_disk.specs.Histories.{DiskCall, came, reading}
 use Rattle.nb_disk.specs.DiskAnswers.{opened_of, broken}
 use Rattle.nb_disk.specs.DiskEndings.{DiskEnding}
@@ -69,3 +70,8 @@ pub record ReadingsStay : Type 0 where
 abbrev pub OnlyTheLoginSpeaksFirst : Type 0
 OnlyTheLoginSpeaksFirst = (i : LoginInfo) (stream : List ℕ) (ended : Bool) (tasks : List (ReadTask × ℕ)) → session_come 0 i stream ≡ None
     → session_says i stream ended tasks ≡ login_said i (pdus_came 0 stream)
+
+-- So only Login Requests are.
+abbrev pub OnlyRequestsComeFirst : Type 0
+OnlyRequestsComeFirst = (i : LoginInfo) (stream : List ℕ) (ended : Bool) (tasks : List (ReadTask × ℕ)) → session_come 0 i stream ≡ None
+    → AreRequestTexts (session_says i stream ended tasks)

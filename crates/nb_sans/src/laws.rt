@@ -1,7 +1,7 @@
 //! Laws of sessions with a target, each a function that does nothing.
 
 ghost use Rattle.nb_sans.specs.SessionLaws.{SessionsAddInTurn, AllOfASessionIsSaid};
-ghost use Rattle.nb_sans.specs.SessionLaws.{OnlyTheLoginSpeaksFirst};
+ghost use Rattle.nb_sans.specs.SessionLaws.{OnlyTheLoginSpeaksFirst, OnlyRequestsComeFirst};
 ghost use Rattle.nb_sans.specs.SessionLaws.{SessionsEndForACause, EndsStay, ReadingsStay};
 ghost use Rattle.nb_sans.specs.SessionSteps.{PartsFollowTheCut, CallsFollowWhatComes, BytesAloneSayNothing};
 ghost use Rattle.nb_sans.specs.SessionSteps.{LoginsAnswerAtOnce, PartsAreAnsweredAtOnce};
@@ -19,9 +19,10 @@ pub fn says_all_of_a_session()
     ensures { AllOfASessionIsSaid }
 {}
 
-/// Before the login has opened a session, what is said is what the login says.
+/// Before the login has opened a session, what is said is what the login says: Login Requests alone.
 pub fn only_the_login_speaks_first()
-    ensures { OnlyTheLoginSpeaksFirst }
+    ensures login { OnlyTheLoginSpeaksFirst }
+    ensures requests { OnlyRequestsComeFirst }
 {}
 
 /// A session ends only where its login or its drive does, by its last PDU, or where no further PDU comes.
@@ -46,7 +47,7 @@ pub fn each_is_answered_at_once()
     ensures task { TasksArePutAtOnce }
 {}
 
-/// Which records brought what comes to a drive shows in the cause of its end alone.
+/// Which records brought what comes to a session shows in the cause of its end alone.
 pub fn only_ends_show_records()
     ensures { OnlyEndsShowRecords }
 {}
