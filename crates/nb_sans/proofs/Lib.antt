@@ -2,7 +2,6 @@ pub mod Starts
 pub mod StreamGrowth
 pub mod DriveGrowth
 pub mod SessionGrowth
-pub mod TurnLaws
 pub mod EndGrowth
 pub mod AnswerGrowth
 pub mod EndCauses

@@ -4,6 +4,7 @@ use Rattle.std.proofs.lemmas.List.{map-append}
 use Rattle.std.proofs.lemmas.List.Sums.{fold-append}
 use Rattle.nb_terms.specs.declared.cause.Cause.{Cause}
 use Rattle.nb_streams.specs.Streams.{IsPrefixOf}
+use Rattle.nb_streams.specs.Talking.{OnlyAdds}
 use Rattle.nb_iscsipdu.specs.Streams.{cut}
 use Rattle.nb_login.specs.declared.info.LoginInfo.{LoginInfo}
 use Rattle.nb_login.specs.declared.session.Session.{Session}
@@ -16,7 +17,6 @@ use Rattle.nb_login.proofs.HistoryLaws.{says_more}
 use Rattle.nb_disk.specs.Histories.{nothing_read}
 use Rattle.nb_disk.specs.DiskAnswers.{opened_of}
 use Rattle.nb_sans.specs.Sessions.{ReadTask, pdus_came, login_so_far, comes_from, drive_comes, drive_calls, opening_command, puts_from, drive_said, said_after_login, session_come, login_over, session_says, session_talker}
-use Rattle.nb_sans.specs.SessionLaws.{AddsInTurn}
 use Rattle.nb_sans.proofs.Starts.{Starts, starts_then, starts_more, starts_after}
 use Rattle.nb_sans.proofs.StreamGrowth.{pdus_grow, comes_grow, FirstIsLater}
 use Rattle.nb_sans.proofs.DriveGrowth.{taken_grow, puts_grow}
@@ -108,7 +108,7 @@ module _ (i : LoginInfo) (come later : List ℕ) (before after : Bool) (tasks mo
 
 -- ---- the talker
 
-pub session_adds : (i : LoginInfo) → AddsInTurn (session_talker i)
+pub session_adds : (i : LoginInfo) → OnlyAdds (session_talker i)
 session_adds i = record {
   stream = λ come later before after tasks.
       subst (λ (all : List (ReadTask × ℕ)). IsPrefixOf (session_says i come before tasks) (session_says i (come ++ later) after all)) (append-nil tasks)

@@ -2,8 +2,7 @@
 use Rattle.std.specs.Prelude.{◌≡◌, ◌≤◌, ◌||◌, ℕ, Bool, true, false, List, [], ◌∷◌, ◌++◌, length, Some, None}
 use Rattle.std.specs.List.{AllByRecursion}
 use Rattle.nb_terms.specs.declared.cause.Cause.{Cause}
-use Rattle.nb_streams.specs.Streams.{IsPrefixOf}
-use Rattle.nb_streams.specs.Talking.{Came, Talker, said, to_say, talk_after}
+use Rattle.nb_streams.specs.Talking.{Came, OnlyAdds, said, to_say, talk_after}
 use Rattle.nb_iscsipdu.specs.PduTexts.{PduParts}
 use Rattle.nb_iscsipdu.specs.Answers.{answer_read}
 use Rattle.nb_iscsipdu.specs.Streams.{cut, is_refused}
@@ -18,16 +17,9 @@ use Rattle.nb_disk.specs.DiskAnswers.{opened_of, broken}
 use Rattle.nb_disk.specs.DiskEndings.{DiskEnding}
 use Rattle.nb_sans.specs.Sessions.{ReadTask, pdus_came, login_so_far, session_come, drive_calls, session_says, session_end, session_talker, session_capacity, session_chap, TaskAnswer, task_answers}
 
--- A longer stream and the next task, asked after all that has come, only add to what is to be said. The numbers of later texts
--- count the tasks, so a task that stood before something that has come would change what was said after it.
-pub record AddsInTurn {T : Type 0} (t : Talker T) : Type 0 where
-  pub stream : (come later : List ℕ) (before after : Bool) (tasks : List (T × ℕ))
-      → IsPrefixOf (t.says come before tasks) (t.says (come ++ later) after tasks)
-  pub task : (come : List ℕ) (ended : Bool) (tasks : List (T × ℕ)) (next : T)
-      → IsPrefixOf (t.says come ended tasks) (t.says come ended (tasks ++ (next, length come) ∷ []))
-
-abbrev pub SessionsAddInTurn : Type 0
-SessionsAddInTurn = (i : LoginInfo) → AddsInTurn (session_talker i)
+-- A longer stream and the next task only add to what is to be said.
+abbrev pub SessionsOnlyAdd : Type 0
+SessionsOnlyAdd = (i : LoginInfo) → OnlyAdds (session_talker i)
 
 -- All that is to be said in a session has been said, in order and once, and nothing else.
 abbrev pub AllOfASessionIsSaid : Type 0

@@ -1,6 +1,6 @@
 //! Laws of sessions with a target, each a function that does nothing.
 
-ghost use Rattle.nb_sans.specs.SessionLaws.{SessionsAddInTurn, AllOfASessionIsSaid};
+ghost use Rattle.nb_sans.specs.SessionLaws.{SessionsOnlyAdd, AllOfASessionIsSaid};
 ghost use Rattle.nb_sans.specs.SessionLaws.{OnlyTheLoginSpeaksFirst, OnlyRequestsComeFirst};
 ghost use Rattle.nb_sans.specs.SessionLaws.{SessionsEndForACause, EndsStay, ReadingsStay};
 ghost use Rattle.nb_sans.specs.SessionSteps.{PartsFollowTheCut, CallsFollowWhatComes, BytesAloneSayNothing};
@@ -11,7 +11,7 @@ ghost use Rattle.nb_sans.specs.Targets.{HonestAnswersAreTheDisks, HonestCapaciti
 
 /// A longer stream and the next task only add to what is to be said in a session.
 pub fn sessions_only_add()
-    ensures { SessionsAddInTurn }
+    ensures { SessionsOnlyAdd }
 {}
 
 /// Whatever comes, all that is to be said in a session has been said, in order and once.

@@ -60,7 +60,7 @@ module _ {T : Type 0} (t : Talker T) (adds : OnlyAdds t) (isn : ℕ) where
   only_more d (by_time now) so = by_call d (time_came now) refl so
   only_more d (by_task task now) so =
       subst (λ x. IsPrefixOf x (to_say t isn (receives isn d (by_task task now)))) (sym so)
-      (adds.task (front (talk_held isn d)) (has_ended (talk_held isn d)) d.tasks (task, length (front (talk_held isn d))))
+      (adds.task (front (talk_held isn d)) (has_ended (talk_held isn d)) d.tasks task)
 
   all_said_on : (d : Talk T) (came : List (Came T)) → said d.calls ≡ to_say t isn d → said (fold (talks_on t isn) d came).calls ≡ to_say t isn (fold (talks_on t isn) d came)
   all_said_on d [] so = so

@@ -24,12 +24,12 @@ pub record Talker (T : Type 0) : Type 0 where
   pub says : List ℕ → Bool → List (T × ℕ) → List ℕ
   pub ends : ℕ → List ℕ → Bool → List (T × ℕ) → Option Cause
 
--- A longer stream and a further task only add to what is to be said.
+-- A longer stream and the next task, asked after all that has come, only add to what is to be said.
 pub record OnlyAdds {T : Type 0} (t : Talker T) : Type 0 where
   pub stream : (come later : List ℕ) (before after : Bool) (tasks : List (T × ℕ))
       → IsPrefixOf (t.says come before tasks) (t.says (come ++ later) after tasks)
-  pub task : (come : List ℕ) (ended : Bool) (tasks : List (T × ℕ)) (next : T × ℕ)
-      → IsPrefixOf (t.says come ended tasks) (t.says come ended (tasks ++ next ∷ []))
+  pub task : (come : List ℕ) (ended : Bool) (tasks : List (T × ℕ)) (next : T)
+      → IsPrefixOf (t.says come ended tasks) (t.says come ended (tasks ++ (next, length come) ∷ []))
 
 -- what has come to the connection and was given to it to send, and the tasks so far
 pub record Talk (T : Type 0) : Type 0 where
