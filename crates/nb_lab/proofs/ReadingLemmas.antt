@@ -7,8 +7,7 @@ use Rattle.std.proofs.lemmas.Bool.{true≢false, le-ltb}
 use Rattle.std.proofs.lemmas.List.{length-append, length-drop, take_all, take_at, drop_at}
 use Rattle.std.proofs.lemmas.Nat.{from_be_bytes-to_be_bytes_4}
 use Rattle.nb_terms.specs.declared.cause.Cause.{Cause}
-use Rattle.nb_terms.specs.declared.event.Event.{Event}
-use Rattle.nb_defs.specs.Records.{Out, step, sent, text, command, script, opened, tried, advanced, ended, graph, part, done, IsOut, out_text, record_text, cause_text, event_text, word_text, flag_of}
+use Rattle.nb_defs.specs.Records.{Out, step, sent, text, command, script, opened, tried, advanced, ended, graph, part, done, out_text, record_text, cause_text, event_text, word_text, flag_of}
 use Rattle.nb_defs.specs.Records as defs
 use Rattle.nb_lab.specs.declared.image.Image.{Image}
 use Rattle.nb_lab.specs.Shows.{open_for, result, seen, numbered, image_named, image_at_url, image_of}
@@ -19,16 +18,7 @@ pub record IsRead (o : Out) : Type 0 where
   pub kind : ℕ
   pub body : List ℕ
   pub spelled : out_text o ≡ record_text kind body
-  pub short : length body + 1 < 2 ^ 32
   pub read : seen_by kind body ≡ seen o
-
-length-cause_text : (c : Cause) → length (cause_text c) ≡ 9
-unfolding cause_text
-length-cause_text c = refl
-
-length-event_text : (e : Event) → length (event_text e) ≡ 28
-unfolding event_text cause_text
-length-event_text e = refl
 
 zero_first : (c : Cause) → begins_with_zero (cause_text c) ≡ (c.code == 0)
 unfolding cause_text
@@ -41,57 +31,56 @@ by_long false image h = refl
 opened_body : (number kind server port own : ℕ) (target : List ℕ) → image_by (to_be_bytes w16 number ++ (kind ∷ []) ++ to_be_bytes w32 server ++ to_be_bytes w16 port ++ to_be_bytes w16 own ++ to_be_bytes w16 (length target) ++ target) ≡ image_of kind target
 opened_body number kind server port own target = by_long _ _ (le-ltb _ _ (omega arith))
 
-pub each_is_read : (o : Out) → IsOut o → IsRead o
+pub each_is_read : (o : Out) → IsRead o
 unfolding out_text
-each_is_read (step number) h = record { kind = 0x81; body = to_be_bytes w32 number; spelled = refl; short = omega arith; read = refl }
-each_is_read (sent bytes) h = record { kind = 0x82; body = bytes; spelled = refl; short = omega (arith, h.most); read = refl }
-each_is_read (text bytes) h = record { kind = 0x83; body = bytes; spelled = refl; short = omega (arith, h); read = refl }
-each_is_read (command depth line place expanded words) h = record {
+each_is_read (step number) = record { kind = 0x81; body = to_be_bytes w32 number; spelled = refl; read = refl }
+each_is_read (sent bytes) = record { kind = 0x82; body = bytes; spelled = refl; read = refl }
+each_is_read (text bytes) = record { kind = 0x83; body = bytes; spelled = refl; read = refl }
+each_is_read (command depth line place expanded words) = record {
   kind = 0x84;
   body = (depth ∷ []) ++ to_be_bytes w32 line ++ (place ∷ flag_of expanded ∷ length words ∷ []) ++ flat_map word_text words;
   spelled = refl;
-  short = omega (arith, h.1);
   read = refl;
 }
-each_is_read (defs.result cause) h = record {
+each_is_read (defs.result cause) = record {
   kind = 0x85;
   body = cause_text cause;
   spelled = refl;
-  short = omega (arith, length-cause_text cause);
   read = ap result (zero_first cause);
 }
-each_is_read (script what depth cause) h = record {
+each_is_read (script what depth cause) = record {
   kind = 0x86;
   body = what ∷ depth ∷ cause_text cause;
   spelled = refl;
-  short = omega (arith, length-cause_text cause);
   read = refl;
 }
-each_is_read (opened number kind server port own target) h = record {
+each_is_read (opened number kind server port own target) = record {
   kind = 0x87;
   body = to_be_bytes w16 number ++ (kind ∷ []) ++ to_be_bytes w32 server ++ to_be_bytes w16 port ++ to_be_bytes w16 own ++ to_be_bytes w16 (length target) ++ target;
   spelled = refl;
-  short = omega (arith, h);
   read = ap open_for (opened_body number kind server port own target);
 }
-each_is_read (tried number count) h = record { kind = 0x88; body = to_be_bytes w16 number ++ (count ∷ []); spelled = refl; short = omega arith; read = refl }
-each_is_read (advanced number place) h = record { kind = 0x89; body = to_be_bytes w16 number ++ to_be_bytes w32 place; spelled = refl; short = omega arith; read = refl }
-each_is_read (ended number cause) h = record {
+each_is_read (tried number count) = record { kind = 0x88; body = to_be_bytes w16 number ++ (count ∷ []); spelled = refl; read = refl }
+each_is_read (advanced number place) = record { kind = 0x89; body = to_be_bytes w16 number ++ to_be_bytes w32 place; spelled = refl; read = refl }
+each_is_read (ended number cause) = record {
   kind = 0x8a;
   body = to_be_bytes w16 number ++ cause_text cause;
   spelled = refl;
-  short = omega (arith, length-cause_text cause);
   read = refl;
 }
-each_is_read (graph happens) h = record { kind = 0x8b; body = event_text happens; spelled = refl; short = omega (arith, length-event_text happens); read = refl }
-each_is_read (part kind index offset bytes) h = record {
+each_is_read (graph happens) = record { kind = 0x8b; body = event_text happens; spelled = refl; read = refl }
+each_is_read (part kind index offset bytes) = record {
   kind = 0x8c;
   body = (kind ∷ []) ++ to_be_bytes w16 index ++ to_be_bytes w32 offset ++ bytes;
   spelled = refl;
-  short = omega (arith, h);
   read = refl;
 }
-each_is_read (done status) h = record { kind = 0x8d; body = status ∷ []; spelled = refl; short = omega arith; read = refl }
+each_is_read (done status) = record { kind = 0x8d; body = status ∷ []; spelled = refl; read = refl }
+
+-- a record's type and its length stand before its body
+pub length-record_text : (kind : ℕ) (body : List ℕ) → length (record_text kind body) ≡ 5 + length body
+unfolding record_text
+length-record_text kind body = omega arith
 
 -- what some records begin with
 pub record IsFront (records : List ℕ) (kind : ℕ) (body rest : List ℕ) : Type 0 where

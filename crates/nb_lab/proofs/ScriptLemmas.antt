@@ -35,7 +35,7 @@ length-lines from zero small = omega arith
 length-lines from (suc count) small =
     omega (arith, length-append (fetch_lines from) (flat_map fetch_lines (range_with_len (from + 1) count)), length-fetch_lines from (omega arith), length-lines (from + 1) count (omega arith))
 
-length-script_text : (images : ℕ) → images < 256 → length (script_text images) ≤ 130996
+pub length-script_text : (images : ℕ) → images < 256 → length (script_text images) ≤ 10212
 unfolding script_text
 length-script_text images small =
     let lines = flat_map fetch_lines (range_with_len 0 images) in
@@ -97,5 +97,5 @@ start_is_valid images small = record {
   mask_fits = omega arith;
   gateway_fits = omega arith;
   dns_fits = omega arith;
-  script_fits = length-script_text images small;
+  script_fits = omega (arith, length-script_text images small);
 }

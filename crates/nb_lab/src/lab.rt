@@ -1,10 +1,10 @@
 //! A lab.
 
-ghost use Rattle.std.specs.Prelude.{◌≡◌, ◌+◌, ◌≤◌, IfOk, OnOk, OnErr, option_and_then, vec_capacity};
+ghost use Rattle.std.specs.Prelude.{◌≡◌, ◌+◌, ◌≤◌, length, IfOk, OnOk, OnErr, option_and_then, vec_capacity};
 ghost use Rattle.nb_defs.specs.Records.{IsFrameRecord, IsIn, IsStart};
 ghost use Rattle.nb_record.specs.View.{in_of, start_of};
 ghost use Rattle.nb_lab.specs.Answers.{answer_frame};
-ghost use Rattle.nb_lab.specs.Scripts.{lab_start};
+ghost use Rattle.nb_lab.specs.Scripts.{lab_start, script_text};
 ghost use Rattle.nb_lab.specs.Servers.{server_later, file_again, stream_again};
 ghost use Rattle.nb_lab.specs.Transits.{sent_if};
 ghost use Rattle.nb_lab.specs.Labs.{new_lab, IsGiven, after_next, next_record, coming};
@@ -74,6 +74,7 @@ impl Lab {
     pub fn start(&self) -> Start<'_>
         ensures value { start_of result ≡ lab_start self.now.server.images }
         ensures valid { IsStart (lab_start self.now.server.images) }
+        ensures short { length (script_text self.now.server.images) ≤ 10212 }
     {
         Start {
             mac: CLIENT_MAC,

@@ -1,7 +1,7 @@
 //! What the output of a run shows of what is counted.
 
-ghost use Rattle.std.specs.Prelude.{◌≡◌, ◌+◌, ◌<◌, ◌^◌, ◌++◌, ℕ, List, length, IsSomeAnd};
-ghost use Rattle.nb_defs.specs.Records.{Out, IsOut, out_text, record_text};
+ghost use Rattle.std.specs.Prelude.{◌≡◌, ◌+◌, ◌<◌, ◌^◌, ◌++◌, ℕ, List, length, IsSomeAnd, IfSome};
+ghost use Rattle.nb_defs.specs.Records.{Out, out_text, record_text};
 ghost use Rattle.nb_lab.specs.Shows.{seen, seen_of, image_at_url, image_of};
 ghost use Rattle.nb_lab.specs.Readings.{seen_by, begins_with_zero, image_by};
 
@@ -48,15 +48,17 @@ pub enum Shown<'a> {
 impl<'a> Shown<'a> {
     /// The first of some records as they are spelled, and the bytes after it. None where no whole record stands there.
     pub fn read(records: &'a [u8]) -> Option<(Shown<'a>, &'a [u8])>
-        ensures { (o : Out) (rest : List ℕ) → IsOut o → records.now ≡ out_text o ++ rest
+        ensures first { (o : Out) (rest : List ℕ) → length (out_text o) < 2 ^ 32 → records.now ≡ out_text o ++ rest
             → IsSomeAnd result (λ r. (seen_of r.0 ≡ seen o) × (r.1.now ≡ rest)) }
+        ensures shorter { IfSome result (λ r. length r.1.now < length records.now) }
     {
         Shown::read_record(records)
     }
 
     fn read_record(records: &'a [u8]) -> Option<(Shown<'a>, &'a [u8])>
-        ensures { (kind : ℕ) (body rest : List ℕ) → length body + 1 < 2 ^ 32 → records.now ≡ record_text kind body ++ rest
+        ensures first { (kind : ℕ) (body rest : List ℕ) → length body + 1 < 2 ^ 32 → records.now ≡ record_text kind body ++ rest
             → IsSomeAnd result (λ r. (seen_of r.0 ≡ seen_by kind body) × (r.1.now ≡ rest)) }
+        ensures shorter { IfSome result (λ r. length r.1.now < length records.now) }
     {
         let mut view = View::new(records);
         let len = view.u32()? as usize;

@@ -1,7 +1,7 @@
 use Rattle.std.proofs.Common.{◌≡◌, ◌<◌, ap, subst, ◌∙◌}
 use Rattle.nb_lab.specs.Labs.{LabState}
 use Rattle.nb_lab.specs.Scripts.{script_text}
-use Rattle.nb_lab.proofs.ScriptLemmas.{started_with, start_is_valid}
+use Rattle.nb_lab.proofs.ScriptLemmas.{length-script_text, started_with, start_is_valid}
 use Rattle.nb_lab.proofs.lab.Lab.start.Goals as goal
 
 pub returns-clause-value : goal.returns-clause-value
@@ -14,3 +14,8 @@ pub returns-clause-valid : goal.returns-clause-valid
 returns-clause-valid c =
     let Few : LabState → Type 0 = λ l. l.server.images < 256 in
     start_is_valid c.args.self.now.server.images (subst Few c.self.view_is c.self.invariant.2)
+
+pub returns-clause-short : goal.returns-clause-short
+returns-clause-short c =
+    let Few : LabState → Type 0 = λ l. l.server.images < 256 in
+    length-script_text c.args.self.now.server.images (subst Few c.self.view_is c.self.invariant.2)

@@ -3,14 +3,14 @@ use Rattle.std.proofs.lemmas.Bool.{true≢false}
 use Rattle.nb_lab.proofs.ReadingLemmas.{front, front_len, front_record, front_rest, same_seen, take_rest}
 use Rattle.nb_lab.proofs.shown.Shown.read_record.Goals as goal
 
-pub returns-in_err-len : goal.returns-in_err-len
-returns-in_err-len c = λ kind body rest short is.
+pub returns-in_err-len-clause-first : goal.returns-in_err-len-clause-first
+returns-in_err-len-clause-first c = λ kind body rest short is.
     let f = front c.args.records.now kind body rest short is in
     let same = ap length c.new-view.ensures.bytes in
     absurd (true≢false (sym (c.in_err-len.ensures.enough.1 (omega (arith, f.long, same, c.new-view.ensures.start)))))
 
-pub returns-in_err-record : goal.returns-in_err-record
-returns-in_err-record c = λ kind body rest short is.
+pub returns-in_err-record-clause-first : goal.returns-in_err-record-clause-first
+returns-in_err-record-clause-first c = λ kind body rest short is.
     let records = c.args.records.now in
     let f = front records kind body rest short is in
     let same = c.in_ok-len.ensures.same ∙ c.new-view.ensures.bytes in
@@ -21,8 +21,8 @@ returns-in_err-record c = λ kind body rest short is.
     omega (arith, f.long, ap length same, len, c.in_ok-len.ensures.read, start) in
     absurd (true≢false (sym (c.in_err-record.ensures.enough.1 fits)))
 
-pub returns-in_err-kind : goal.returns-in_err-kind
-returns-in_err-kind c = λ kind body rest short is.
+pub returns-in_err-kind-clause-first : goal.returns-in_err-kind-clause-first
+returns-in_err-kind-clause-first c = λ kind body rest short is.
     let records = c.args.records.now in
     let f = front records kind body rest short is in
     let same = c.in_ok-len.ensures.same ∙ c.new-view.ensures.bytes in
@@ -35,8 +35,8 @@ returns-in_err-kind c = λ kind body rest short is.
     let none : ⊥ = omega (arith, c.in_err-kind.ensures.cases, ap length entry) in
     absurd none
 
-pub returns : goal.returns
-returns c = λ kind body rest short is.
+pub returns-clause-first : goal.returns-clause-first
+returns-clause-first c = λ kind body rest short is.
     let records = c.args.records.now in
     let f = front records kind body rest short is in
     let same = c.in_ok-len.ensures.same ∙ c.new-view.ensures.bytes in
