@@ -148,7 +148,7 @@ short_end ins held first before now log m at number closers q r p c = record {
 }
 
 -- what DONE tells is said of a run that is over
-over_says : (s : Status) (before after : Outside) (r : Run before after) → IsClosing s → IsOver before after r (status_number s) → Says s before after r
+pub over_says : (s : Status) (before after : Outside) (r : Run before after) → IsClosing s → IsOver before after r (status_number s) → Says s before after r
 over_says status.HandedOff before after r e o = o
 over_says status.Ended before after r e o = o
 over_says status.ScriptFailed before after r e o = o

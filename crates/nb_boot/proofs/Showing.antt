@@ -32,7 +32,7 @@ use Rattle.nb_traced.proofs.WhoseEvents.{events_are_theirs, opens_take_all, puts
 use Rattle.nb_traced.proofs.WhoseMades.{mades_are_theirs}
 
 -- what a traced output says of the graph
-says_of_graph : (outs : List Out) (h : Holdings) (came : List Arrived) → Traced outs h came → SaysOfGraph outs
+pub says_of_graph : (outs : List Out) (h : Holdings) (came : List Arrived) → Traced outs h came → SaysOfGraph outs
 says_of_graph outs h came t = record {
   state = h.state;
   legal = has_led outs h came t;
@@ -60,15 +60,15 @@ says_of_graph outs h came t = record {
 leads_to_none : (outs : List Out) (h : Holdings) (came : List Arrived) → Traced outs h came → h.living ≡ [] → h.waits ≡ [] → LeadsToNone outs
 leads_to_none outs h came t living waits = record { state = h.state; led = has_led outs h came t; none = none_is_left outs h came t living waits }
 
-either_shuts : (es : List Event) (p : Standing) (closing : List Out) → AgreesStanding es p → (closing ≡ []) ⊎ ShutsStanding p closing → (closing ≡ []) ⊎ ShutsLive es closing
+pub either_shuts : (es : List Event) (p : Standing) (closing : List Out) → AgreesStanding es p → (closing ≡ []) ⊎ ShutsStanding p closing → (closing ≡ []) ⊎ ShutsLive es closing
 either_shuts es p closing a (inl none) = inl none
 either_shuts es p closing a (inr shuts) = inr (shuts_live es p closing a shuts)
 
 -- the history of a run
-abbrev history_of : (before after : Outside) (r : Run before after) → (es : List Event) × IsHistory r.ins (without_graph r.outs) es × ((other : List Event) → IsHistory r.ins (without_graph r.outs) other → other ≡ es)
+abbrev pub history_of : (before after : Outside) (r : Run before after) → (es : List Event) × IsHistory r.ins (without_graph r.outs) es × ((other : List Event) → IsHistory r.ins (without_graph r.outs) other → other ≡ es)
 history_of before after r = has_one r.ins (without_graph r.outs) r.progress (follows_course r.ins r.outs r.progress r.came r.follows)
 
-abbrev shown_by : (before after : Outside) (r : Run before after) → Shown before after
+abbrev pub shown_by : (before after : Outside) (r : Run before after) → Shown before after
 shown_by before after r =
     let course = follows_course r.ins r.outs r.progress r.came r.follows in
     let es = (history_of before after r).0 in
@@ -136,7 +136,7 @@ theirs before after r e =
     let hands = hands_all r.ins (without_graph r.outs) r.progress t.0 s at (follows_course r.ins r.outs r.progress r.came r.follows) t.1 in
     (hands, λ store honest. subst (λ (z : ImageList). AllByRecursion (IsFileOf store t.0) z.images) (sym hands.list_is) (brings_theirs t.0 store honest))
 
-said : (s : Status) (before after : Outside) (r : Run before after) → Says s before after r → IsSaid s before after (shown_by before after r)
+pub said : (s : Status) (before after : Outside) (r : Run before after) → Says s before after r → IsSaid s before after (shown_by before after r)
 said status.HandedOff before after r h = (ended_by before after r 0 h, theirs before after r h.ends)
 said status.Ended before after r h = ended_by before after r 3 h
 said status.ScriptFailed before after r h = ended_by before after r 4 h

@@ -13,4 +13,5 @@ mod turn;
 mod words;
 
 pub use nb_runner::Status;
+pub use output::write_all;
 pub use top::netboot;

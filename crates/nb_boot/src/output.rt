@@ -26,7 +26,7 @@ impl Flaw {
 }
 
 /// Writes all the bytes, in as few writes as the line allows.
-fn write_all<L: Line>(bytes: &[u8], line: &mut L) -> Result<(), Failed>
+pub fn write_all<L: Line>(bytes: &[u8], line: &mut L) -> Result<(), Failed>
     ensures ok { OnOk result (Wrote (L.outside line.old) (L.outside line.new) bytes.now) }
     ensures err { OnErr result (Stopped (L.outside line.old) (L.outside line.new) bytes.now) }
 {
