@@ -1,0 +1,10 @@
+mod WordLemmas
+mod StartLemmas
+mod DeliverLemmas
+mod CommandLemmas
+mod KeepingLemmas
+mod TextLemmas
+mod LeadLemmas
+mod PlayLemmas
+mod TurnLemmas
+mod EndLemmas
