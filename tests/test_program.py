@@ -11,7 +11,15 @@ USAGE = "usage: netboot replay IN OUT | live HOST:PORT | lab N\n"
 
 # recordings, and words
 INPUTS = {"hello": made.HELLO_INPUT, "empty": b""}
-WORDS = {"missing": ["replay", "/none/in", "/none/out"], "words": ["replay", "a"]}
+WORDS = {
+    "missing": ["replay", "/none/in", "/none/out"],
+    "words": ["replay", "a"],
+    "lab": ["lab", "2"],
+    "labs": ["lab", "65"],
+}
+
+# what two images in a lab come to, worked by hand in crates/nb_labrun_tests
+SUMMARY = "images 2\nbytes 2977\nrecords 13\nframes 12\ntries 6\nstatus 3\n"
 
 
 @unittest.skipUnless(can_run(), "the program isn't built, and the toolchain's rt is missing")
@@ -34,6 +42,11 @@ class Program(unittest.TestCase):
 
     def test_words(self) -> None:
         self.ended("words", 2, USAGE, None)
+        self.ended("labs", 2, USAGE, None)
+
+    def test_lab(self) -> None:
+        ran = replayed()["lab"]
+        self.assertEqual((ran.ending, ran.status, ran.said), ("ended", 3, SUMMARY))
 
 
 if __name__ == "__main__":

@@ -89,7 +89,7 @@ fn read_from<F: Read>(part: Part, input: &mut F, buf: &mut [u8]) -> Result<usize
 }
 
 /// Writes to a part. A write that takes nothing of a piece that isn't empty has failed.
-fn write_to<F: Write>(part: Part, output: &mut F, buf: &[u8]) -> Result<usize, Fault>
+pub fn write_to<F: Write>(part: Part, output: &mut F, buf: &[u8]) -> Result<usize, Fault>
     ensures within { IfOk result (λ n. n ≤ length buf.now) }
     ensures some { IfOk result (λ n. 0 < length buf.now → 0 < n) }
 {

@@ -7,6 +7,8 @@ pub enum Part {
     Input,
     Output,
     Peer,
+    /// Standard output.
+    Printed,
 }
 
 /// Why a part failed.

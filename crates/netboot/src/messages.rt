@@ -1,8 +1,6 @@
 use crate::fault::{Fault, Part};
-use crate::real_line::RealLine;
+use crate::trail::Place;
 use nb_boot::Status;
-use std::fs::Files;
-use std::net::Net;
 
 /// What `--help` prints.
 pub const HELP: &str = "\
@@ -11,6 +9,7 @@ netboot: runs an iPXE script over records of what the network and the clock brin
 usage:
   netboot replay IN OUT      reads records from the file IN, and writes records to the file OUT
   netboot live HOST:PORT     reads records from a bridge, and writes records to it (tools/bridge.py)
+  netboot lab N              fetches N images, 1 to 64, from servers of its own that lose frames, and prints a summary
   netboot --help             prints this
   netboot --version          prints the version
 
@@ -36,11 +35,12 @@ pub fn complaint(status: Status) -> Option<&'static str> {
     }
 }
 
-/// The word that names a part of a line: IN, OUT or the peer.
+/// What a part of a line is called: IN, OUT or the peer by its word, or standard output.
 fn name(words: &[String], part: Part) -> &str {
     let at = match part {
         Part::Input | Part::Peer => 1,
         Part::Output => 2,
+        Part::Printed => return "standard output",
     };
     match words.get(at) {
         Some(word) => word.as_str(),
@@ -48,12 +48,14 @@ fn name(words: &[String], part: Part) -> &str {
     }
 }
 
-/// Prints the lines of a status to standard error: its own, and then which file or peer, and why.
-pub fn explain<R: Files + Net + Eprint + AllocGlobal>(
+/// Prints the lines of a status to standard error: its own, and then which file or peer, and why, by the last fault and
+/// the record that was refused.
+pub fn explain<R: Eprint>(
     rt: &R,
     status: Status,
     words: &[String],
-    line: &RealLine<'_, R>,
+    fault: Option<Fault>,
+    refused: Option<Place>,
 ) {
     let Some(first) = complaint(status) else {
         return;
@@ -62,12 +64,12 @@ pub fn explain<R: Files + Net + Eprint + AllocGlobal>(
     let _ = rt.eprintln(first);
     match status {
         Status::ReadFault | Status::WriteFault | Status::AttachFault => {
-            if let Some(Fault { part, reason }) = line.fault() {
+            if let Some(Fault { part, reason }) = fault {
                 let _ = eprintln!(rt; "{}: {}", name(words, part), reason);
             }
         }
         Status::BadRecord => {
-            if let Some(place) = line.refused() {
+            if let Some(place) = refused {
                 let _ = eprintln!(rt; "{}: {}", name(words, Part::Input), place);
             }
         }

@@ -21,7 +21,7 @@ pub struct RealLine<'r, R: Files + Net> {
 }
 
 /// One fault more; a count that stands at its end stays there.
-fn risen(count: u64) -> u64
+pub fn risen(count: u64) -> u64
     ensures { result ≡ min (count + 1) (2 ^ 64 - 1) }
 {
     count.saturating_add(1)
