@@ -1,8 +1,9 @@
--- How what connections and fetches by HTTP carry is a load of an open's objects: our own.
+-- How what connections, fetches by HTTP and drives carry is a load of an open's objects: our own.
 use Rattle.std.specs.Prelude.{◌++◌, Option, Some, None, refl}
 use Rattle.std.proofs.Common.{append-nil}
 use Rattle.nb_conns.specs.declared.conn_load.ConnLoad.{ConnLoad}
 use Rattle.nb_conns.specs.ConnLoads.{Carrier}
+use Rattle.nb_drivenodes.specs.DriveEffects.{TextCarrier}
 use Rattle.nb_webnodes.specs.WebEffects.{WebCarrier}
 use Rattle.nb_nodes.specs.declared.load.Load.{Load}
 use Rattle.nb_nodes.specs.declared.load.Load.TheVariants as load
@@ -26,3 +27,6 @@ conn_carrier = record {
 
 abbrev pub web_carrier : WebCarrier Load
 web_carrier = record { as_load = λ t. load.Text t; load_bytes = λ l. first_part l ++ second_part l; same_text = λ t. append-nil t }
+
+abbrev pub text_carrier : TextCarrier Load
+text_carrier = record { as_load = λ t. load.Text t; load_bytes = λ l. first_part l ++ second_part l; same_text = λ t. append-nil t }

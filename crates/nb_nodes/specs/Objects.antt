@@ -37,6 +37,8 @@ kind_of_obj (obj.Dhcp d) = 6
 kind_of_obj (obj.Ping p) = 7
 kind_of_obj (obj.Http p) = 2
 kind_of_obj (obj.Tcp p) = 3
+kind_of_obj (obj.Iscsi p) = 8
+kind_of_obj (obj.Disk p) = 9
 
 abbrev pub rank_of_obj : Obj → ℕ
 rank_of_obj (obj.Fetch f) = 5
@@ -46,6 +48,8 @@ rank_of_obj (obj.Dhcp d) = 2
 rank_of_obj (obj.Ping p) = 5
 rank_of_obj (obj.Http p) = 3
 rank_of_obj (obj.Tcp p) = 2
+rank_of_obj (obj.Iscsi p) = 3
+rank_of_obj (obj.Disk p) = 5
 
 -- its body was whole, and is handed out
 abbrev pub is_handed : Fetch → Bool
@@ -65,6 +69,8 @@ mark_of_obj (obj.Dhcp d) = 6
 mark_of_obj (obj.Ping p) = 7
 mark_of_obj (obj.Http p) = 2
 mark_of_obj (obj.Tcp p) = 3
+mark_of_obj (obj.Iscsi p) = 8
+mark_of_obj (obj.Disk p) = 9
 
 -- what nb_graph knows of them
 abbrev pub obj_nature : Nature Obj Load

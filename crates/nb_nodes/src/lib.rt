@@ -3,7 +3,7 @@
 // Resolver looks a name up (RFC 1035), a Dhcp asks for a lease (RFC 2131), and a Ping for an echo (RFC 792). These three
 // are one `Asker`, each over its `Core`. What each has done is said over its trace: of a Tftp in terms of nb_tftp's
 // history (specs/Conversations.antt), of a Fetch in terms of what it took (specs/Fetches.antt), of an Asker in terms of
-// its core's history (specs/Exchanges.antt). Drives are left out. Begin with `Obj`, then `Tag`.
+// its core's history (specs/Exchanges.antt); a drive's two objects are those of nb_drivenodes. Begin with `Obj`, then `Tag`.
 #![tactic(auto)]
 
 mod ask;

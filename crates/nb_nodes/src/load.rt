@@ -1,8 +1,9 @@
 ghost use Rattle.std.specs.Prelude.{◌≡◌, refl};
 ghost use Rattle.nb_nodes.specs.Objects.{first_body, first_part, second_part};
-ghost use Rattle.nb_nodes.specs.Carriers.{conn_carrier, web_carrier};
+ghost use Rattle.nb_nodes.specs.Carriers.{conn_carrier, text_carrier, web_carrier};
 
 use nb_conns::{CarriesConn, ConnLoad};
+use nb_drivenodes::CarriesText;
 use nb_graph::Parts;
 use nb_image::Body;
 use nb_terms::{Acts, SendTo};
@@ -20,7 +21,8 @@ pub enum Load {
     Datagram(Box<Acts>),
     /// What a connection lends: its segments, or the bytes that go up.
     Conn(ConnLoad),
-    /// A text of a fetch by HTTP: its request, bytes of a body that it gathered, or a move.
+    /// A text of a fetch by HTTP: its request, bytes of a body that it gathered, or a move; or one of a session: a
+    /// request, or a PDU.
     Text(Text),
 }
 
@@ -69,6 +71,25 @@ impl CarriesWeb for Load {
     }
 
     fn into_text(self) -> Option<Text> {
+        match self {
+            Load::Body(_) => None,
+            Load::Datagram(_) => None,
+            Load::Conn(_) => None,
+            Load::Text(text) => Some(text),
+        }
+    }
+}
+
+impl CarriesText for Load {
+    ghost texts = { text_carrier };
+
+    ghost text_parts = { λ load. refl };
+
+    fn load_of(text: Text) -> Load {
+        Load::Text(text)
+    }
+
+    fn text_of(self) -> Option<Text> {
         match self {
             Load::Body(_) => None,
             Load::Datagram(_) => None,

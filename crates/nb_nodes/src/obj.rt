@@ -7,6 +7,7 @@ use crate::{Asker, Fetch, Load, Tftp};
 use nb_conns::Tcp;
 use nb_dhcp::Dhcp;
 use nb_dns::Dns;
+use nb_drivenodes::{Iscsi, LogicalUnit};
 use nb_graph::{Fx, Msg, Node};
 use nb_ping::Ping;
 use nb_terms::{Cause, NoMemory};
@@ -23,6 +24,8 @@ pub enum Obj {
     Ping(Box<Asker<Ping>>),
     Http(Box<Web>),
     Tcp(Box<Tcp>),
+    Iscsi(Box<Iscsi>),
+    Disk(Box<LogicalUnit>),
 }
 
 impl Obj {
@@ -97,6 +100,30 @@ impl Obj {
         Ok(Obj::Tcp(tcp))
     }
 
+    /// A session that waits for what to ask for.
+    pub fn iscsi(alloc: Global) -> Result<Obj, NoMemory>
+        ensures stands { IfOk result (λ o. ObjStands o []) }
+        ensures rank { IfOk result (λ o. rank_of_obj o ≡ 3) }
+        ensures kind { IfOk result (λ o. kind_of_obj o ≡ 8) }
+        ensures mark { IfOk result (λ o. mark_of_obj o ≡ 8) }
+    {
+        let waiting = Iscsi::new(alloc)?;
+        let session = Box::new(alloc, waiting)?;
+        Ok(Obj::Iscsi(session))
+    }
+
+    /// A logical unit that waits for what to ask for.
+    pub fn disk(alloc: Global) -> Result<Obj, NoMemory>
+        ensures stands { IfOk result (λ o. ObjStands o []) }
+        ensures rank { IfOk result (λ o. rank_of_obj o ≡ 5) }
+        ensures kind { IfOk result (λ o. kind_of_obj o ≡ 9) }
+        ensures mark { IfOk result (λ o. mark_of_obj o ≡ 9) }
+    {
+        let waiting = LogicalUnit::new(alloc);
+        let unit = Box::new(alloc, waiting)?;
+        Ok(Obj::Disk(unit))
+    }
+
     /// A load that was lent comes back. Not inlined, as only a Tftp's and a Tcp's are frequent.
     #[inline(never)]
     fn take_back(&mut self, load: Load)
@@ -114,6 +141,8 @@ impl Obj {
             Obj::Ping(ping) => ping.regain(load),
             Obj::Http(web) => web.regain::<Obj, Load>(load),
             Obj::Tcp(tcp) => tcp.regain::<Obj, Load>(load),
+            Obj::Iscsi(session) => session.regain::<Obj, Load>(load),
+            Obj::Disk(unit) => unit.regain::<Obj, Load>(load),
         }
     }
 }
@@ -140,6 +169,8 @@ impl Node for Obj {
             Obj::Ping(_) => 5,
             Obj::Http(_) => 3,
             Obj::Tcp(_) => 2,
+            Obj::Iscsi(_) => 3,
+            Obj::Disk(_) => 5,
         }
     }
 
@@ -152,6 +183,8 @@ impl Node for Obj {
             Obj::Ping(_) => 7,
             Obj::Http(_) => 2,
             Obj::Tcp(_) => 3,
+            Obj::Iscsi(_) => 8,
+            Obj::Disk(_) => 9,
         }
     }
 
@@ -171,6 +204,8 @@ impl Node for Obj {
             Obj::Ping(ping) => ping.on_up(slot, msg, now, fx),
             Obj::Http(web) => web.on_up(slot, msg, fx),
             Obj::Tcp(tcp) => tcp.on_up(slot, msg, now, fx),
+            Obj::Iscsi(session) => session.on_up(slot, msg, fx),
+            Obj::Disk(unit) => unit.on_up(slot, msg, fx),
         }
     }
 
@@ -186,6 +221,8 @@ impl Node for Obj {
             Obj::Ping(ping) => ping.on_down(msg, now, fx),
             Obj::Http(web) => web.on_down(msg, fx),
             Obj::Tcp(tcp) => tcp.on_down(msg, now, fx),
+            Obj::Iscsi(session) => session.on_down(msg, fx),
+            Obj::Disk(unit) => unit.on_down(msg, fx),
         }
     }
 
@@ -198,6 +235,8 @@ impl Node for Obj {
             Obj::Ping(ping) => ping.on_close(slot, cause, fx),
             Obj::Http(web) => web.on_close(slot, cause, fx),
             Obj::Tcp(tcp) => tcp.on_close(slot, cause, fx),
+            Obj::Iscsi(session) => session.on_close(slot, cause, fx),
+            Obj::Disk(unit) => unit.on_close(slot, cause, fx),
         }
     }
 
@@ -213,6 +252,14 @@ impl Node for Obj {
                 Ok(())
             }
             Obj::Tcp(tcp) => tcp.on_time(now, fx),
+            Obj::Iscsi(session) => {
+                session.on_time(fx);
+                Ok(())
+            }
+            Obj::Disk(unit) => {
+                unit.on_time(fx);
+                Ok(())
+            }
         }
     }
 
@@ -234,6 +281,8 @@ impl Node for Obj {
             Obj::Ping(_) => None,
             Obj::Http(_) => None,
             Obj::Tcp(_) => None,
+            Obj::Iscsi(_) => None,
+            Obj::Disk(_) => None,
         }
     }
 }
