@@ -40,12 +40,16 @@ from_node (obj.Fetch fe) (obj.Dhcp q) r t body at s well taken zero h = absurd h
 from_node (obj.Fetch fe) (obj.Ping q) r t body at s well taken zero h = absurd h
 from_node (obj.Fetch fe) (obj.Http q) r t body at s well taken zero h = absurd h
 from_node (obj.Fetch fe) (obj.Tcp q) r t body at s well taken zero h = absurd h
+from_node (obj.Fetch fe) (obj.Iscsi q) r t body at s well taken zero h = absurd h
+from_node (obj.Fetch fe) (obj.Disk q) r t body at s well taken zero h = absurd h
 from_node (obj.Tftp p) after r t body at s well taken zero h = absurd (omega (arith, at))
 from_node (obj.Resolver p) after r t body at s well taken zero h = absurd (omega (arith, at))
 from_node (obj.Dhcp p) after r t body at s well taken zero h = absurd (omega (arith, at))
 from_node (obj.Ping p) after r t body at s well taken zero h = absurd (omega (arith, zero))
 from_node (obj.Http p) after r t body at s well taken zero h = absurd (omega (arith, at))
 from_node (obj.Tcp p) after r t body at s well taken zero h = absurd (omega (arith, at))
+from_node (obj.Iscsi p) after r t body at s well taken zero h = absurd (omega (arith, at))
+from_node (obj.Disk p) after r t body at s well taken zero h = absurd (omega (arith, zero))
 
 -- it is the body of the open
 pub harvests_body : (g h : Objects Obj) (f t : ℕ) (r : Option Load) (body : Option (List ℕ)) → AreNoded rank_of_obj g → Harvests ObjHarvests g h (serial f) r → HasHandedOut g f t body → body_in r ≡ body

@@ -72,6 +72,8 @@ look_kind = record {
   hosts (obj.Ping p) t e h = absurd (omega (arith, e))
   hosts (obj.Http p) t e h = absurd (omega (arith, e))
   hosts (obj.Tcp p) t e h = absurd (omega (arith, e))
+  hosts (obj.Iscsi p) t e h = absurd (omega (arith, e))
+  hosts (obj.Disk p) t e h = absurd (omega (arith, e))
 
 pub lease_kind : IsKind lease_service LeaseAsks 6
 lease_kind = record {
@@ -88,6 +90,8 @@ lease_kind = record {
   hosts (obj.Ping p) t e h = absurd (omega (arith, e))
   hosts (obj.Http p) t e h = absurd (omega (arith, e))
   hosts (obj.Tcp p) t e h = absurd (omega (arith, e))
+  hosts (obj.Iscsi p) t e h = absurd (omega (arith, e))
+  hosts (obj.Disk p) t e h = absurd (omega (arith, e))
 
 pub ping_kind : IsKind ping_service PingAsks 7
 ping_kind = record {
@@ -104,6 +108,8 @@ ping_kind = record {
   hosts (obj.Ping p) t e h = (p.value.stage, h)
   hosts (obj.Http p) t e h = absurd (omega (arith, e))
   hosts (obj.Tcp p) t e h = absurd (omega (arith, e))
+  hosts (obj.Iscsi p) t e h = absurd (omega (arith, e))
+  hosts (obj.Disk p) t e h = absurd (omega (arith, e))
 
 meets_at : {S B C : Type 0} (s : Service S B C) (stage : CoreStage S) (v : AskerState B C) → StandsMeets s → AskerIsAt s stage v → MeetsAt s v
 meets_at s _ _ met before_it = tt

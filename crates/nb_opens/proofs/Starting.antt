@@ -81,6 +81,8 @@ fetch-node (obj.Dhcp p) tx r m s = absurd (omega (arith, r))
 fetch-node (obj.Ping p) tx r m s = absurd (omega (arith, m))
 fetch-node (obj.Http p) tx r m s = absurd (omega (arith, r))
 fetch-node (obj.Tcp p) tx r m s = absurd (omega (arith, r))
+fetch-node (obj.Iscsi p) tx r m s = absurd (omega (arith, r))
+fetch-node (obj.Disk p) tx r m s = absurd (omega (arith, m))
 
 tftp-node : (n : Obj) (tx : List (NodeEntry Obj Load)) → rank_of_obj n ≡ 2 → mark_of_obj n ≡ 0 → ObjStands n tx → (p : Tftp) × TftpStands p tx
 tftp-node (obj.Fetch fe) tx r m s = absurd (omega (arith, r))
@@ -90,6 +92,8 @@ tftp-node (obj.Dhcp p) tx r m s = absurd (omega (arith, m))
 tftp-node (obj.Ping p) tx r m s = absurd (omega (arith, r))
 tftp-node (obj.Http p) tx r m s = absurd (omega (arith, r))
 tftp-node (obj.Tcp p) tx r m s = absurd (omega (arith, m))
+tftp-node (obj.Iscsi p) tx r m s = absurd (omega (arith, m))
+tftp-node (obj.Disk p) tx r m s = absurd (omega (arith, m))
 
 -- what happened in the one call
 abbrev pub deeds_in : (g h : Objects Obj) (m n : Heard) (now : ℕ) (asks : List (Stage Obj Load)) → WentOne ObjStands obj_nature now asks g h m n → List (Deed Obj Load)
