@@ -1,3 +1,4 @@
+pub mod DriveMakes
 pub mod StreamMakes
 pub mod NoMakes
 pub mod GivingLemmas

@@ -12,6 +12,7 @@ use Rattle.nb_nodes.specs.Conversations.{Conversation, Continues, RunsTo, begins
 use Rattle.nb_nodes.specs.Exchanges.{Service, AskerState, AskerTakes, AskerLeadsTo, is_begun, takes_message, takes_time, is_ended, stays_idle}
 use Rattle.nb_nodes.specs.Fetches.{EachOf, AsksOfFetch, AsksOfUp, brings_move}
 use Rattle.nb_nodes.specs.Standing.{ObjStands}
+use Rattle.nb_chains.proofs.DriveMakes.{session_last, unit_last}
 use Rattle.nb_chains.proofs.StreamMakes.{web_last, conn_last}
 
 false_not : (b : Bool) → not b ≡ true → b ≡ true → ⊥
@@ -78,6 +79,8 @@ obj_makes (obj.Dhcp d) t e h = leads_last _ t e _ h.exchange h.run
 obj_makes (obj.Ping p) t e h = leads_last _ t e _ h.exchange h.run
 obj_makes (obj.Http p) t e h = web_last _ t e _ h.talk h.run
 obj_makes (obj.Tcp p) t e h = conn_last _ t e _ h.dialogue h.run
+obj_makes (obj.Iscsi p) t e h = session_last _ t e _ h.talk h.run
+obj_makes (obj.Disk p) t e h = unit_last _ t e _ h.talk h.run
 
 -- so none of its entries does
 pub makes_none : (x : ℕ) (t : List (NodeEntry Obj Load)) (ds : List (Deed Obj Load)) → Stood ObjStands x t ds → MakesNone x ds

@@ -48,6 +48,8 @@ lookup_not (obj.Dhcp d) t b start calls e fresh stands run = omega (arith, e)
 lookup_not (obj.Ping p) t b start calls e fresh stands run = omega (arith, e)
 lookup_not (obj.Http p) t b start calls e fresh stands run = omega (arith, e)
 lookup_not (obj.Tcp p) t b start calls e fresh stands run = omega (arith, e)
+lookup_not (obj.Iscsi p) t b start calls e fresh stands run = omega (arith, e)
+lookup_not (obj.Disk p) t b start calls e fresh stands run = omega (arith, e)
 
 lease_not : AsksNot lease_service 6
 lease_not (obj.Fetch f) t b start calls e fresh stands run = low_mark (is_handed f) 6 e (omega arith)
@@ -57,6 +59,8 @@ lease_not (obj.Dhcp d) t b start calls e fresh stands run = idle_asks_not lease_
 lease_not (obj.Ping p) t b start calls e fresh stands run = omega (arith, e)
 lease_not (obj.Http p) t b start calls e fresh stands run = omega (arith, e)
 lease_not (obj.Tcp p) t b start calls e fresh stands run = omega (arith, e)
+lease_not (obj.Iscsi p) t b start calls e fresh stands run = omega (arith, e)
+lease_not (obj.Disk p) t b start calls e fresh stands run = omega (arith, e)
 
 ping_not : AsksNot ping_service 7
 ping_not (obj.Fetch f) t b start calls e fresh stands run = low_mark (is_handed f) 7 e (omega arith)
@@ -66,6 +70,8 @@ ping_not (obj.Dhcp d) t b start calls e fresh stands run = omega (arith, e)
 ping_not (obj.Ping p) t b start calls e fresh stands run = idle_asks_not ping_service p.value.stage t b start calls fresh stands run
 ping_not (obj.Http p) t b start calls e fresh stands run = omega (arith, e)
 ping_not (obj.Tcp p) t b start calls e fresh stands run = omega (arith, e)
+ping_not (obj.Iscsi p) t b start calls e fresh stands run = omega (arith, e)
+ping_not (obj.Disk p) t b start calls e fresh stands run = omega (arith, e)
 
 module _ (g : Objects Obj) (noded : AreNoded rank_of_obj g) (v r m : ℕ) (fresh : IsFresh g v r m) where
   all_there : (ids : List ℕ) → AreChained g ids → AreThere ids g
