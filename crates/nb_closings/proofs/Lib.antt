@@ -1,6 +1,7 @@
 pub mod TraceLemmas
 pub mod FetchPassing
 pub mod CorePassing
+pub mod DrivePassing
 pub mod StreamPassing
 pub mod Passings
 pub mod Joining

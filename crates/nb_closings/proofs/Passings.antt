@@ -11,6 +11,7 @@ use Rattle.nb_nodes.specs.Standing.{ObjStands}
 use Rattle.nb_closings.specs.Passing.{has_ended, ObjectsPassOn, PassesEndOn}
 use Rattle.nb_closings.proofs.FetchPassing.{fetch_passes}
 use Rattle.nb_closings.proofs.CorePassing.{asker_passes, tftp_passes}
+use Rattle.nb_closings.proofs.DrivePassing.{session_passes, unit_passes}
 use Rattle.nb_closings.proofs.StreamPassing.{conn_passes, web_passes}
 
 pub objects_pass_on : ObjectsPassOn
@@ -21,3 +22,5 @@ objects_pass_on (obj.Dhcp d) t e s h = asker_passes lease_service (λ a. refl) d
 objects_pass_on (obj.Ping p) t e s h = asker_passes ping_service (λ q. refl) p.value.stage t e s h
 objects_pass_on (obj.Http p) t e s h = web_passes _ p.value t e s h
 objects_pass_on (obj.Tcp p) t e s h = conn_passes _ p.value t e s h
+objects_pass_on (obj.Iscsi p) t e s h = session_passes _ p.value t e s h
+objects_pass_on (obj.Disk p) t e s h = unit_passes _ p.value t e s h

@@ -18,11 +18,11 @@ use Rattle.nb_closings.proofs.TraceLemmas.{none_ended}
 use Rattle.nb_closings.proofs.CorePassing.{and_right, false_not, is_not, not_and, not_both, not_done, passes_close, rests_closed}
 
 -- the closes at an end, or none
-at_end : (over : Option Cause) (xs : List (ℕ × Cause)) → xs ≡ closes_for over → ClosesBothOrNone xs
+pub at_end : (over : Option Cause) (xs : List (ℕ × Cause)) → xs ≡ closes_for over → ClosesBothOrNone xs
 at_end None xs e = inl e
 at_end (Some c) xs e = subst ClosesBothOrNone (sym e) (inr (inl refl, inr (inl refl)))
 
-not_over : (over : Option Cause) (xs : List (ℕ × Cause)) → xs ≡ closes_for over → nat_lt 0 (length xs) ≡ false → is_some over ≡ false
+pub not_over : (over : Option Cause) (xs : List (ℕ × Cause)) → xs ≡ closes_for over → nat_lt 0 (length xs) ≡ false → is_some over ≡ false
 not_over None xs e h = refl
 not_over (Some c) xs e h = absurd (let z = sym (ap (λ (w : List (ℕ × Cause)). nat_lt 0 (length w)) e) ∙ h in cc)
 
