@@ -46,12 +46,16 @@ node_brings (obj.Fetch fe) (obj.Dhcp q) r t at s zero h = absurd h
 node_brings (obj.Fetch fe) (obj.Ping q) r t at s zero h = absurd h
 node_brings (obj.Fetch fe) (obj.Http q) r t at s zero h = absurd h
 node_brings (obj.Fetch fe) (obj.Tcp q) r t at s zero h = absurd h
+node_brings (obj.Fetch fe) (obj.Iscsi q) r t at s zero h = absurd h
+node_brings (obj.Fetch fe) (obj.Disk q) r t at s zero h = absurd h
 node_brings (obj.Tftp p) after r t at s zero h = absurd (omega (arith, at))
 node_brings (obj.Resolver p) after r t at s zero h = absurd (omega (arith, at))
 node_brings (obj.Dhcp p) after r t at s zero h = absurd (omega (arith, at))
 node_brings (obj.Ping p) after r t at s zero h = absurd (omega (arith, zero))
 node_brings (obj.Http p) after r t at s zero h = absurd (omega (arith, at))
 node_brings (obj.Tcp p) after r t at s zero h = absurd (omega (arith, at))
+node_brings (obj.Iscsi p) after r t at s zero h = absurd (omega (arith, at))
+node_brings (obj.Disk p) after r t at s zero h = absurd (omega (arith, zero))
 
 -- the text of the move that has ended it
 node_moved : (n : Obj) (t : List (NodeEntry Obj Load)) → rank_of_obj n ≡ 5 → ObjStands n t → mark_of_obj n ≡ 0 → text_of_obj n ≡ moved_in t
@@ -62,6 +66,8 @@ node_moved (obj.Dhcp p) t at s zero = absurd (omega (arith, at))
 node_moved (obj.Ping p) t at s zero = absurd (omega (arith, zero))
 node_moved (obj.Http p) t at s zero = absurd (omega (arith, at))
 node_moved (obj.Tcp p) t at s zero = absurd (omega (arith, at))
+node_moved (obj.Iscsi p) t at s zero = absurd (omega (arith, at))
+node_moved (obj.Disk p) t at s zero = absurd (omega (arith, zero))
 
 module _ (c : WebChain) (g : Objects Obj) (are : AreOfWeb c g) (t : List (NodeEntry Obj Load)) (stands : ObjectStands ObjStands g c.fetch.0 t) where
   pub moves_so : (n : Obj) → node_at g c.fetch.0 ≡ Some n → rank_of_obj n ≡ rank g.book c.fetch.0 → text_of_obj n ≡ moved_in t

@@ -18,7 +18,8 @@ use Rattle.nb_closings.proofs.Beginning.{one_first}
 use Rattle.nb_webchains.specs.declared.web_chain.WebChain.{WebChain}
 use Rattle.nb_webchains.specs.WebChains.{AreReleased, GrowsTo, IsOpenWeb, IsReadyWeb, web_ids}
 
-no_link : (k : ℕ) → link_count (new_ports k) ≡ 0
+-- a port that is new has no link
+pub no_link : (k : ℕ) → link_count (new_ports k) ≡ 0
 no_link k = pick (nat_lt k 4)
   where
     pick : (b : Bool) → link_count (if b then port.Open else port.Closed) ≡ 0
@@ -42,21 +43,24 @@ pub released_stays : (ids others : List ℕ) (g h : Objects Obj) → AreNoded ra
 released_stays ids others g h noded k far on = stays others g h noded k (λ x o. on.others.others x (k.given x o) (far x o)) (let e = on.others.same_made in omega (arith, e))
 
 -- each of the three is plugged, and what waits isn't
-module _ (kind : ChainKind) (w : Chain) (c : WebChain) (g : Objects Obj) (waits : Awaits kind w g) (o : IsOpenWeb c g) where
-  not_plugged : is_one_of (web_ids c) w.top.0 ≡ true → ⊥
-  not_plugged i = elim (one_first c.fetch.0 (c.web.0 ∷ c.conn.0 ∷ []) w.top.0 i) [
-    | inl e ↦ let z = sym (waits.fresh.ports 1) ∙ (ap (λ x. port_in g.book x 1) e ∙ o.through.ports.1.0) in cc
-    | inr j ↦ elim (one_first c.web.0 (c.conn.0 ∷ []) w.top.0 j) [
-      | inl e ↦ let z = sym (waits.fresh.ports 1) ∙ (ap (λ x. port_in g.book x 1) e ∙ o.through.ports.1.2.0) in cc
-      | inr k ↦ let z = sym (waits.fresh.ports 0) ∙ (ap (λ x. port_in g.book x 0) (sole_is c.conn.0 w.top.0 k) ∙ o.through.ports.1.2.1) in cc
+module _ (v : ℕ) (c : WebChain) (g : Objects Obj) (ports : (k : ℕ) → port_in g.book v k ≡ new_ports k) (o : IsOpenWeb c g) where
+  not_plugged : is_one_of (web_ids c) v ≡ true → ⊥
+  not_plugged i = elim (one_first c.fetch.0 (c.web.0 ∷ c.conn.0 ∷ []) v i) [
+    | inl e ↦ let z = sym (ports 1) ∙ (ap (λ x. port_in g.book x 1) e ∙ o.through.ports.1.0) in cc
+    | inr j ↦ elim (one_first c.web.0 (c.conn.0 ∷ []) v j) [
+      | inl e ↦ let z = sym (ports 1) ∙ (ap (λ x. port_in g.book x 1) e ∙ o.through.ports.1.2.0) in cc
+      | inr k ↦ let z = sym (ports 0) ∙ (ap (λ x. port_in g.book x 0) (sole_is c.conn.0 v k) ∙ o.through.ports.1.2.1) in cc
     ]
   ]
 
-  apart_or : (b : Bool) → is_one_of (web_ids c) w.top.0 ≡ b → is_one_of (web_ids c) w.top.0 ≡ false
+  apart_or : (b : Bool) → is_one_of (web_ids c) v ≡ b → is_one_of (web_ids c) v ≡ false
   apart_or true e = absurd (not_plugged e)
   apart_or false e = e
 
-  pub waits_apart : AreOthers (web_ids c) (chain_ids w)
-  waits_apart x i =
-      let same : x ≡ w.top.0 = sole_is w.top.0 x (subst (λ (b : Option ObjId). is_one_of (w.top.0 ∷ below_ids b) x ≡ true) waits.alone i) in
-      ap (is_one_of (web_ids c)) same ∙ apart_or (is_one_of (web_ids c) w.top.0) refl
+  pub unplugged_apart : is_one_of (web_ids c) v ≡ false
+  unplugged_apart = apart_or (is_one_of (web_ids c) v) refl
+
+pub waits_apart : (kind : ChainKind) (w : Chain) (c : WebChain) (g : Objects Obj) → Awaits kind w g → IsOpenWeb c g → AreOthers (web_ids c) (chain_ids w)
+waits_apart kind w c g waits o x i =
+    let same : x ≡ w.top.0 = sole_is w.top.0 x (subst (λ (b : Option ObjId). is_one_of (w.top.0 ∷ below_ids b) x ≡ true) waits.alone i) in
+    ap (is_one_of (web_ids c)) same ∙ unplugged_apart w.top.0 c g waits.fresh.ports o

@@ -106,6 +106,8 @@ module _ (top x y : ℕ) where
   fetch_entries (obj.Ping p) t at mark s far = absurd (omega (arith, mark))
   fetch_entries (obj.Http p) t at mark s far = absurd (omega (arith, at))
   fetch_entries (obj.Tcp p) t at mark s far = absurd (omega (arith, at))
+  fetch_entries (obj.Iscsi p) t at mark s far = absurd (omega (arith, at))
+  fetch_entries (obj.Disk p) t at mark s far = absurd (omega (arith, mark))
 
   web_entries : (n : Obj) (t : List (NodeEntry Obj Load)) → mark_of_obj n ≡ 2 → ObjStands n t → (y ≡ top → ⊥) → (y ≡ x → ⊥) → AllByRecursion (EntrySo top x y) t
   web_entries (obj.Fetch f) t mark s low far = absurd (low_mark (is_handed f) 2 mark (omega arith))
@@ -115,6 +117,8 @@ module _ (top x y : ℕ) where
   web_entries (obj.Ping p) t mark s low far = absurd (omega (arith, mark))
   web_entries (obj.Http p) t mark s low far = web_all top x y low far web_carrier t web_unasked s.talk s.run
   web_entries (obj.Tcp p) t mark s low far = absurd (omega (arith, mark))
+  web_entries (obj.Iscsi p) t mark s low far = absurd (omega (arith, mark))
+  web_entries (obj.Disk p) t mark s low far = absurd (omega (arith, mark))
 
   conn_entries : (n : Obj) (t : List (NodeEntry Obj Load)) → mark_of_obj n ≡ 3 → ObjStands n t → (y ≡ top → ⊥) → AllByRecursion (EntrySo top x y) t
   conn_entries (obj.Fetch f) t mark s low = absurd (low_mark (is_handed f) 3 mark (omega arith))
@@ -124,6 +128,8 @@ module _ (top x y : ℕ) where
   conn_entries (obj.Ping p) t mark s low = absurd (omega (arith, mark))
   conn_entries (obj.Http p) t mark s low = absurd (omega (arith, mark))
   conn_entries (obj.Tcp p) t mark s low = conn_all top x y low conn_carrier t unopened s.dialogue s.run
+  conn_entries (obj.Iscsi p) t mark s low = absurd (omega (arith, mark))
+  conn_entries (obj.Disk p) t mark s low = absurd (omega (arith, mark))
 
 -- HOW A CALL BEGINS
 

@@ -110,6 +110,8 @@ abbrev pub text_of_obj : Obj → Option (List ℕ)
 text_of_obj (obj.Fetch f) = moved_text f
 text_of_obj (obj.Http p) = None
 text_of_obj (obj.Tcp p) = None
+text_of_obj (obj.Iscsi p) = None
+text_of_obj (obj.Disk p) = None
 text_of_obj (obj.Tftp p) = None
 text_of_obj (obj.Resolver r) = None
 text_of_obj (obj.Dhcp d) = None

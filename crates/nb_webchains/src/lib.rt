@@ -9,4 +9,5 @@ mod plugging;
 mod web_chain;
 
 pub use laws::{other_objects_stay, ready_ones_are_open, what_waits_is_apart};
+pub use plugging::{make_object, plug_next};
 pub use web_chain::WebChain;

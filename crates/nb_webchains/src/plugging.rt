@@ -17,7 +17,7 @@ use nb_graph::{Graph, ObjId, Outside, Port};
 use nb_nodes::{ABOVE, BELOW, Obj};
 
 /// Makes an object where there is room for it.
-fn make_object<O: Outside>(graph: &mut Graph<Obj>, node: Obj, out: &mut O) -> ObjId
+pub fn make_object<O: Outside>(graph: &mut Graph<Obj>, node: Obj, out: &mut O) -> ObjId
     requires stands { ObjStands node [] }
     requires room { length graph.old.book.objects < graph.old.book.room }
     requires serials { graph.old.book.made < 2 ^ 64 - 1 }
@@ -48,12 +48,7 @@ fn plug<O: Outside>(graph: &mut Graph<Obj>, upper: Port, lower: Port, out: &mut 
 }
 
 /// Makes an object, and plugs it below the last of some of which nothing was asked.
-pub(crate) fn plug_next<O: Outside>(
-    graph: &mut Graph<Obj>,
-    above: ObjId,
-    node: Obj,
-    out: &mut O,
-) -> ObjId
+pub fn plug_next<O: Outside>(graph: &mut Graph<Obj>, above: ObjId, node: Obj, out: &mut O) -> ObjId
     requires stands { ObjStands node [] }
     requires given { above.0 ≤ graph.old.book.made }
     requires open { port graph.old.book above.0 1 ≡ state.Open }

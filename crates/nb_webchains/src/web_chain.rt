@@ -230,6 +230,8 @@ fn text_of(node: &Obj) -> Option<&[u8]>
         Obj::Fetch(fetch) => fetch.moved(),
         Obj::Http(_) => None,
         Obj::Tcp(_) => None,
+        Obj::Iscsi(_) => None,
+        Obj::Disk(_) => None,
         Obj::Tftp(_) => None,
         Obj::Resolver(_) => None,
         Obj::Dhcp(_) => None,
