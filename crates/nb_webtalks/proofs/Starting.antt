@@ -55,6 +55,8 @@ fetch_node (obj.Dhcp p) t r m s = absurd (omega (arith, r))
 fetch_node (obj.Ping p) t r m s = absurd (omega (arith, m))
 fetch_node (obj.Http p) t r m s = absurd (omega (arith, r))
 fetch_node (obj.Tcp p) t r m s = absurd (omega (arith, r))
+fetch_node (obj.Iscsi p) t r m s = absurd (omega (arith, r))
+fetch_node (obj.Disk p) t r m s = absurd (omega (arith, m))
 
 -- a Fetch has another mark
 fetch_marks : (handed : Bool) (k : ℕ) → (if handed then 1 else 0) ≡ k → 2 ≤ k → ⊥
@@ -69,6 +71,8 @@ web_node (obj.Dhcp p) t m s = absurd (omega (arith, m))
 web_node (obj.Ping p) t m s = absurd (omega (arith, m))
 web_node (obj.Http p) t m s = (p.value, s)
 web_node (obj.Tcp p) t m s = absurd (omega (arith, m))
+web_node (obj.Iscsi p) t m s = absurd (omega (arith, m))
+web_node (obj.Disk p) t m s = absurd (omega (arith, m))
 
 conn_node : (n : Obj) (t : List (NodeEntry Obj Load)) → mark_of_obj n ≡ 3 → ObjStands n t → (p : Tcp) × TcpStands conn_carrier p t
 conn_node (obj.Fetch f) t m s = absurd (fetch_marks (is_handed f) 3 m (omega arith))
@@ -78,6 +82,8 @@ conn_node (obj.Dhcp p) t m s = absurd (omega (arith, m))
 conn_node (obj.Ping p) t m s = absurd (omega (arith, m))
 conn_node (obj.Http p) t m s = absurd (omega (arith, m))
 conn_node (obj.Tcp p) t m s = (p.value, s)
+conn_node (obj.Iscsi p) t m s = absurd (omega (arith, m))
+conn_node (obj.Disk p) t m s = absurd (omega (arith, m))
 
 -- WHERE THE THREE ARE
 
