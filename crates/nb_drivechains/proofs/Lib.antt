@@ -1,0 +1,2 @@
+pub mod MakingDrive
+pub mod BesideDrives

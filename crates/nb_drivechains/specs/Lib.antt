@@ -1,0 +1,2 @@
+pub mod DriveCalls
+pub mod DriveChains
