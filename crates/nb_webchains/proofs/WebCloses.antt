@@ -1,5 +1,5 @@
 -- Where the user closes both ports of the top one, all three end.
-use Rattle.std.proofs.Common.{◌≡◌, ℕ, List, [], ◌∷◌, ◌++◌, None, refl, sym, ap, subst}
+use Rattle.std.proofs.Common.{◌≡◌, ℕ, List, [], ◌∷◌, ◌++◌, None, refl, sym, ap, ◌∙◌, subst}
 use Rattle.nb_terms.specs.declared.cause.Cause.{Cause}
 use Rattle.nb_ledger.specs.declared.event.GraphEvent.TheVariants.{Closed}
 use Rattle.nb_ledger.specs.Flat.{Heard, Notice, all}
@@ -24,11 +24,11 @@ use Rattle.nb_closings.proofs.Whole.{chains_are_shut}
 use Rattle.nb_webchains.specs.declared.web_chain.WebChain.{WebChain}
 use Rattle.nb_webchains.specs.Orders.{StandInOrder}
 use Rattle.nb_webchains.specs.WebCalls.{ClosesWeb}
-use Rattle.nb_webchains.specs.WebChains.{AreOfWeb, IsOpenWeb, IsShutWeb, web_graph, web_ids}
+use Rattle.nb_webchains.specs.WebChains.{AreOfWeb, IsOpenWeb, IsShutWeb, KeepKinds, web_graph, web_ids}
 use Rattle.nb_webchains.proofs.Downward.{port_closed_opens}
 use Rattle.nb_webchains.proofs.EntryDowns.{hidden_later}
 use Rattle.nb_webchains.proofs.Three.{fetch_in}
-use Rattle.nb_webchains.proofs.WebDoes.{called, its_own, kinds_kept}
+use Rattle.nb_webchains.proofs.WebDoes.{called, its_own, keep_kinds, kinds_kept}
 use Rattle.nb_webchains.proofs.WebOrders.{closing_order, is_hidden}
 
 module _ (c : WebChain) (g a h : Objects Obj) (m n o : Heard) (now : ℕ) (cause : Cause) (chained : AreChained g (web_ids c)) (first : AreNoded rank_of_obj g) (mid : AreNoded rank_of_obj a) (end : AreNoded rank_of_obj h)
@@ -44,6 +44,12 @@ module _ (c : WebChain) (g a h : Objects Obj) (m n o : Heard) (now : ℕ) (cause
 
   abbrev ns : List Notice
   ns = one_called.ns ++ two_called.ns
+
+  pub close_keeps : KeepKinds (web_ids c) g h
+  close_keeps =
+      let i = keep_kinds c now (Closes (port_at c.fetch.0 0) cause ∷ []) g a m n chained (fetch_in c, tt) (tt, tt) (tt, tt) first mid one in
+      let j = keep_kinds c now (Closes (port_at c.fetch.0 1) cause ∷ []) a h n o one_called.on.chained (fetch_in c, tt) (tt, tt) (tt, tt) mid end two in
+      record { ranks = λ x own. j.ranks x own ∙ i.ranks x own; marks = λ x mark own was. j.marks x mark own (i.marks x mark own was) }
 
   all_kinds : AreOfWeb c g → AreOfWeb c h
   all_kinds are = kinds_kept c now (Closes (port_at c.fetch.0 1) cause ∷ []) a h n o one_called.on.chained (fetch_in c, tt) (tt, tt) (tt, tt) mid end two

@@ -29,9 +29,9 @@ use Rattle.nb_closings.proofs.Whole.{chains_end_whole}
 use Rattle.nb_webchains.specs.declared.web_chain.WebChain.{WebChain}
 use Rattle.nb_webchains.specs.Orders.{StandInOrder}
 use Rattle.nb_webchains.specs.WebCalls.{AreShort, ComesOfWeb, DoesWeb, goes_on, has_closed}
-use Rattle.nb_webchains.specs.WebChains.{AreOfWeb, IsOpenWeb, web_ids}
+use Rattle.nb_webchains.specs.WebChains.{AreOfWeb, IsOpenWeb, KeepKinds, web_ids}
 use Rattle.nb_webchains.proofs.FirstCloses.{none_closed, some_closed}
-use Rattle.nb_webchains.proofs.Three.{begins_none, conn_in, fetch_in}
+use Rattle.nb_webchains.proofs.Three.{begins_none, conn_in, fetch_in, web_in}
 use Rattle.nb_webchains.proofs.WebOrders.{BeginsSo, by_begin, by_segment, by_tick, in_order}
 
 module _ (c : WebChain) (now : ℕ) (asks : List (Stage Obj Load)) (g h : Objects Obj) (m n : Heard) (chained : AreChained g (web_ids c)) (within : AreStagesWithin (is_one_of (web_ids c)) asks)
@@ -48,12 +48,18 @@ module _ (c : WebChain) (now : ℕ) (asks : List (Stage Obj Load)) (g h : Object
       mark_stays obj_nature ObjStands (node_at g) (node_at h) x mark (all_of k.deeds) (begins_none (web_ids c) x (all_of k.deeds) w.0) k.hosts was
 
   -- they are what they were
+  pub keep_kinds : KeepKinds (web_ids c) g h
+  keep_kinds = record {
+    ranks = λ x i. (k.ages.kept x (chained.given x i) (its_own.stays x i)).1;
+    marks = λ x mark i was. mark_kept x mark was;
+  }
+
   pub kinds_kept : AreOfWeb c g → AreOfWeb c h
   kinds_kept are = record {
-    fetch_rank = (k.ages.kept c.fetch.0 (chained.given c.fetch.0 (fetch_in c)) (its_own.stays c.fetch.0 (fetch_in c))).1 ∙ are.fetch_rank;
-    fetch = mark_kept c.fetch.0 0 are.fetch;
-    web = mark_kept c.web.0 2 are.web;
-    conn = mark_kept c.conn.0 3 are.conn;
+    fetch_rank = keep_kinds.ranks c.fetch.0 (fetch_in c) ∙ are.fetch_rank;
+    fetch = keep_kinds.marks c.fetch.0 0 (fetch_in c) are.fetch;
+    web = keep_kinds.marks c.web.0 2 (web_in c) are.web;
+    conn = keep_kinds.marks c.conn.0 3 (conn_in c) are.conn;
   }
 
 -- the same call, of which the outside knows all
@@ -104,6 +110,15 @@ module _ (c : WebChain) (now : ℕ) (g h : Objects Obj) (m n : Heard) (chained :
 
   pub ticked_last : WentOne ObjStands obj_nature now (Ticks c.conn.0 ∷ []) g h m n → ChainCalled (web_ids c) now (Ticks c.conn.0 ∷ []) g h m n
   ticked_last k = called c now (Ticks c.conn.0 ∷ []) g h m n chained (conn_in c, tt) (tt, tt) (tt, tt) before after k
+
+  pub top_keeps : (w : Said) → WentOne ObjStands obj_nature now (Offers (port_at c.fetch.0 0) w ∷ []) g h m n → KeepKinds (web_ids c) g h
+  top_keeps w k = keep_kinds c now (Offers (port_at c.fetch.0 0) w ∷ []) g h m n chained (fetch_in c, tt) (tt, tt) (tt, tt) before after k
+
+  pub last_keeps : (w : Said) → WentOne ObjStands obj_nature now (Offers (port_at c.conn.0 1) w ∷ []) g h m n → KeepKinds (web_ids c) g h
+  last_keeps w k = keep_kinds c now (Offers (port_at c.conn.0 1) w ∷ []) g h m n chained (conn_in c, tt) (tt, tt) (tt, tt) before after k
+
+  pub tick_keeps : WentOne ObjStands obj_nature now (Ticks c.conn.0 ∷ []) g h m n → KeepKinds (web_ids c) g h
+  tick_keeps k = keep_kinds c now (Ticks c.conn.0 ∷ []) g h m n chained (conn_in c, tt) (tt, tt) (tt, tt) before after k
 
   module _ (links : IsLinked (port g.book) (rank g.book)) where
     pub does_top : (w : Said) → WentOne ObjStands obj_nature now (Offers (port_at c.fetch.0 0) w ∷ []) g h m n → DoesWeb c now (Offers (port_at c.fetch.0 0) w ∷ []) None g h m n

@@ -33,6 +33,11 @@ pub record AreOfWeb (c : WebChain) (g : Objects Obj) : Type 0 where
   pub web : IsOfKind g c.web.0 2
   pub conn : IsOfKind g c.conn.0 3
 
+-- Each of these has the rank and the mark that it had.
+pub record KeepKinds (ids : List ℕ) (g h : Objects Obj) : Type 0 where
+  pub ranks : (x : ℕ) → is_one_of ids x ≡ true → rank h.book x ≡ rank g.book x
+  pub marks : (x mark : ℕ) → is_one_of ids x ≡ true → IsOfKind g x mark → IsOfKind h x mark
+
 -- All ports between the user and the network are open, and none of the three has ended.
 pub record IsOpenWeb (c : WebChain) (g : Objects Obj) : Type 0 where
   pub order : IsInOrder c

@@ -18,7 +18,7 @@ ghost use Rattle.nb_nodes.specs.Standing.{ObjStands};
 ghost use Rattle.nb_opens.specs.Pairs.{body_in};
 ghost use Rattle.nb_webchains.specs.Releases.{AreLoose, GoesLoose};
 ghost use Rattle.nb_webchains.specs.WebCalls.{ClosesWeb, DoesWeb, ReleasesEach, ShutsWeb, begins_web, brought, receives_web, text_of_obj, ticks_web};
-ghost use Rattle.nb_webchains.specs.WebChains.{AreOfWeb, IsInOrder, IsOpenWeb, IsShutWeb, web_ids};
+ghost use Rattle.nb_webchains.specs.WebChains.{AreOfWeb, IsInOrder, IsOpenWeb, IsShutWeb, KeepKinds, web_ids};
 
 use nb_chains::Arrival;
 use nb_conns::StreamTag;
@@ -53,6 +53,7 @@ impl WebChain {
         ensures on { AreStillChained (web_ids self) graph.old graph.new }
         ensures does { DoesWeb self now (begins_web self rec host (first.now ++ second.now)) None graph.old graph.new
             (O.events out.old) (O.events out.new) }
+        ensures kinds { KeepKinds (web_ids self) graph.old graph.new }
     {
         let msg = Msg {
             tag: u8::from(StreamTag::Begin),
@@ -82,6 +83,7 @@ impl WebChain {
         ensures on { AreStillChained (web_ids self) graph.old graph.new }
         ensures does { DoesWeb self now (receives_web self rec arrival.now)
             (Some (Entered (port_at self.conn.0 1) way.Up)) graph.old graph.new (O.events out.old) (O.events out.new) }
+        ensures kinds { KeepKinds (web_ids self) graph.old graph.new }
     {
         let msg = Msg {
             tag: u8::from(StreamTag::Segment),
@@ -103,6 +105,7 @@ impl WebChain {
         ensures on { AreStillChained (web_ids self) graph.old graph.new }
         ensures does { DoesWeb self now (ticks_web self) (Some (Entered (port_at self.conn.0 4) way.Time)) graph.old
             graph.new (O.events out.old) (O.events out.new) }
+        ensures kinds { KeepKinds (web_ids self) graph.old graph.new }
     {
         graph.has_nodes();
         graph.has_links();
@@ -115,6 +118,7 @@ impl WebChain {
         requires { AreChained graph.old (web_ids self) }
         ensures on { AreStillChained (web_ids self) graph.old graph.new }
         ensures closes { ClosesWeb self graph.old graph.new cause.now (O.events out.old) (O.events out.new) }
+        ensures kinds { KeepKinds (web_ids self) graph.old graph.new }
     {
         graph.has_nodes();
         graph.has_links();
