@@ -6,7 +6,7 @@ ghost use Rattle.nb_graph.specs.Whole.{port_at};
 ghost use Rattle.nb_webchains.specs.WebCalls.{ClosesWeb, DoesWeb, ReleasesEach, ShutsWeb, begins_web, receives_web, ticks_web};
 ghost use Rattle.nb_webchains.specs.WebChains.{IsOpenWeb, IsShutWeb};
 ghost use Rattle.nb_drivechains.specs.DriveCalls.{reads_drive};
-ghost use Rattle.nb_drivechains.specs.DriveChains.{drive_ids, three_of};
+ghost use Rattle.nb_drivechains.specs.DriveChains.{AreOfDrive, drive_ids, three_of};
 
 use nb_chains::Arrival;
 use nb_drivenodes::DriveTag;
@@ -51,6 +51,7 @@ impl DriveChain {
         ensures on { AreStillChained (drive_ids self) graph.old graph.new }
         ensures does { DoesWeb (three_of self) now (begins_web (three_of self) rec 0 (first.now ++ second.now)) None
             graph.old graph.new (O.events out.old) (O.events out.new) }
+        ensures kinds { AreOfDrive self graph.old → AreOfDrive self graph.new }
     {
         self.three().begin(graph, rec, 0, first, second, now, out);
     }
@@ -69,6 +70,7 @@ impl DriveChain {
         ensures on { AreStillChained (drive_ids self) graph.old graph.new }
         ensures does { DoesWeb (three_of self) now (reads_drive self rec block count) None graph.old graph.new
             (O.events out.old) (O.events out.new) }
+        ensures kinds { AreOfDrive self graph.old → AreOfDrive self graph.new }
     {
         let msg = Msg {
             tag: u8::from(DriveTag::Read),
@@ -98,6 +100,7 @@ impl DriveChain {
         ensures on { AreStillChained (drive_ids self) graph.old graph.new }
         ensures does { DoesWeb (three_of self) now (receives_web (three_of self) rec arrival.now)
             (Some (Entered (port_at self.conn.0 1) way.Up)) graph.old graph.new (O.events out.old) (O.events out.new) }
+        ensures kinds { AreOfDrive self graph.old → AreOfDrive self graph.new }
     {
         self.three().message(graph, rec, arrival, now, out);
     }
@@ -108,6 +111,7 @@ impl DriveChain {
         ensures on { AreStillChained (drive_ids self) graph.old graph.new }
         ensures does { DoesWeb (three_of self) now (ticks_web (three_of self))
             (Some (Entered (port_at self.conn.0 4) way.Time)) graph.old graph.new (O.events out.old) (O.events out.new) }
+        ensures kinds { AreOfDrive self graph.old → AreOfDrive self graph.new }
     {
         self.three().time(graph, now, out);
     }
@@ -117,6 +121,7 @@ impl DriveChain {
         requires { AreChained graph.old (drive_ids self) }
         ensures on { AreStillChained (drive_ids self) graph.old graph.new }
         ensures closes { ClosesWeb (three_of self) graph.old graph.new cause.now (O.events out.old) (O.events out.new) }
+        ensures kinds { AreOfDrive self graph.old → AreOfDrive self graph.new }
     {
         self.three().close(graph, cause, now, out);
     }
