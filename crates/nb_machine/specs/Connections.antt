@@ -17,7 +17,7 @@ use Rattle.nb_tcp.specs.Messages.{outgoing_message}
 use Rattle.nb_command.specs.SettingAddresses.{host}
 use Rattle.nb_machine.specs.CommandRecords.{no_route}
 use Rattle.nb_machine.specs.Sendings.{has_route, send_records, advance_records}
-use Rattle.nb_machine.specs.Lives.{OpenInput, message, tcp_segment, time, close, Exchange, Live}
+use Rattle.nb_machine.specs.Lives.{OpenInput, message, tcp_segment, time, task, close, Exchange, Live}
 use Rattle.nb_machine.specs.Transfers.{earlier, end_records}
 
 -- an open's connection: the open's number, its server, both ends, of which the client's SYN has this number, and when it was begun
@@ -57,16 +57,22 @@ incoming_parts g = record {
 abbrev pub arrived_segment : ℕ → SegmentParts → Arrival
 arrived_segment rec g = record { rec = rec; segment = incoming_parts g }
 
--- what came to a connection; no datagram does, and a close from above is the client's own
+-- what came to a connection of which nothing is asked; no datagram comes to one, and a close from above is the client's own
 abbrev pub came_on : {T : Type 0} → OpenInput → List (Came T)
 came_on (message rec port body now) = []
 came_on (tcp_segment rec g now) = by_segment (arrived_segment rec g) now ∷ []
 came_on (time now) = by_time now ∷ []
+came_on (task t now) = []
 came_on (close cause) = []
 
--- what a talker says on a connection, and what came to it, after all these exchanges
-abbrev pub talk_of : {T : Type 0} → Talker T → Connection → List Exchange → Talk T
-talk_of t c xs = talk_after t c.link.isn c.since (flat_map (λ x. came_on x.came) xs)
+-- a kind's talk on its connection: what it says, and what it reads of all that comes to it
+pub record Talking (T : Type 0) : Type 0 where
+  pub talker : Talker T
+  pub reads : OpenInput → List (Came T)
+
+-- what was said on a connection, and what came to it, after all these exchanges
+abbrev pub talk_of : {T : Type 0} → Talking T → Connection → List Exchange → Talk T
+talk_of t c xs = talk_after t.talker c.link.isn c.since (flat_map (λ x. t.reads x.came) xs)
 
 -- segments that are put, each with its try where it is one
 abbrev pub segment_records : Connection → Client → Sends → List Out
@@ -84,15 +90,21 @@ talk_end c link p = earlier p.over (if loses_way c link p.sends then Some (no_ro
 abbrev pub put_records : Connection → Client → Put → List Out
 put_records c link p = advance_records c.number p.advance ++ segment_records c link p.sends ++ end_records c.number (talk_end c link p)
 
+-- what is asked puts this; of some kinds nothing is
+abbrev pub PutsAsked : {T : Type 0} → Talker T → Connection → Talk T → List (Came T) → Put → Type 0
+PutsAsked t c d [] p = ⊥
+PutsAsked t c d (asked ∷ more) p = PutsSo t c.link.isn c.since d asked p
+
 -- what comes to a talk puts this; a datagram doesn't come
-abbrev pub PutsAt : {T : Type 0} → Talker T → Connection → Talk T → OpenInput → Put → Type 0
+abbrev pub PutsAt : {T : Type 0} → Talking T → Connection → Talk T → OpenInput → Put → Type 0
 PutsAt t c d (message rec port body now) p = ⊥
-PutsAt t c d (tcp_segment rec g now) p = PutsSo t c.link.isn c.since d (by_segment (arrived_segment rec g) now) p
-PutsAt t c d (time now) p = PutsSo t c.link.isn c.since d (by_time now) p
+PutsAt t c d (tcp_segment rec g now) p = PutsSo t.talker c.link.isn c.since d (by_segment (arrived_segment rec g) now) p
+PutsAt t c d (time now) p = PutsSo t.talker c.link.isn c.since d (by_time now) p
+PutsAt t c d (task x now) p = PutsAsked t.talker c d (t.reads (task x now)) p
 PutsAt t c d (close cause) p = p ≡ close_put c.link.isn d cause
 
 -- an exchange puts what its promise says, by all that came before
-pub record KeepsAt {T : Type 0} (t : Talker T) (c : Connection) (before : List Exchange) (x : Exchange) : Type 0 where
+pub record KeepsAt {T : Type 0} (t : Talking T) (c : Connection) (before : List Exchange) (x : Exchange) : Type 0 where
   pub put : Put
   pub puts : PutsAt t c (talk_of t c before) x.came put
   pub records : x.put ≡ put_records c x.link put
@@ -103,5 +115,5 @@ EachExchange P before [] = Unit {0}
 EachExchange P before (x ∷ xs) = P before x × EachExchange P (before ++ x ∷ []) xs
 
 -- all exchanges of the open are kept
-abbrev pub KeepsTalk : {T : Type 0} → Talker T → ℕ → Live → Type 0
+abbrev pub KeepsTalk : {T : Type 0} → Talking T → ℕ → Live → Type 0
 KeepsTalk t isn l = EachExchange (KeepsAt t (connection_of isn l)) [] l.exchanges

@@ -19,7 +19,7 @@ use Rattle.nb_command.specs.SettingAddresses.{host}
 use Rattle.nb_machine.specs.CommandRecords.{no_route}
 use Rattle.nb_machine.specs.Sendings.{has_route, send_records, acts_records}
 use Rattle.nb_machine.specs.Saying.{datagram_from}
-use Rattle.nb_machine.specs.Lives.{OpenInput, message, tcp_segment, time, close, Exchange, exchange, Live}
+use Rattle.nb_machine.specs.Lives.{OpenInput, message, tcp_segment, time, task, close, Exchange, exchange, Live}
 use Rattle.nb_machine.specs.Transfers.{finds_none, earlier, end_records}
 
 -- what the open looks up, by a query of this number
@@ -66,12 +66,14 @@ abbrev pub dns_datagrams_in : ℕ → OpenInput → List DnsDatagram
 dns_datagrams_in server (message rec port body now) = dns_datagram rec (host server) body ∷ []
 dns_datagrams_in server (tcp_segment rec g now) = []
 dns_datagrams_in server (time now) = []
+dns_datagrams_in server (task t now) = []
 dns_datagrams_in server (close cause) = []
 
 abbrev pub handed_bodies_in : OpenInput → List Handed
 handed_bodies_in (message rec port body now) = handed_body rec body ∷ []
 handed_bodies_in (tcp_segment rec g now) = []
 handed_bodies_in (time now) = []
+handed_bodies_in (task t now) = []
 handed_bodies_in (close cause) = []
 
 -- the address that was found, of the messages that have come

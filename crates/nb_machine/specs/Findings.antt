@@ -1,5 +1,5 @@
 -- The numbers of an open's words, and what a command makes of what it has found.
-use Rattle.std.specs.Prelude.{ℕ, ◌%◌, ◌*◌, List, Ok, Err, codes}
+use Rattle.std.specs.Prelude.{ℕ, ◌+◌, ◌%◌, ◌*◌, List, [], ◌∷◌, map, Ok, Err, codes}
 use Rattle.rand_chacha.specs.ChaCha.{key_of, word_at}
 use Rattle.nb_terms.specs.declared.cause.Cause.{Cause}
 use Rattle.nb_wire.specs.declared.address.Mac.{Mac}
@@ -14,6 +14,10 @@ use Rattle.nb_machine.specs.declared.identity.Identity.{Identity}
 -- the first word of an open: from START's key, by its number
 unfoldable pub first_word : Identity → ℕ → ℕ
 first_word m number = word_at 4 (key_of m.key) 0 (16 * number)
+
+-- its words 0 to 7, which a drive's login has
+unfoldable pub open_words : Identity → ℕ → List ℕ
+open_words m number = map (λ i. word_at 4 (key_of m.key) 0 (16 * number + i)) (0 ∷ 1 ∷ 2 ∷ 3 ∷ 4 ∷ 5 ∷ 6 ∷ 7 ∷ [])
 
 -- the client that asks for a lease; its transaction's number is the open's first word
 abbrev pub asker_at : Mac → Identity → ℕ → Asker

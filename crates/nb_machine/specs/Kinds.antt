@@ -18,17 +18,19 @@ use Rattle.nb_ping.specs.Pings.{echo_request}
 use Rattle.nb_nodes.specs.LookupExchanges.{lookup_service}
 use Rattle.nb_nodes.specs.LeaseExchanges.{lease_service}
 use Rattle.nb_nodes.specs.EchoExchanges.{ping_service}
-use Rattle.nb_machine.specs.Lives.{OpenKind, tftp, http, dns, dhcp, ping, Exchange, Live}
+use Rattle.nb_machine.specs.Lives.{OpenKind, tftp, http, iscsi, dns, dhcp, ping, Exchange, Live}
 use Rattle.nb_machine.specs.Connections.{connection_of, syn_message}
 use Rattle.nb_machine.specs.Cores.{look_up_of, ping_of, first_message_records, KeepsCore, address_answered, lease_acknowledged}
 use Rattle.nb_machine.specs.Transfers.{request_records, KeepsTransfer, transferred}
 use Rattle.nb_machine.specs.Webs.{KeepsWeb, web_body, web_move}
+use Rattle.nb_machine.specs.Drives.{KeepsSession, DriveAnswer, session_answered}
 
 -- it takes datagrams from there: TFTP from every port of its server, DNS from its port 53, DHCP from port 67 of any host; a ping and a
 -- connection take none
 abbrev pub takes_from : OpenKind → Live → PacketParts → UdpParts → Bool
 takes_from tftp l p d = p.src.0 == l.server
 takes_from (http isn) l p d = false
+takes_from (iscsi isn i) l p d = false
 takes_from (dns id) l p d = (p.src.0 == l.server) && (d.src_port == 53)
 takes_from (dhcp a) l p d = d.src_port == 67
 takes_from ping l p d = false
@@ -40,6 +42,7 @@ is_for device p d l = (l.device == device) && (l.own == d.dst_port) && takes_fro
 abbrev pub is_ping : OpenKind → Bool
 is_ping tftp = false
 is_ping (http isn) = false
+is_ping (iscsi isn i) = false
 is_ping (dns id) = false
 is_ping (dhcp a) = false
 is_ping ping = true
@@ -51,6 +54,7 @@ is_reply_for device p e l = is_ping l.kind && (l.device == device) && (l.own == 
 abbrev pub is_connection : OpenKind → Bool
 is_connection tftp = false
 is_connection (http isn) = true
+is_connection (iscsi isn i) = true
 is_connection (dns id) = false
 is_connection (dhcp a) = false
 is_connection ping = false
@@ -72,6 +76,7 @@ reply_beside device live link m = reply_of link m
 abbrev pub first_records : OpenKind → Live → Client → Option (List Out)
 first_records tftp l link = request_records l link
 first_records (http isn) l link = first_message_records l link (syn_message (connection_of isn l))
+first_records (iscsi isn i) l link = first_message_records l link (syn_message (connection_of isn l))
 first_records (dns id) l link = first_message_records l link (query_to (look_up_of id l))
 first_records (dhcp a) l link = first_message_records l link (to_servers (message_text a None))
 first_records ping l link = first_message_records l link (echo_request (ping_of l))
@@ -79,6 +84,7 @@ first_records ping l link = first_message_records l link (echo_request (ping_of 
 abbrev pub KeepsBy : OpenKind → Live → Type 0
 KeepsBy tftp l = KeepsTransfer l
 KeepsBy (http isn) l = KeepsWeb isn l
+KeepsBy (iscsi isn i) l = KeepsSession isn i l
 KeepsBy (dns id) l = KeepsCore lookup_service (look_up_of id l) l
 KeepsBy (dhcp a) l = KeepsCore lease_service a l
 KeepsBy ping l = KeepsCore ping_service (ping_of l) l
@@ -90,6 +96,7 @@ Keeps l = KeepsBy l.kind l
 abbrev pub fetched_by : OpenKind → Live → List ℕ
 fetched_by tftp l = transferred l.exchanges
 fetched_by (http isn) l = web_body isn l
+fetched_by (iscsi isn i) l = []
 fetched_by (dns id) l = []
 fetched_by (dhcp a) l = []
 fetched_by ping l = []
@@ -101,6 +108,7 @@ fetched l = fetched_by l.kind l
 abbrev pub moved_by : OpenKind → Live → Option (List ℕ)
 moved_by tftp l = None
 moved_by (http isn) l = web_move isn l
+moved_by (iscsi isn i) l = None
 moved_by (dns id) l = None
 moved_by (dhcp a) l = None
 moved_by ping l = None
@@ -112,6 +120,7 @@ moved l = moved_by l.kind l
 abbrev pub resolved_of : OpenKind → Live → Option Ip4
 resolved_of tftp l = None
 resolved_of (http isn) l = None
+resolved_of (iscsi isn i) l = None
 resolved_of (dns id) l = address_answered (look_up_of id l) l.server l.exchanges
 resolved_of (dhcp a) l = None
 resolved_of ping l = None
@@ -123,6 +132,7 @@ resolved l = resolved_of l.kind l
 abbrev pub granted_of : OpenKind → List Exchange → Option (List ℕ)
 granted_of tftp xs = None
 granted_of (http isn) xs = None
+granted_of (iscsi isn i) xs = None
 granted_of (dns id) xs = None
 granted_of (dhcp a) xs = lease_acknowledged a xs
 granted_of ping xs = None
@@ -130,3 +140,15 @@ granted_of ping xs = None
 -- the acknowledgement of its lease
 abbrev pub granted : Live → Option (List ℕ)
 granted l = granted_of l.kind l.exchanges
+
+abbrev pub answered_by : OpenKind → Live → Option DriveAnswer
+answered_by tftp l = None
+answered_by (http isn) l = None
+answered_by (iscsi isn i) l = session_answered isn i l
+answered_by (dns id) l = None
+answered_by (dhcp a) l = None
+answered_by ping l = None
+
+-- what it has answered as a drive
+abbrev pub answered : Live → Option DriveAnswer
+answered l = answered_by l.kind l

@@ -4,6 +4,7 @@ pub mod Conclusions
 pub mod Connections
 pub mod Cores
 pub mod Courses
+pub mod Drives
 pub mod Effects
 pub mod Errands
 pub mod Findings

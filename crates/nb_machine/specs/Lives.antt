@@ -5,6 +5,8 @@ use Rattle.nb_defs.specs.Records.{Out, opened, ended}
 use Rattle.nb_stack.specs.Client.{Client}
 use Rattle.nb_dhcp.specs.declared.asker.Asker.{Asker}
 use Rattle.nb_tcpseg.specs.SegmentText.{SegmentParts}
+use Rattle.nb_login.specs.declared.info.LoginInfo.{LoginInfo}
+use Rattle.nb_sans.specs.Sessions.{ReadTask}
 
 -- what is opened
 pub data OpenKind : Type 0 where
@@ -12,6 +14,8 @@ pub data OpenKind : Type 0 where
   tftp : OpenKind
   -- a file by HTTP (RFC 9112), over a connection whose SYN has this number
   http : (isn : ℕ) → OpenKind
+  -- a drive by iSCSI (RFC 7143), over a connection whose SYN has this number, with what its hook brings to the login
+  iscsi : (isn : ℕ) → LoginInfo → OpenKind
   -- the address of a name by DNS (RFC 1035), by a query of this number
   dns : (id : ℕ) → OpenKind
   -- a lease by DHCP (RFC 2131), for this client
@@ -23,16 +27,18 @@ pub data OpenKind : Type 0 where
 abbrev pub kind_number : OpenKind → ℕ
 kind_number tftp = 1
 kind_number (http isn) = 2
+kind_number (iscsi isn i) = 3
 kind_number (dns id) = 4
 kind_number (dhcp a) = 5
 kind_number ping = 6
 
 -- what comes to an open: a message in the record of this number, from this port, or of an echo with this identifier; a segment; a time;
--- a close from above
+-- from above what a command asks of its drive, which no record brings, or a close
 pub data OpenInput : Type 0 where
   message : (rec port : ℕ) (body : List ℕ) (now : ℕ) → OpenInput
   tcp_segment : (rec : ℕ) → SegmentParts → (now : ℕ) → OpenInput
   time : (now : ℕ) → OpenInput
+  task : ReadTask → (now : ℕ) → OpenInput
   close : (cause : Cause) → OpenInput
 
 -- what came, the client as it was then, and the records that the open put

@@ -14,7 +14,7 @@ use Rattle.nb_tftp.specs.Sentences.{Meets}
 use Rattle.nb_command.specs.SettingAddresses.{host}
 use Rattle.nb_machine.specs.CommandRecords.{no_route}
 use Rattle.nb_machine.specs.Sendings.{has_route, request_of, send_records, acts_records, end_of}
-use Rattle.nb_machine.specs.Lives.{OpenInput, message, tcp_segment, time, close, Exchange, exchange, Live}
+use Rattle.nb_machine.specs.Lives.{OpenInput, message, tcp_segment, time, task, close, Exchange, exchange, Live}
 
 -- the request that it begins with
 abbrev pub transfer_of : Live → Begun
@@ -74,6 +74,7 @@ abbrev pub datagram_in : OpenInput → List Received
 datagram_in (message rec port body now) = received rec port body ∷ []
 datagram_in (tcp_segment rec g now) = []
 datagram_in (time now) = []
+datagram_in (task t now) = []
 datagram_in (close cause) = []
 
 -- the file, as far as it has come

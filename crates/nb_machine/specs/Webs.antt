@@ -10,7 +10,7 @@ use Rattle.nb_uri.specs.declared.target.UriTarget.TheVariants.{Tftp, Http, Iscsi
 use Rattle.nb_uri.specs.declared.target.UriError.{UriError}
 use Rattle.nb_uri.specs.Resolutions.{resolution}
 use Rattle.nb_machine.specs.Lives.{Exchange, Live}
-use Rattle.nb_machine.specs.Connections.{connection_of, talk_of, KeepsTalk}
+use Rattle.nb_machine.specs.Connections.{Talking, came_on, connection_of, talk_of, KeepsTalk}
 
 -- the request for what a URL names
 abbrev pub request_of_target : Result UriTarget UriError → List ℕ
@@ -27,12 +27,16 @@ request_at url = request_of_target (resolution None url)
 abbrev pub web_at : List ℕ → Talker NoTask
 web_at url = web (request_at url)
 
+-- nothing is asked of it
+abbrev pub web_talking : List ℕ → Talking NoTask
+web_talking url = record { talker = web_at url; reads = came_on }
+
 abbrev pub KeepsWeb : ℕ → Live → Type 0
-KeepsWeb isn l = KeepsTalk (web_at l.target) isn l
+KeepsWeb isn l = KeepsTalk (web_talking l.target) isn l
 
 -- the response that has come
 abbrev pub web_response : ℕ → Live → Response
-web_response isn l = response_come isn (talk_of (web_at l.target) (connection_of isn l) l.exchanges).calls
+web_response isn l = response_come isn (talk_of (web_talking l.target) (connection_of isn l) l.exchanges).calls
 
 -- what has come of its body, and the place to which it moves, if it does
 abbrev pub web_body : ℕ → Live → List ℕ

@@ -10,7 +10,7 @@ use Rattle.nb_nodes.specs.Exchanges.{Service}
 use Rattle.nb_command.specs.SettingAddresses.{host}
 use Rattle.nb_machine.specs.Sendings.{acts_records}
 use Rattle.nb_machine.specs.Saying.{datagram_from}
-use Rattle.nb_machine.specs.Lives.{OpenInput, message, tcp_segment, time, close, Exchange, exchange, Live, continued}
+use Rattle.nb_machine.specs.Lives.{OpenInput, message, tcp_segment, time, task, close, Exchange, exchange, Live, continued}
 use Rattle.nb_machine.specs.Transfers.{finds_none, end_records}
 use Rattle.nb_machine.specs.Cores.{core_end, core_records, CoreExchanged, at_first, takes_message, takes_time, closes, KeepsCore}
 use Rattle.nb_machine.specs.Takings.{end_among}
@@ -32,12 +32,14 @@ said_in : ℕ → OpenInput → Said
 said_in server (message rec port body now) = datagram_from rec port (host server) body
 said_in server (tcp_segment rec g now) = datagram_from 0 0 (host server) []
 said_in server (time now) = datagram_from 0 0 (host server) []
+said_in server (task t now) = datagram_from 0 0 (host server) []
 said_in server (close cause) = datagram_from 0 0 (host server) []
 
 now_in : OpenInput → ℕ
 now_in (message rec port body now) = now
 now_in (tcp_segment rec g now) = now
 now_in (time now) = now
+now_in (task t now) = now
 now_in (close cause) = 0
 
 same_said : (server rec port now rec' port' now' : ℕ) (body body' : List ℕ) → message rec port body now ≡ message rec' port' body' now' → datagram_from rec port (host server) body ≡ datagram_from rec' port' (host server) body'

@@ -19,10 +19,11 @@ use Rattle.nb_ping.proofs.PingCallsLemmas.{each-last as each_ping_last}
 use Rattle.nb_nodes.specs.LookupExchanges.{lookup_service, dns_datagram_in}
 use Rattle.nb_nodes.specs.LeaseExchanges.{lease_service, handed_in}
 use Rattle.nb_nodes.specs.EchoExchanges.{ping_service, reply_in}
-use Rattle.nb_machine.specs.Lives.{OpenKind, tftp, http, dns, dhcp, ping, OpenInput, exchange, Live, continued}
+use Rattle.nb_machine.specs.Lives.{OpenKind, tftp, http, iscsi, dns, dhcp, ping, OpenInput, exchange, Live, continued}
 use Rattle.nb_machine.specs.Cores.{look_up_of, ping_of}
 use Rattle.nb_machine.specs.Kinds.{KeepsBy}
-use Rattle.nb_machine.specs.Webs.{web_at}
+use Rattle.nb_machine.specs.Webs.{web_talking}
+use Rattle.nb_machine.specs.Drives.{session_talking}
 use Rattle.nb_onecourse.specs.Answers.{IsUnended, HasOneAnswer}
 use Rattle.nb_onecourse.proofs.Dues.{IsTimerAnswer, time_shown}
 use Rattle.nb_onecourse.proofs.CoreAnswers.{arrived_one, look_up_one, lease_one, ping_one}
@@ -82,7 +83,8 @@ pings_ask_one b k start = record {
 
 by_kind : (kind : OpenKind) (l : Live) (input : OpenInput) (link : Client) (put put' : List Out) → IsUnended l → KeepsBy kind (continued l (exchange input link put)) → KeepsBy kind (continued l (exchange input link put')) → put ≡ put'
 by_kind tftp l input link put put' n a c = transfer_one l input link put put' n a c
-by_kind (http isn) l input link put put' n a c = talk_one (web_at l.target) isn l input link put put' a c
+by_kind (http isn) l input link put put' n a c = talk_one (web_talking l.target) isn l input link put put' a c
+by_kind (iscsi isn i) l input link put put' n a c = talk_one (session_talking i) isn l input link put put' a c
 by_kind (dns id) l input link put put' n a c = core_one lookup_service (look_up_of id l) l _ (look_ups_ask_one (look_up_of id l) l.number l.since) input link put put' n a c
 by_kind (dhcp b) l input link put put' n a c = core_one lease_service b l _ (leases_ask_one b l.number l.since) input link put put' n a c
 by_kind ping l input link put put' n a c = core_one ping_service (ping_of l) l _ (pings_ask_one (ping_of l) l.number l.since) input link put put' n a c

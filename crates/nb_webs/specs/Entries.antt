@@ -6,13 +6,14 @@ use Rattle.nb_responses.specs.Chunks.{more, body, moved, status, Response, respo
 use Rattle.nb_readings.specs.Readings.{response_read}
 use Rattle.nb_webs.specs.Webs.{response_come}
 
--- a file, another place, or a refusal
+-- a file, another place, a refusal, or the bytes of a disk
 pub data StoreEntry : Type 0 where
   file : (bytes : List ℕ) → StoreEntry
   elsewhere : (text : List ℕ) → StoreEntry
   refusal : (code : ℕ) → StoreEntry
+  disk : (bytes : List ℕ) → StoreEntry
 
--- a response is that of an entry
+-- a response is that of an entry; none is of a disk
 pub data IsOfEntry : Response → StoreEntry → Type 0 where
   of_file : (bytes : List ℕ) → IsOfEntry (response body bytes) (file bytes)
   of_move : (text given : List ℕ) → IsOfEntry (response (moved text) given) (elsewhere text)
