@@ -169,6 +169,10 @@ frame_leaves w bytes more c (by_step earlier n at outside) (frames.by_closing k 
 frame_leaves w bytes more c (by_open j within) (frames.by_closing k leaving kind closes off) =
     let l = lives_within j w c.alone within in
     by_entry k (subst (λ z. RunsInEntry z (outputs w)) (one_lives (plain w) j k l.0 leaving.opening c.alone l.1 leaving.lives) within.within) leaving
+frame_leaves w bytes more c (by_step earlier n at outside) (frames.by_drive_closing k leaving kind closes off) = absurd (one_open leaving.opening (live k (plain w)) (c.shut bytes more refl earlier n at off k) leaving.lives)
+frame_leaves w bytes more c (by_open j within) (frames.by_drive_closing k leaving kind closes off) =
+    let l = lives_within j w c.alone within in
+    by_entry k (subst (λ z. RunsInEntry z (outputs w)) (one_lives (plain w) j k l.0 leaving.opening c.alone l.1 leaving.lives) within.within) leaving
 frame_leaves w bytes more c (by_open j within) (frames.by_open k leaving due) =
     let l = lives_within j w c.alone within in
     by_entry k (subst (λ z. RunsInEntry z (outputs w)) (one_lives (plain w) j k l.0 leaving.opening c.alone l.1 leaving.lives) within.within) leaving

@@ -14,7 +14,7 @@ use Rattle.nb_machine.specs.Transfers.{transfer_of}
 use Rattle.nb_ledger.specs.declared.event.GraphEvent.{GraphEvent}
 use Rattle.nb_machine.specs.Kinds.{first_records}
 use Rattle.nb_machine.specs.Connections.{connection_of, syn_message}
-use Rattle.nb_machine.specs.Lives.{OpenKind, tftp, http, dns, dhcp, ping, Live, open_record}
+use Rattle.nb_machine.specs.Lives.{OpenKind, tftp, http, iscsi, dns, dhcp, ping, Live, open_record}
 use Rattle.nb_machine.specs.Sendings.{has_route, is_on_its_way, request_of, send_records, try_records}
 use Rattle.nb_machine.specs.States.{bare}
 use Rattle.nb_network.specs.Openings.{begun_records, end_of_begun}
@@ -67,6 +67,7 @@ first_of_bare c k m =
 pub first_bare : (kind : OpenKind) (l : Live) (c : Client) → first_records kind l (bare c) ≡ first_records kind l c
 first_bare tftp l c = first_of_bare c l.number (request_of (transfer_of l))
 first_bare (http isn) l c = first_of_bare c l.number (syn_message (connection_of isn l))
+first_bare (iscsi isn i) l c = first_of_bare c l.number (syn_message (connection_of isn l))
 first_bare (dns id) l c = first_of_bare c l.number (query_to (look_up_of id l))
 first_bare (dhcp a) l c = first_of_bare c l.number (to_servers (message_text a None))
 first_bare ping l c = first_of_bare c l.number (echo_request (ping_of l))

@@ -20,7 +20,7 @@ use Rattle.nb_machine.specs.Scripts.{place_moved_to}
 use Rattle.nb_machine.specs.Takings.{Over}
 use Rattle.nb_machine.specs.Webs.{web_at, web_response}
 use Rattle.nb_machine.specs.Running.{Running}
-use Rattle.nb_machine.specs.Lives.{OpenKind, tftp, http, dns, dhcp, ping, kind_number, OpenInput, message, tcp_segment, time, close, Exchange, Live}
+use Rattle.nb_machine.specs.Lives.{OpenKind, tftp, http, iscsi, dns, dhcp, ping, kind_number, OpenInput, message, tcp_segment, time, task, close, Exchange, Live}
 use Rattle.nb_machine.specs.Transfers.{datagram_in}
 use Rattle.nb_machine.specs.Cores.{dns_datagrams_in, handed_bodies_in}
 use Rattle.nb_machine.specs.States.{State}
@@ -75,6 +75,7 @@ own_place es l cause opening streams kind before = by (is_ok_cause cause)
     by_kind : (k : OpenKind) → IsKindBy (hardware es) l.number k (live_opening l) → cond (kind_number k == 2) (moved_open (live_opening l) (text_of (response_so_far l.number (live_opening l) es).verdict)) [] ≡ moved_open (live_opening l) (moved_by k l)
     by_kind tftp is = refl
     by_kind (http isn) is = ap (λ (r : Response). moved_open (live_opening l) (text_of r.verdict)) (response_is es l isn is streams)
+    by_kind (iscsi isn i) is = refl
     by_kind (dns id) is = refl
     by_kind (dhcp a) is = refl
     by_kind ping is = refl
@@ -94,6 +95,7 @@ file_heard (x ∷ xs) = flat_map-append received_by (heard_call tftp x.came) (he
     one (message rec port body now) = refl
     one (tcp_segment rec g now) = refl
     one (time now) = refl
+    one (task t now) = refl
     one (close cause) = refl
 
 -- as a look-up is handed it
@@ -109,6 +111,7 @@ look_up_heard id server (x ∷ xs) =
     one (message rec port body now) = refl
     one (tcp_segment rec g now) = refl
     one (time now) = refl
+    one (task t now) = refl
     one (close cause) = refl
 
 -- as one that asks for a lease is handed it
@@ -124,4 +127,5 @@ lease_heard a (x ∷ xs) =
     one (message rec port body now) = refl
     one (tcp_segment rec g now) = refl
     one (time now) = refl
+    one (task t now) = refl
     one (close cause) = refl

@@ -24,7 +24,7 @@ use Rattle.nb_imagecmd.specs.Asking.{target_port, target_text, target_uri}
 use Rattle.nb_machine.specs.Conclusions.{Conclusion, tells, fails, file_conclusion, conclusion, conclusion_records}
 use Rattle.nb_machine.specs.Errands.{Wanted}
 use Rattle.nb_machine.specs.Running.{Running}
-use Rattle.nb_machine.specs.Lives.{OpenKind, tftp, http, dns, dhcp, ping, kind_number, Live}
+use Rattle.nb_machine.specs.Lives.{OpenKind, tftp, http, iscsi, dns, dhcp, ping, kind_number, Live}
 use Rattle.nb_machine.specs.Kinds as kinds
 use Rattle.nb_machine.specs.Kinds.{fetched, fetched_by, moved_by}
 use Rattle.nb_machine.specs.Scripts.{place_moved_to}
@@ -58,6 +58,7 @@ use Rattle.nb_lawful.proofs.Leading.{ConcludedSo, concluded_so, failed_so, Concl
 abbrev IsFileKind : OpenKind → Type 0
 IsFileKind tftp = Unit {0}
 IsFileKind (http isn) = Unit {0}
+IsFileKind (iscsi isn i) = ⊥
 IsFileKind (dns id) = ⊥
 IsFileKind (dhcp a) = ⊥
 IsFileKind ping = ⊥
@@ -70,6 +71,7 @@ kind_for_file h k (Iscsi host port lun name whole) = tt
 kind_fetches : (kind : OpenKind) → IsFileKind kind → ((kind_number kind == 1) || (kind_number kind == 2)) ≡ true
 kind_fetches tftp is = refl
 kind_fetches (http isn) is = refl
+kind_fetches (iscsi isn i) is = absurd is
 kind_fetches (dns id) is = absurd is
 kind_fetches (dhcp a) is = absurd is
 kind_fetches ping is = absurd is
@@ -147,6 +149,7 @@ file_is es outs s inner outer moved l cause h well stays (http isn) is fits =
     ∙ ap (λ (x : Response). cond (is_body x.verdict) (Some x.bytes) None) r
     ∙ ap (λ b. cond b (Some (web_body isn l)) None) (whole_body (web_response isn l).verdict whole none)
     ∙ ap (λ z. Some z) (sym (ap (λ k. fetched_by k l) is))
+file_is es outs s inner outer moved l cause h well stays (iscsi isn i) is fits = absurd fits
 file_is es outs s inner outer moved l cause h well stays (dns id) is fits = absurd fits
 file_is es outs s inner outer moved l cause h well stays (dhcp a) is fits = absurd fits
 file_is es outs s inner outer moved l cause h well stays ping is fits = absurd fits
@@ -160,6 +163,7 @@ no_file_where_moved es outs s inner outer moved l cause place h goes (http isn) 
     ∙ ap (λ (x : Response). cond (is_body x.verdict) (Some x.bytes) None) r
     ∙ ap (λ b. cond b (Some (web_body isn l)) None) (moved_body (web_response isn l).verdict place (sym (ap (λ k. moved_by k l) is) ∙ goes))
 no_file_where_moved es outs s inner outer moved l cause place h goes tftp is = absurd (none-some place (sym (ap (λ k. moved_by k l) is) ∙ goes))
+no_file_where_moved es outs s inner outer moved l cause place h goes (iscsi isn i) is = absurd (none-some place (sym (ap (λ k. moved_by k l) is) ∙ goes))
 no_file_where_moved es outs s inner outer moved l cause place h goes (dns id) is = absurd (none-some place (sym (ap (λ k. moved_by k l) is) ∙ goes))
 no_file_where_moved es outs s inner outer moved l cause place h goes (dhcp a) is = absurd (none-some place (sym (ap (λ k. moved_by k l) is) ∙ goes))
 no_file_where_moved es outs s inner outer moved l cause place h goes ping is = absurd (none-some place (sym (ap (λ k. moved_by k l) is) ∙ goes))

@@ -14,7 +14,7 @@ use Rattle.nb_machine.specs.Effects.{Effect}
 use Rattle.nb_machine.specs.Sendings.{has_route}
 use Rattle.nb_machine.specs.Running.{Running, entered, anew}
 use Rattle.nb_streams.proofs.FlowLaws.{all_append}
-use Rattle.nb_machine.specs.Lives.{OpenKind, tftp, http, dns, dhcp, ping, OpenInput, Live}
+use Rattle.nb_machine.specs.Lives.{OpenKind, tftp, http, iscsi, dns, dhcp, ping, OpenInput, Live}
 use Rattle.nb_machine.specs.Kinds.{first_records}
 use Rattle.nb_machine.specs.States.{State, net0, with_images, with_opened}
 use Rattle.nb_machine.specs.Takings.{Over, AllTake, all_have, lives_on, is_over}
@@ -88,6 +88,7 @@ first_goes l link put is = by l.kind is
     by : (kind : OpenKind) → first_records kind l link ≡ Some put → has_route link (first_of kind l) ≡ true
     by tftp is = either_goes (has_route link (first_of tftp l)) _ put is
     by (http isn) is = either_goes (has_route link (first_of (http isn) l)) _ put is
+    by (iscsi isn i) is = either_goes (has_route link (first_of (iscsi isn i) l)) _ put is
     by (dns id) is = either_goes (has_route link (first_of (dns id) l)) _ put is
     by (dhcp a) is = either_goes (has_route link (first_of (dhcp a) l)) _ put is
     by ping is = either_goes (has_route link (first_of ping l)) _ put is

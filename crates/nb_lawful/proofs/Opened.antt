@@ -19,7 +19,7 @@ use Rattle.nb_machine.specs.CommandRecords.{no_route}
 use Rattle.nb_machine.specs.Effects.{Effect, ShownWords}
 use Rattle.nb_machine.specs.Errands.{Wanted}
 use Rattle.nb_machine.specs.Queries.{Query}
-use Rattle.nb_machine.specs.Lives.{OpenKind, tftp, http, dns, dhcp, ping, Live, open_record, end_record}
+use Rattle.nb_machine.specs.Lives.{OpenKind, tftp, http, iscsi, dns, dhcp, ping, Live, open_record, end_record}
 use Rattle.nb_machine.specs.Connections.{connection_of, syn_message}
 use Rattle.nb_machine.specs.Kinds.{first_records}
 use Rattle.nb_machine.specs.States.{State, with_opened, with_one_made}
@@ -68,6 +68,7 @@ first_opens l link put is = by l.kind is
     by : (kind : OpenKind) → first_records kind l link ≡ Some put → AreOpens put
     by tftp is = sent_first link l.number (request_of (transfer_of l)) put is
     by (http isn) is = sent_first link l.number (syn_message (connection_of isn l)) put is
+    by (iscsi isn i) is = sent_first link l.number (syn_message (connection_of isn l)) put is
     by (dns id) is = sent_first link l.number (query_to (look_up_of id l)) put is
     by (dhcp a) is = sent_first link l.number (to_servers (message_text a None)) put is
     by ping is = sent_first link l.number (echo_request (ping_of l)) put is

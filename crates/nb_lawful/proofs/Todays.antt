@@ -24,7 +24,7 @@ use Rattle.nb_laws.specs.HandOff.{HandsOff}
 use Rattle.nb_stack.specs.Brings.{Brought}
 use Rattle.nb_openlaws.proofs.OpenRecords.{snoc_one}
 use Rattle.nb_lawful.specs.ScriptAgreement.{HandsOver, HandsWhatCame}
-use Rattle.nb_laws.specs.Frames.{IsPut, by_reply, by_open, by_closing, HoldsResult, HoldsOf, WritesSo}
+use Rattle.nb_laws.specs.Frames.{IsPut, by_reply, by_open, by_closing, by_drive_closing, HoldsResult, HoldsOf, WritesSo}
 use Rattle.nb_laws.specs.Webs.{opens_connection}
 use Rattle.nb_laws.specs.Histories.{client}
 use Rattle.nb_laws.specs.Lawful.{HandsAsBrought, IsLawful}
@@ -38,7 +38,7 @@ use Rattle.nb_laws.proofs.SoFar.{so_far_more}
 use Rattle.nb_laws.proofs.Stays.{IsAsking}
 use Rattle.nb_laws.proofs.Settling.{same_shown}
 use Rattle.nb_laws.proofs.Tellings.{told}
-use Rattle.nb_openlaws.specs.OpenEndings.{HadWay, MayStandBehind, ClosesToBoot, EndsBecause, by_itself, by_lost_way, by_device, by_hand_off, closes_off, closes_down, closes_booted, IsPutOrCloses, by_reason, by_close, OpensEndSo, FramesSo}
+use Rattle.nb_openlaws.specs.OpenEndings.{HadWay, MayStandBehind, ClosesToBoot, EndsBecause, by_itself, by_lost_way, by_device, by_hand_off, closes_off, closes_down, closes_booted, IsPutOrCloses, by_reason, by_close, by_drive_close, OpensEndSo, FramesSo}
 use Rattle.nb_lawful.specs.CommandOpens.{CommandOpen, over_of, command_open, command_end}
 use Rattle.nb_lawful.specs.Lawful.{KeepsLaws}
 use Rattle.nb_lawful.specs.OpenPurposes.{HasBeenMoved, OpenIsFor, first_for_file, first_for_query, next_for_host, next_for_place}
@@ -206,6 +206,9 @@ frames_so es bytes a (by_reason is) = is
 frames_so es bytes a (by_close k sends kind closes (closes_off off)) = by_closing k sends kind closes off
 frames_so es bytes a (by_close k sends kind closes (closes_down still comes)) = absurd (not_shut es k sends.opening a sends.lives still comes)
 frames_so es bytes a (by_close k sends kind closes (closes_booted booted)) = absurd (not_booted es k sends.opening a sends.lives booted)
+frames_so es bytes a (by_drive_close k sends kind closes (closes_off off)) = by_drive_closing k sends kind closes off
+frames_so es bytes a (by_drive_close k sends kind closes (closes_down still comes)) = absurd (not_shut es k sends.opening a sends.lives still comes)
+frames_so es bytes a (by_drive_close k sends kind closes (closes_booted booted)) = absurd (not_booted es k sends.opening a sends.lives booted)
 
 writes_so : (es : List Event) (e : Event) → Solitude es → CommandsSo es e → FramesSo es e → WritesSo es e
 writes_so es (puts (sent bytes)) a c f = frames_so es bytes a f
@@ -244,6 +247,7 @@ no_frame : (es : List Event) (bytes : List ℕ) → ((k : ℕ) → live k es ≡
 no_frame es bytes none last (by_reply before n taken m is alone spelled some) = not_heard es before n taken m last is
 no_frame es bytes none last (by_open k sends due) = let no : [] ≡ sends.opening ∷ [] = sym (none k) ∙ sends.lives in cc no
 no_frame es bytes none last (by_closing k sends kind closes off) = let no : [] ≡ sends.opening ∷ [] = sym (none k) ∙ sends.lives in cc no
+no_frame es bytes none last (by_drive_closing k sends kind closes off) = let no : [] ≡ sends.opening ∷ [] = sym (none k) ∙ sends.lives in cc no
 
 one_silent : (es : List Event) (o : Out) → Solitude es → (so_far es).is_open ≡ false → EndsWritten es → FramesSo es (puts o) → MayStandBehind o → IsSilent o
 one_silent es (sent bytes) a off last frames h = absurd (no_frame es bytes (none_lives es a (a.idle off)) last (frames_so es bytes a frames))

@@ -30,7 +30,7 @@ use Rattle.nb_dhcp.specs.History.{acknowledgement_in}
 use Rattle.nb_tftp.specs.Received.{Received}
 use Rattle.nb_laws.specs.Events.{Event, starts, hears, waits, stops, puts, followed}
 use Rattle.nb_laws.specs.Lists.{Hardware, hardware, Opening, openings, datagrams_of, made, last_end, came_ok}
-use Rattle.nb_laws.specs.Webs.{opens_connection, opens_a_file, is_body, response_so_far}
+use Rattle.nb_laws.specs.Webs.{opens_web, opens_a_file, is_body, response_so_far}
 use Rattle.nb_laws.specs.Moves.{MovedOpen, moves}
 use Rattle.nb_laws.specs.Cores.{lookup_by, asker_by, looked_at, handed_over}
 
@@ -191,7 +191,7 @@ abbrev pub file_of : List Received → Option (List ℕ)
 file_of received = if is_whole received then Some (file received) else None
 
 abbrev pub file_fetched : ℕ → List Event → Opening → Option (List ℕ)
-file_fetched k es o = if opens_connection o then body_of (response_so_far k o es) else file_of (datagrams_of k es)
+file_fetched k es o = if opens_web o then body_of (response_so_far k o es) else file_of (datagrams_of k es)
 
 -- what comes of a file that an open has fetched
 abbrev pub arrived_so_far : Option (List ℕ) → CommandsSoFar → Opening → Wanted → Option Conclusion

@@ -1,5 +1,5 @@
 -- What an open of one exchange asks for, by its opening and START, and what came to it, as its core is handed it.
-use Rattle.std.specs.Prelude.{ℕ, ◌==◌, Bool, true, false, List, [], ◌∷◌, map, if◌then◌else◌}
+use Rattle.std.specs.Prelude.{ℕ, ◌==◌, ◌&&◌, Bool, true, false, List, [], ◌∷◌, map, if◌then◌else◌}
 use Rattle.std.specs.Option.{is_some}
 use Rattle.nb_wire.specs.declared.address.Ip4.{Ip4}
 use Rattle.nb_dns.specs.Lookups.{Lookup, lookup}
@@ -14,7 +14,7 @@ use Rattle.nb_command.specs.SettingAddresses.{host}
 use Rattle.nb_machine.specs.Findings.{asker_at, query_id}
 use Rattle.nb_laws.specs.Events.{Event}
 use Rattle.nb_laws.specs.Lists.{Hardware, hardware, Opening, datagrams_of}
-use Rattle.nb_laws.specs.Webs.{opens_connection, has_response}
+use Rattle.nb_laws.specs.Webs.{opens_web, has_response}
 
 -- the look-up of open k, its query's number by START's key
 abbrev pub lookup_by : Hardware → ℕ → Opening → Lookup
@@ -47,14 +47,14 @@ has_some [] = false
 has_some (m ∷ ms) = true
 
 -- of what open k has received its answer can be made: the whole file, an address for its name, the acknowledgement of its
--- lease, or an echo
+-- lease, or an echo; a drive's open has none, since it goes on until it is closed or fails
 abbrev pub answers_open : Hardware → ℕ → Opening → List Received → Bool
 answers_open h k o ms =
     if o.kind == 1 then is_whole ms
     else if o.kind == 4 then is_some (address_found (lookup_by h k o) (looked_at o ms))
     else if o.kind == 5 then is_some (acknowledgement_in (asker_by h k) (handed_over ms))
-    else has_some ms
+    else (o.kind == 6) && has_some ms
 
 -- what open k asks for has come: by HTTP a whole response, of all others what can be made of their datagrams
 abbrev pub has_its_answer : ℕ → Opening → List Event → Bool
-has_its_answer k o es = if opens_connection o then has_response k o es else answers_open (hardware es) k o (datagrams_of k es)
+has_its_answer k o es = if opens_web o then has_response k o es else answers_open (hardware es) k o (datagrams_of k es)

@@ -1,5 +1,5 @@
 -- What is handed off: the images that the commands have left in the list, by the history alone.
-use Rattle.std.specs.Prelude.{◌≡◌, ℕ, ◌-◌, true, List, [], ◌∷◌, ◌++◌, map, Some}
+use Rattle.std.specs.Prelude.{◌≡◌, ℕ, ◌-◌, true, List, [], ◌∷◌, ◌++◌, map, Some, ◌*◌, length}
 use Rattle.std.specs.List.{AllByRecursion}
 use Rattle.nb_defs.specs.Causes.{ok}
 use Rattle.nb_defs.specs.Parts.{HaveNoParts}
@@ -13,8 +13,14 @@ use Rattle.nb_machine.specs.Errands.{Wanted}
 use Rattle.nb_machine.specs.Findings.{first_word}
 use Rattle.nb_tftp.specs.Cuts.{CarriesFile}
 use Rattle.nb_tftp.specs.Received.{Received}
-use Rattle.nb_webs.specs.Entries.{StoreEntry, file, elsewhere, ServesEntry}
+use Rattle.nb_sans.specs.Targets.{IsDisk, ServesDisk, AreOfDisk}
+use Rattle.nb_sans.specs.Sessions.{tasks_taken, task_answers}
+use Rattle.nb_streams.specs.Streams.{front}
+use Rattle.nb_streams.specs.Talking.{talk_held}
+use Rattle.nb_webs.specs.Entries.{StoreEntry, file, elsewhere, disk, ServesEntry}
 use Rattle.nb_laws.specs.CommandsSoFar.{so_far, surroundings_in, comes_after, conclusion_so_far}
+use Rattle.nb_laws.specs.Drives.{SessionOpening, sessions, session_so_far, answered_so_far}
+use Rattle.nb_machine.specs.Drives.{DriveAnswer}
 use Rattle.nb_laws.specs.Events.{Event, puts, EachEvent}
 use Rattle.nb_laws.specs.Fetching.{FetchesFile}
 use Rattle.nb_laws.specs.Lists.{hardware, Opening, openings, datagrams_of, came_ok, last_end, made}
@@ -44,7 +50,8 @@ pub record HandsOff (es : List Event) (outs rest : List Out) : Type 0 where
   pub none : HaveNoParts before
   pub ends : outs ++ rest ≡ before ++ handoff_records booted.kernel booted.list.images
 
--- what servers hold: by an address, a port and a target, a path or a whole URI, a file, another place or a refusal
+-- what servers hold: by an address, a port and a target, a path or a whole URI, a file, another place or a refusal; under a disk's name and unit
+-- its bytes
 abbrev pub Store : Type 0
 Store = (address port : ℕ) → (target : List ℕ) → StoreEntry
 
@@ -54,11 +61,19 @@ pub record ServesBlocks (entry : StoreEntry) (received : List Received) : Type 0
   pub holds : entry ≡ file bytes
   pub carried : CarriesFile bytes received
 
+-- what has come to a drive's session is served of a disk
+pub record ServesSession (entry : StoreEntry) (es : List Event) (k : ℕ) (s : SessionOpening) : Type 0 where
+  pub bytes : List ℕ
+  pub holds : entry ≡ disk bytes
+  pub whole : IsDisk bytes
+  pub served : ServesDisk bytes s.login (first_word (hardware es).identity k) (session_so_far k s es).calls (session_so_far k s es).tasks
+
 -- What each open of a file has received so far is what its server holds, at its port, under its target: blocks of a file, or a stream whose
--- response is that of the entry.
+-- response is that of the entry; so is what a drive's open has received, of a disk.
 pub record IsHonestTo (entry : StoreEntry) (es : List Event) (k : ℕ) (o : Opening) : Type 0 where
   pub blocks : o.kind ≡ 1 → ServesBlocks entry (datagrams_of k es)
   pub stream : o.kind ≡ 2 → ServesEntry entry (first_word (hardware es).identity k) (talk_by (hardware es) k o (brought_to k es)).calls
+  pub session : o.kind ≡ 3 → AllByRecursion (λ s. ServesSession entry es k s) (sessions k es)
 
 abbrev pub AreHonest : Store → List Event → Type 0
 AreHonest store es = (k : ℕ) → AllByRecursion (λ o. IsHonestTo (store o.server o.port o.target) es k o) (openings k es)
@@ -109,3 +124,15 @@ BringTheirs es = (store : Store) → StayHonest store es → AllByRecursion (IsF
 -- and each that is handed off
 abbrev pub HandsTheirs : (es : List Event) (outs rest : List Out) → HandsOff es outs rest → Type 0
 HandsTheirs es outs rest h = (store : Store) → StayHonest store es → AllByRecursion (IsFileOf store es) h.booted.list.images
+
+-- what a drive has answered is its server's: each good answer to a read is its blocks of the disk, byte for byte, and the capacity is the disk's
+pub record IsAnsweredBy (store : Store) (es : List Event) (k : ℕ) (s : SessionOpening) : Type 0 where
+  pub bytes : List ℕ
+  pub holds : store s.opening.server s.opening.port s.opening.target ≡ disk bytes
+  pub answers : AreOfDisk bytes (tasks_taken s.login (front (talk_held (first_word (hardware es).identity k) (session_so_far k s es))) (session_so_far k s es).tasks)
+      (task_answers s.login (front (talk_held (first_word (hardware es).identity k) (session_so_far k s es))) (session_so_far k s es).tasks)
+  pub capacity : (a : DriveAnswer) → answered_so_far k s es ≡ Some a → 512 * a.capacity ≡ length bytes
+
+-- so has each, where servers are honest
+abbrev pub AnswerTheirs : List Event → Type 0
+AnswerTheirs es = (store : Store) → AreHonest store es → (k : ℕ) → AllByRecursion (λ s. IsAnsweredBy store es k s) (sessions k es)

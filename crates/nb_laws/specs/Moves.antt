@@ -6,7 +6,7 @@ use Rattle.nb_defs.specs.Records.{step, command, ended}
 use Rattle.nb_readings.specs.Ends.{text_of}
 use Rattle.nb_laws.specs.Events.{Event, puts, followed}
 use Rattle.nb_laws.specs.Lists.{Opening, openings, made}
-use Rattle.nb_laws.specs.Webs.{opens_connection, response_so_far}
+use Rattle.nb_laws.specs.Webs.{opens_web, response_so_far}
 
 -- an open whose server has moved its file to this place, as its response names it
 pub record MovedOpen : Type 0 where
@@ -19,7 +19,7 @@ moved_open o (Some place) = record { opening = o; place = place } ∷ []
 
 -- open k, if its response names a place
 abbrev pub moved_by_server : ℕ → List Event → Opening → List MovedOpen
-moved_by_server k es o = if opens_connection o then moved_open o (text_of (response_so_far k o es).verdict) else []
+moved_by_server k es o = if opens_web o then moved_open o (text_of (response_so_far k o es).verdict) else []
 
 abbrev pub moves_by : List Event → List MovedOpen → Event → List MovedOpen
 moves_by before moves (puts (ended k cause)) =

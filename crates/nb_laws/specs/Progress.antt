@@ -5,6 +5,7 @@ use Rattle.nb_machine.specs.Effects.{sleeps}
 use Rattle.nb_laws.specs.CommandsSoFar.{so_far, ComesTo}
 use Rattle.nb_laws.specs.Events.{Event, starts, hears, waits, stops, puts, inputs}
 use Rattle.nb_laws.specs.Lists.{Opening, live, fetches, file_blocks, last_place, made, commands_begun}
+use Rattle.nb_laws.specs.Drives.{session_place}
 use Rattle.nb_laws.specs.Webs.{stream_place}
 use Rattle.nb_laws.specs.Cores.{has_its_answer}
 
@@ -12,12 +13,12 @@ use Rattle.nb_laws.specs.Cores.{has_its_answer}
 abbrev pub NoneIsAnswered : List Event → Type 0
 NoneIsAnswered es = (k : ℕ) (o : Opening) → live k es ≡ o ∷ [] → has_its_answer k o es ≡ false
 
--- how far open k's file has come: by TFTP the number of its last block, by HTTP the end of what has come of its stream; 0 of an open that
--- fetches none
+-- how far open k has come: by TFTP the number of its file's last block, by HTTP and of a drive the end of what has come of its stream; 0 of any
+-- other
 abbrev pub file_place : ℕ → List Event → ℕ
-file_place k es = file_blocks k es + stream_place k es
+file_place k es = file_blocks k es + stream_place k es + session_place k es
 
--- each open's last ADVANCE has the place to which its file has come; an open that fetches none has no ADVANCE
+-- each open's last ADVANCE has the place to which it has come; one that has neither file nor stream has no ADVANCE
 abbrev pub IsAdvanced : List Event → Type 0
 IsAdvanced es = (k : ℕ) → last_place k es ≡ file_place k es
 

@@ -26,13 +26,21 @@ use Rattle.nb_machine.specs.Webs.{request_at, web_at}
 use Rattle.nb_laws.specs.Events.{Event, starts, hears, waits, stops, puts}
 use Rattle.nb_laws.specs.Lists.{Hardware, hardware, Opening, opens_file, openings, live, time, gathered}
 
--- an open on a connection: one that fetches by HTTP
+-- an open that fetches by HTTP
+abbrev pub opens_web : Opening → Bool
+opens_web o = o.kind == 2
+
+-- one that is a drive's session
+abbrev pub opens_session : Opening → Bool
+opens_session o = o.kind == 3
+
+-- an open on a connection
 abbrev pub opens_connection : Opening → Bool
-opens_connection o = o.kind == 2
+opens_connection o = opens_web o || opens_session o
 
 -- an open that fetches a file, by TFTP (1) or by HTTP
 abbrev pub opens_a_file : Opening → Bool
-opens_a_file o = opens_file o || opens_connection o
+opens_a_file o = opens_file o || opens_web o
 
 -- the response has a body, all of it
 abbrev pub is_body : Verdict → Bool
@@ -61,7 +69,7 @@ came_at k before (starts n s) = []
 came_at k before (stops n) = []
 came_at k before (puts o) = []
 
--- the segments and times that came to open k while it was live
+-- the segments and times that came to open k while it was live, which a connection has
 unfoldable pub brought_to : ℕ → List Event → List (Came NoTask)
 brought_to k es = gathered (came_at k) [] es
 
@@ -84,9 +92,9 @@ response_so_far k o es = response_by (hardware es) k o (brought_to k es)
 abbrev pub has_response : ℕ → Opening → List Event → Bool
 has_response k o es = is_whole (response_so_far k o es).verdict
 
--- how far its stream has come; 0 of an open that has no connection
+-- how far its stream has come; 0 of an open that doesn't fetch by HTTP
 abbrev pub stream_place_by : Hardware → ℕ → List (Came NoTask) → Opening → ℕ
-stream_place_by h k came o = if opens_connection o then next (talk_held (first_word h.identity k) (talk_by h k o came)) else 0
+stream_place_by h k came o = if opens_web o then next (talk_held (first_word h.identity k) (talk_by h k o came)) else 0
 
 abbrev pub stream_place : ℕ → List Event → ℕ
 stream_place k es = sum_by (stream_place_by (hardware es) k (brought_to k es)) (openings k es)

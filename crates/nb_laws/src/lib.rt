@@ -4,6 +4,6 @@
 mod laws;
 
 pub use laws::{
-    honest_servers_files_are_brought, names_are_read_as_spelled, one_history,
-    packets_are_read_as_spelled,
+    honest_servers_files_are_brought, honest_targets_answer_with_their_disks,
+    names_are_read_as_spelled, one_history, packets_are_read_as_spelled,
 };

@@ -20,9 +20,10 @@ use Rattle.nb_dns.specs.LookupReplies.{address_found}
 use Rattle.nb_dhcp.specs.History.{acknowledgement_in}
 use Rattle.nb_machine.specs.Cores.{CoreExchanged, at_first, takes_message, takes_time, closes, KeepsCore, core_records, look_up_of, ping_of, dns_datagrams_in, handed_bodies_in}
 use Rattle.nb_machine.specs.Kinds.{Keeps, KeepsBy, fetched_by, granted_of, moved_by, resolved_of}
-use Rattle.nb_machine.specs.Lives.{OpenInput, message, time, OpenKind, tftp, http, dns, dhcp, ping, Exchange, exchange, Live, continued}
-use Rattle.nb_machine.specs.Connections.{Connection, connection_of, came_on, talk_of, KeepsAt, EachExchange}
-use Rattle.nb_machine.specs.Webs.{web_at}
+use Rattle.nb_machine.specs.Lives.{OpenInput, message, time, OpenKind, tftp, http, iscsi, dns, dhcp, ping, Exchange, exchange, Live, continued}
+use Rattle.nb_machine.specs.Connections.{Connection, connection_of, came_on, talk_of, KeepsAt, EachExchange, Talking}
+use Rattle.nb_machine.specs.Drives.{session_talking}
+use Rattle.nb_machine.specs.Webs.{web_at, web_talking}
 use Rattle.nb_streams.specs.Talking.{Talk, Talker, talk_after}
 use Rattle.nb_readings.specs.Ends.{text_of}
 use Rattle.nb_webs.specs.Webs.{NoTask, response_come}
@@ -99,13 +100,14 @@ bare_core_exchanged s k server cs ys (closes cs0 xs0 link cause h) xs x e =
 core_keeps_bare : {S B C : Type 0} (s : Service S B C) (b : B) (l : Live) (x : Exchange) → KeepsCore s b (continued l x) → KeepsCore s b (continued l (bared x))
 core_keeps_bare s b l x k = record { calls = k.calls; exchanged = bare_core_exchanged s l.number l.server k.calls (l.exchanges ++ x ∷ []) k.exchanged l.exchanges x refl; meets = k.meets }
 
-each_bare : {T : Type 0} (t : Talker T) (c : Connection) (before xs : List Exchange) (x : Exchange) → EachExchange (KeepsAt t c) before (xs ++ x ∷ []) → EachExchange (KeepsAt t c) before (xs ++ bared x ∷ [])
+each_bare : {T : Type 0} (t : Talking T) (c : Connection) (before xs : List Exchange) (x : Exchange) → EachExchange (KeepsAt t c) before (xs ++ x ∷ []) → EachExchange (KeepsAt t c) before (xs ++ bared x ∷ [])
 each_bare t c before [] x h = (record { put = h.0.put; puts = h.0.puts; records = h.0.records ∙ sym (put_bare c x.link h.0.put) }, tt)
 each_bare t c before (y ∷ xs) x h = (h.0, each_bare t c (before ++ y ∷ []) xs x h.1)
 
 keeps_by_bare : (k : OpenKind) (l : Live) (x : Exchange) → KeepsBy k (continued l x) → KeepsBy k (continued l (bared x))
 keeps_by_bare tftp l x k = record { entries = k.entries; exchanged = bare_exchanged l.number l.server k.entries (l.exchanges ++ x ∷ []) k.exchanged l.exchanges x refl; meets = k.meets }
-keeps_by_bare (http isn) l x k = each_bare (web_at l.target) (connection_of isn l) [] l.exchanges x k
+keeps_by_bare (http isn) l x k = each_bare (web_talking l.target) (connection_of isn l) [] l.exchanges x k
+keeps_by_bare (iscsi isn i) l x k = each_bare (session_talking i) (connection_of isn l) [] l.exchanges x k
 keeps_by_bare (dns id) l x k = core_keeps_bare lookup_service (look_up_of id l) l x k
 keeps_by_bare (dhcp a) l x k = core_keeps_bare lease_service a l x k
 keeps_by_bare ping l x k = core_keeps_bare ping_service (ping_of l) l x k
@@ -119,12 +121,13 @@ same_found : {A : Type 0} (f : Exchange → List A) (xs : List Exchange) (x y : 
 same_found f xs x y e = flat_map-append f xs (x ∷ []) ∙ ap (λ z. flat_map f xs ++ (z ++ [])) e ∙ sym (flat_map-append f xs (y ∷ []))
 
 -- what came is the same
-talk_bare : (isn : ℕ) (l : Live) (x : Exchange) → talk_of (web_at l.target) (connection_of isn l) (l.exchanges ++ bared x ∷ []) ≡ talk_of (web_at l.target) (connection_of isn l) (l.exchanges ++ x ∷ [])
+talk_bare : (isn : ℕ) (l : Live) (x : Exchange) → talk_of (web_talking l.target) (connection_of isn l) (l.exchanges ++ bared x ∷ []) ≡ talk_of (web_talking l.target) (connection_of isn l) (l.exchanges ++ x ∷ [])
 talk_bare isn l x = ap (talk_after (web_at l.target) isn l.since) (same_found (λ y. came_on y.came) l.exchanges (bared x) x refl)
 
 fetched_bare : (k : OpenKind) (l : Live) (x : Exchange) → fetched_by k (continued l (bared x)) ≡ fetched_by k (continued l x)
 fetched_bare tftp l x = ap file (same_found (λ y. datagram_in y.came) l.exchanges (bared x) x refl)
 fetched_bare (http isn) l x = ap (λ d. (response_come isn d.calls).bytes) (talk_bare isn l x)
+fetched_bare (iscsi isn i) l x = refl
 fetched_bare (dns id) l x = refl
 fetched_bare (dhcp a) l x = refl
 fetched_bare ping l x = refl
@@ -132,6 +135,7 @@ fetched_bare ping l x = refl
 moved_bare : (k : OpenKind) (l : Live) (x : Exchange) → moved_by k (continued l (bared x)) ≡ moved_by k (continued l x)
 moved_bare tftp l x = refl
 moved_bare (http isn) l x = ap (λ d. text_of (response_come isn d.calls).verdict) (talk_bare isn l x)
+moved_bare (iscsi isn i) l x = refl
 moved_bare (dns id) l x = refl
 moved_bare (dhcp a) l x = refl
 moved_bare ping l x = refl
@@ -139,6 +143,7 @@ moved_bare ping l x = refl
 granted_bare : (k : OpenKind) (xs : List Exchange) (x : Exchange) → granted_of k (xs ++ bared x ∷ []) ≡ granted_of k (xs ++ x ∷ [])
 granted_bare tftp xs x = refl
 granted_bare (http isn) xs x = refl
+granted_bare (iscsi isn i) xs x = refl
 granted_bare (dns id) xs x = refl
 granted_bare (dhcp a) xs x = ap (acknowledgement_in a) (same_found (λ y. handed_bodies_in y.came) xs (bared x) x refl)
 granted_bare ping xs x = refl
@@ -146,6 +151,7 @@ granted_bare ping xs x = refl
 resolved_bare : (k : OpenKind) (l : Live) (x : Exchange) → resolved_of k (continued l (bared x)) ≡ resolved_of k (continued l x)
 resolved_bare tftp l x = refl
 resolved_bare (http isn) l x = refl
+resolved_bare (iscsi isn i) l x = refl
 resolved_bare (dns id) l x = ap (address_found (look_up_of id l)) (same_found (λ y. dns_datagrams_in l.server y.came) l.exchanges (bared x) x refl)
 resolved_bare (dhcp a) l x = refl
 resolved_bare ping l x = refl
@@ -178,6 +184,7 @@ under_way_bare tftp c g l x i = record {
   short = i.short;
 }
 under_way_bare (http isn) c g l x i = absurd i
+under_way_bare (iscsi isn a) c g l x i = absurd i
 under_way_bare (dns id) c g l x i = asking_bare lookup_service (top_mark chain.Name) (look_up_of id l) c g l x i
 under_way_bare (dhcp a) c g l x i = asking_bare lease_service (top_mark chain.Lease) a c g l x i
 under_way_bare ping c g l x i = asking_bare ping_service (top_mark chain.Echo) (ping_of l) c g l x i
@@ -189,9 +196,10 @@ web_under_way_bare (http isn) own c g l x i = record {
   kinds = i.kinds;
   hosted = i.hosted;
   stands = subst (λ (d : Talk NoTask). StandsForTalk (ask_of isn own l) l.since d.calls c g) (sym (talk_bare isn l x)) i.stands;
-  keeps = each_bare (web_at l.target) (connection_of isn l) [] l.exchanges x i.keeps;
+  keeps = each_bare (web_talking l.target) (connection_of isn l) [] l.exchanges x i.keeps;
   asked = i.asked;
 }
+web_under_way_bare (iscsi isn a) own c g l x i = absurd i
 web_under_way_bare tftp own c g l x i = absurd i
 web_under_way_bare (dns id) own c g l x i = absurd i
 web_under_way_bare (dhcp a) own c g l x i = absurd i

@@ -12,7 +12,7 @@ use Rattle.nb_nodes.specs.declared.obj.Obj.{Obj}
 use Rattle.nb_stack.specs.Client.{Client}
 use Rattle.nb_stack.specs.declared.address.Addr.{Addr}
 use Rattle.nb_machine.specs.Kinds.{is_connection}
-use Rattle.nb_machine.specs.Lives.{OpenKind, tftp, http, dns, dhcp, ping, Live}
+use Rattle.nb_machine.specs.Lives.{OpenKind, tftp, http, iscsi, dns, dhcp, ping, Live}
 use Rattle.nb_machine.specs.Starting.{own_port}
 use Rattle.nb_chains.specs.declared.kind.ChainKind.{ChainKind}
 use Rattle.nb_chains.specs.declared.kind.ChainKind.TheVariants as chain
@@ -43,6 +43,7 @@ kind_is (Echo x) = refl
 port_of_connection : (k : OpenKind) (w number : ℕ) → is_connection k ≡ true → port_for (kind_for k) w number ≡ own_port w number
 port_of_connection tftp w number c = absurd (false≢true c)
 port_of_connection (http isn) w number c = refl
+port_of_connection (iscsi isn i) w number c = refl
 port_of_connection (dns id) w number c = absurd (false≢true c)
 port_of_connection (dhcp x) w number c = absurd (false≢true c)
 port_of_connection ping w number c = absurd (false≢true c)
@@ -54,6 +55,7 @@ port_by_objects (objects.Web port own chain) l w number i = port_of_connection l
 protocol_of_kind : (k : OpenKind) → is_connection k ≡ false → carrier_number (carrier_for k) ≡ protocol_for (kind_for k)
 protocol_of_kind tftp c = refl
 protocol_of_kind (http isn) c = absurd (false≢true (sym c))
+protocol_of_kind (iscsi isn i) c = absurd (false≢true (sym c))
 protocol_of_kind (dns id) c = refl
 protocol_of_kind (dhcp x) c = refl
 protocol_of_kind ping c = refl

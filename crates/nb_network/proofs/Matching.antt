@@ -11,7 +11,7 @@ use Rattle.nb_chains.specs.declared.arrival.Arrival.{Arrival}
 use Rattle.nb_wire.specs.declared.address.Ip4.{Ip4}
 use Rattle.nb_tcpseg.specs.SegmentText.{SegmentParts}
 use Rattle.nb_machine.specs.Kinds.{is_for, is_ping, is_reply_for, takes_from, is_connection, has_port, is_segment_for}
-use Rattle.nb_machine.specs.Lives.{OpenKind, tftp, http, dns, dhcp, ping, Live}
+use Rattle.nb_machine.specs.Lives.{OpenKind, tftp, http, iscsi, dns, dhcp, ping, Live}
 use Rattle.nb_machine.specs.States.{net0}
 use Rattle.nb_teller.specs.Speakers.{carrier_number}
 use Rattle.nb_open.specs.declared.objects.OpenObjects.{OpenObjects}
@@ -41,6 +41,7 @@ none_of g f P each (o ∷ os) (l ∷ ls) i h = ap (λ b. b || list_any f ls) (ea
 pub tcp_of : (k : OpenKind) → is_connection k ≡ true → carrier_number (carrier_for k) ≡ 6
 tcp_of tftp c = absurd (false≢true c)
 tcp_of (http isn) c = refl
+tcp_of (iscsi isn i) c = refl
 tcp_of (dns id) c = absurd (false≢true c)
 tcp_of (dhcp a) c = absurd (false≢true c)
 tcp_of ping c = absurd (false≢true c)
@@ -48,6 +49,7 @@ tcp_of ping c = absurd (false≢true c)
 pub by_tcp : (k : OpenKind) → carrier_number (carrier_for k) ≡ 6 → is_connection k ≡ true
 by_tcp tftp c = absurd (omega (arith, c))
 by_tcp (http isn) c = refl
+by_tcp (iscsi isn i) c = refl
 by_tcp (dns id) c = absurd (omega (arith, c))
 by_tcp (dhcp a) c = absurd (omega (arith, c))
 by_tcp ping c = absurd (omega (arith, c))
@@ -61,6 +63,7 @@ not_for_kind : (k : OpenKind) (p : PacketParts) (d : UdpParts) (l : Live) → (c
     (((l.device == net0) && (l.own == d.dst_port)) && takes_from k l p d) ≡ false
 not_for_kind tftp p d l h = middle_false (l.device == net0) (l.own == d.dst_port) (takes_from tftp l p d) (not_own l.own d.dst_port (h refl))
 not_for_kind (http isn) p d l h = and_false ((l.device == net0) && (l.own == d.dst_port))
+not_for_kind (iscsi isn i) p d l h = and_false ((l.device == net0) && (l.own == d.dst_port))
 not_for_kind (dns id) p d l h = middle_false (l.device == net0) (l.own == d.dst_port) (takes_from (dns id) l p d) (not_own l.own d.dst_port (h refl))
 not_for_kind (dhcp a) p d l h = middle_false (l.device == net0) (l.own == d.dst_port) (takes_from (dhcp a) l p d) (not_own l.own d.dst_port (h refl))
 not_for_kind ping p d l h = and_false ((l.device == net0) && (l.own == d.dst_port))
@@ -74,6 +77,7 @@ none_for g p d os ls i h = none_of g (is_for net0 p d) (IsElsewhere 17 d.dst_por
 takes_as_kind : (k : OpenKind) (l : Live) (server : ℕ) (p : PacketParts) (d : UdpParts) → l.server ≡ server → is_connection k ≡ false → carrier_number (carrier_for k) ≡ 17 → takes_from k l p d ≡ counts_by_kind (kind_for k) (p.src.0 == server) d.src_port
 takes_as_kind tftp l server p d e n c = ap (λ z. p.src.0 == z) e
 takes_as_kind (http isn) l server p d e n c = absurd (false≢true (sym n))
+takes_as_kind (iscsi isn i) l server p d e n c = absurd (false≢true (sym n))
 takes_as_kind (dns id) l server p d e n c = ap (λ z. (p.src.0 == z) && (d.src_port == 53)) e
 takes_as_kind (dhcp a) l server p d e n c = refl
 takes_as_kind ping l server p d e n c = absurd (omega (arith, c))
@@ -94,6 +98,7 @@ not_reply_kind : (k : OpenKind) (p : PacketParts) (e : EchoParts) (l : Live) →
     (((is_ping k && (l.device == net0)) && (l.own == e.ident)) && (p.src.0 == l.server)) ≡ false
 not_reply_kind tftp p e l h = refl
 not_reply_kind (http isn) p e l h = refl
+not_reply_kind (iscsi isn i) p e l h = refl
 not_reply_kind (dns id) p e l h = refl
 not_reply_kind (dhcp a) p e l h = refl
 not_reply_kind ping p e l h = middle_false (l.device == net0) (l.own == e.ident) (p.src.0 == l.server) (not_own l.own e.ident (h refl))
@@ -107,6 +112,7 @@ none_reply g p e os ls i h = none_of g (is_reply_for net0 p e) (IsElsewhere 1 e.
 reply_as_kind : (k : OpenKind) (l : Live) (server source port : ℕ) → l.server ≡ server → carrier_number (carrier_for k) ≡ 1 → ((is_ping k && true) && true) && (source == l.server) ≡ counts_by_kind (kind_for k) (source == server) port
 reply_as_kind tftp l server source port e c = absurd (omega (arith, c))
 reply_as_kind (http isn) l server source port e c = absurd (omega (arith, c))
+reply_as_kind (iscsi isn i) l server source port e c = absurd (omega (arith, c))
 reply_as_kind (dns id) l server source port e c = absurd (omega (arith, c))
 reply_as_kind (dhcp a) l server source port e c = absurd (omega (arith, c))
 reply_as_kind ping l server source port e c = ap (λ z. source == z) e
@@ -158,6 +164,7 @@ segment_as_counts g p x o l i c own =
 suits_kind : (k : OpenKind) (l : Live) (server : ℕ) (a : Arrival) (port : ℕ) → l.server ≡ server → is_connection k ≡ false → counts_by_kind (kind_for k) (a.source.0 == server) port ≡ true → a.port ≡ port_by_carrier (carrier_for k) l.own port → SuitsBy k l a
 suits_kind tftp l server a port e n t f = eqb-true a.source.0 server t ∙ sym e
 suits_kind (http isn) l server a port e n t f = absurd (false≢true (sym n))
+suits_kind (iscsi isn i) l server a port e n t f = absurd (false≢true (sym n))
 suits_kind (dns id) l server a port e n t f =
     let b = and_true (a.source.0 == server) (port == 53) t in (eqb-true a.source.0 server b.0 ∙ sym e, f ∙ eqb-true port 53 b.1)
 suits_kind (dhcp x) l server a port e n t f = f ∙ eqb-true port 67 t
@@ -166,6 +173,8 @@ suits_kind ping l server a port e n t f = (eqb-true a.source.0 server t ∙ sym 
 suits_connection : (k : OpenKind) (l : Live) (server : ℕ) (a : Arrival) (port asked : ℕ) → l.server ≡ server → is_connection k ≡ true → asked ≡ l.port → ((a.source.0 == server) && (port == asked)) ≡ true → a.port ≡ port_by_carrier (carrier_for k) l.own port → SuitsBy k l a
 suits_connection tftp l server a port asked e c p t f = absurd (false≢true c)
 suits_connection (http isn) l server a port asked e c p t f =
+    let b = and_true (a.source.0 == server) (port == asked) t in (eqb-true a.source.0 server b.0 ∙ sym e, f ∙ eqb-true port asked b.1 ∙ p)
+suits_connection (iscsi isn i) l server a port asked e c p t f =
     let b = and_true (a.source.0 == server) (port == asked) t in (eqb-true a.source.0 server b.0 ∙ sym e, f ∙ eqb-true port asked b.1 ∙ p)
 suits_connection (dns id) l server a port asked e c p t f = absurd (false≢true c)
 suits_connection (dhcp x) l server a port asked e c p t f = absurd (false≢true c)

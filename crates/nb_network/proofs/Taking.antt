@@ -75,7 +75,7 @@ module _ (m : Many) (net : Client) (now w opens n : ℕ) (bytes : List ℕ) (mos
 
   a_segment : (dst : Ip4) (x : SegmentParts) → proto_of ≡ 6 → owns net.address dst ≡ true → IsSegment a.source dst a.body.now x → ComesToIt (tcp_segment n x now)
   a_segment dst x tcp ours is l i =
-      connection_input net.address o l n a now dst x i.called.kind (all_at (HasAddress net.address) before o behind (subst (AllByRecursion (HasAddress net.address)) goes.at.all sound.addressed))
+      connection_input net.address m.graph o l n a now dst x i.called.kind i.under_way (all_at (HasAddress net.address) before o behind (subst (AllByRecursion (HasAddress net.address)) goes.at.all sound.addressed))
       (by_tcp l.kind (sym (ap carrier_number i.called.carrier) ∙ tcp)) (suits m.graph o l a goes.port i goes.counts goes.port_is) ours is
 
   no_segment : (p : ℕ) → proto_of ≡ p → (p ≡ 6 → ⊥) → proto_of ≡ 6 → ⊥

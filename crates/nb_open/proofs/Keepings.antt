@@ -11,13 +11,13 @@ use Rattle.nb_tftp.specs.Blocks.{file}
 use Rattle.nb_tftp.specs.History.{got}
 use Rattle.nb_machine.specs.Cores.{KeepsCore, closes as core_closes}
 use Rattle.nb_machine.specs.Kinds.{Keeps, KeepsBy}
-use Rattle.nb_machine.specs.Lives.{OpenKind, tftp, http, dns, dhcp, ping, Live}
+use Rattle.nb_machine.specs.Lives.{OpenKind, tftp, http, iscsi, dns, dhcp, ping, Live}
 use Rattle.nb_machine.specs.Transfers.{closes as transfer_closes, transfer_of}
 use Rattle.nb_chains.specs.Chains.{AreChained, StaysChained, own_graph}
 use Rattle.nb_chains.specs.declared.chain.Chain.{Chain}
 use Rattle.nb_wire.specs.declared.address.Ip4.{Ip4}
 use Rattle.nb_machine.specs.Connections.{connection_of, talk_of}
-use Rattle.nb_machine.specs.Webs.{web_at}
+use Rattle.nb_machine.specs.Webs.{web_talking}
 use Rattle.nb_webchains.specs.declared.web_chain.WebChain.{WebChain}
 use Rattle.nb_webchains.specs.WebChains.{web_ids}
 use Rattle.nb_webtalks.proofs.Staying.{hosted_still, kinds_still, open_still}
@@ -35,6 +35,7 @@ asking_keeps s kind b c g l h = record { calls = h.calls; exchanged = h.exchange
 keeps_by : (k : OpenKind) (c : Chain) (g : Objects Obj) (l : Live) → IsUnderWay k c g l → KeepsBy k l
 keeps_by tftp c g l h = record { entries = h.entries; exchanged = h.exchanged; meets = h.downloads.meets }
 keeps_by (http isn) c g l h = absurd h
+keeps_by (iscsi isn i) c g l h = absurd h
 keeps_by (dns id) c g l h = asking_keeps _ _ _ c g l h
 keeps_by (dhcp a) c g l h = asking_keeps _ _ _ c g l h
 keeps_by ping c g l h = asking_keeps _ _ _ c g l h
@@ -42,6 +43,7 @@ keeps_by ping c g l h = asking_keeps _ _ _ c g l h
 web_keeps : (k : OpenKind) (own : Ip4) (c : WebChain) (g : Objects Obj) (l : Live) → IsWebUnderWay k own c g l → KeepsBy k l
 web_keeps tftp own c g l h = absurd h
 web_keeps (http isn) own c g l h = h.keeps
+web_keeps (iscsi isn i) own c g l h = absurd h
 web_keeps (dns id) own c g l h = absurd h
 web_keeps (dhcp a) own c g l h = absurd h
 web_keeps ping own c g l h = absurd h
@@ -59,6 +61,7 @@ core_keeps s b l cause link h = record { calls = h.calls; exchanged = core_close
 closed_by_kind : (k : OpenKind) (c : Chain) (g : Objects Obj) (l : Live) (cause : Cause) (link : Client) → IsUnderWay k c g l → KeepsBy k (closed_open l cause link [])
 closed_by_kind tftp c g l cause link h = record { entries = h.entries; exchanged = transfer_closes h.entries l.exchanges link cause h.exchanged; meets = h.downloads.meets }
 closed_by_kind (http isn) c g l cause link h = absurd h
+closed_by_kind (iscsi isn i) c g l cause link h = absurd h
 closed_by_kind (dns id) c g l cause link h = core_keeps _ _ l cause link (keeps_by (dns id) c g l h)
 closed_by_kind (dhcp a) c g l cause link h = core_keeps _ _ l cause link (keeps_by (dhcp a) c g l h)
 closed_by_kind ping c g l cause link h = core_keeps _ _ l cause link (keeps_by ping c g l h)
@@ -77,17 +80,19 @@ asking_stays s kind b c g h l same k = record { below = k.below; calls = k.calls
 stays_by : (k : OpenKind) (c : Chain) (g h : Objects Obj) (l : Live) → own_graph c h ≡ own_graph c g → IsUnderWay k c g l → IsUnderWay k c h l
 stays_by tftp c g h l same k = fetching_stays c g h l same k
 stays_by (http isn) c g h l same k = absurd k
+stays_by (iscsi isn i) c g h l same k = absurd k
 stays_by (dns id) c g h l same k = asking_stays _ _ _ c g h l same k
 stays_by (dhcp a) c g h l same k = asking_stays _ _ _ c g h l same k
 stays_by ping c g h l same k = asking_stays _ _ _ c g h l same k
 
 web_stays : (k : OpenKind) (own : Ip4) (c : WebChain) (g h : Objects Obj) (l : Live) → AreChained g (web_ids c) → StaysChained (web_ids c) g h → IsWebUnderWay k own c g l → IsWebUnderWay k own c h l
 web_stays tftp own c g h l was stays k = absurd k
+web_stays (iscsi isn i) own c g h l was stays k = absurd k
 web_stays (http isn) own c g h l was stays k = record {
   opened = open_still c g h was stays.chained stays.same_graph k.hosted k.opened;
   kinds = kinds_still c g h was stays.chained stays.same_graph k.hosted k.kinds;
   hosted = hosted_still c g h was stays.chained stays.same_graph k.hosted;
-  stands = same_three (ask_of isn own l) l.since (talk_of (web_at l.target) (connection_of isn l) l.exchanges).calls c g h stays.same_graph k.stands;
+  stands = same_three (ask_of isn own l) l.since (talk_of (web_talking l.target) (connection_of isn l) l.exchanges).calls c g h stays.same_graph k.stands;
   keeps = k.keeps;
   asked = k.asked;
 }

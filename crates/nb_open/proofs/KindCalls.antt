@@ -32,7 +32,7 @@ use Rattle.nb_tftp.specs.History.{came as comes, got, ticked}
 use Rattle.nb_tftp.specs.Received.{received as datagram_received}
 use Rattle.nb_machine.specs.Cores.{CoreExchanged, core_records, look_up_of, ping_of, takes_message, takes_time}
 use Rattle.nb_machine.specs.Kinds.{KeepsBy}
-use Rattle.nb_machine.specs.Lives.{OpenInput, OpenKind, tftp, http, dns, dhcp, ping, Live, exchange, message, time}
+use Rattle.nb_machine.specs.Lives.{OpenInput, OpenKind, tftp, http, iscsi, dns, dhcp, ping, Live, exchange, message, time}
 use Rattle.nb_machine.specs.Transfers.{transfer_of}
 use Rattle.nb_chains.specs.Calls.{CallsTwo, ReceivesOne, TicksOne, arrival_said}
 use Rattle.nb_chains.specs.Chains.{own_graph}
@@ -127,6 +127,7 @@ module _ (who : Speaker) (kind : ChainKind) (own : Chain) (l : Live) (old new : 
         file_did who kind own l old new link (comes (datagram_received rec a.port a.body.now) now) (port_at k.tftp.0 1) way.Up rec ns e is.called k
         (two k.tftp k.below (transfer_of l) l.since k.entries (file (got k.entries)) k.downloads)
     received_by_kind (http isn) e k suits = absurd k
+    received_by_kind (iscsi isn i) e k suits = absurd k
     received_by_kind (dns id) e k suits =
         let input : OpenInput = message rec a.port a.body.now now in
         core_receives lookup_service (top_mark chain.Name) (look_up_of id l) k.calls (arrival_said rec a) now input
@@ -151,6 +152,7 @@ module _ (who : Speaker) (kind : ChainKind) (own : Chain) (l : Live) (old new : 
     ticked_by_kind tftp e k =
         file_did who kind own l old new link (ticked now) (port_at k.tftp.0 4) way.Time 0 ns e is.called k (two k.tftp k.below (transfer_of l) l.since k.entries (file (got k.entries)) k.downloads)
     ticked_by_kind (http isn) e k = absurd k
+    ticked_by_kind (iscsi isn i) e k = absurd k
     ticked_by_kind (dns id) e k =
         core_did lookup_service (top_mark chain.Name) (look_up_of id l) who kind own l (time now) link new k.calls (lookup_service.timed now) (port_at own.top.0 4) way.Time 0
         (name_core id e k (time now) (clocked now) (port_at own.top.0 4) way.Time 0 (by_time lookup_service k.calls k.exchanged now)) ns ((one k.below).lookup (look_up_of id l) l.since k.calls k.talks)

@@ -15,7 +15,7 @@ use Rattle.nb_stack.specs.Client.{Client}
 use Rattle.nb_tftp.specs.Blocks.{file}
 use Rattle.nb_tftp.specs.History.{got}
 use Rattle.nb_machine.specs.Kinds.{is_connection}
-use Rattle.nb_machine.specs.Lives.{OpenInput, OpenKind, tftp, http, dns, dhcp, ping, Live, time}
+use Rattle.nb_machine.specs.Lives.{OpenInput, OpenKind, tftp, http, iscsi, dns, dhcp, ping, Live, time}
 use Rattle.nb_machine.specs.Transfers.{transfer_of}
 use Rattle.nb_chains.specs.declared.chain.Chain.{Chain}
 use Rattle.nb_chains.specs.Calls.{IsChainUnderWay, IsTalking}
@@ -56,6 +56,7 @@ asking_talks s kind b c g l k = (b, l.since, k.calls, k.talks)
 pub under_way_by : (k : OpenKind) (c : Chain) (g : Objects Obj) (l : Live) → IsUnderWay k c g l → IsChainUnderWay (kind_for k) c g
 under_way_by tftp c g l k = (k.tftp, k.below, (transfer_of l, l.since, k.entries, file (got k.entries), k.downloads))
 under_way_by (http isn) c g l k = absurd k
+under_way_by (iscsi isn i) c g l k = absurd k
 under_way_by (dns id) c g l k = (k.below, asking_talks _ _ _ c g l k)
 under_way_by (dhcp a) c g l k = (k.below, asking_talks _ _ _ c g l k)
 under_way_by ping c g l k = (k.below, asking_talks _ _ _ c g l k)
@@ -64,6 +65,7 @@ under_way_by ping c g l k = (k.below, asking_talks _ _ _ c g l k)
 pub web_open : (k : OpenKind) (own : Ip4) (c : WebChain) (g : Objects Obj) (l : Live) → IsWebUnderWay k own c g l → IsOpenWeb c g × AreOfWeb c g
 web_open tftp own c g l k = absurd k
 web_open (http isn) own c g l k = (k.opened, k.kinds)
+web_open (iscsi isn i) own c g l k = absurd k
 web_open (dns id) own c g l k = absurd k
 web_open (dhcp a) own c g l k = absurd k
 web_open ping own c g l k = absurd k
@@ -125,6 +127,7 @@ time_call (objects.Web port own c) now old new m n l lives k =
 no_connection : (k : OpenKind) (own : Ip4) (c : WebChain) (g : Objects Obj) (l : Live) → IsWebUnderWay k own c g l → is_connection k ≡ false → ⊥
 no_connection tftp own c g l k none = absurd k
 no_connection (http isn) own c g l k none = let z = none in cc
+no_connection (iscsi isn i) own c g l k none = absurd k
 no_connection (dns id) own c g l k none = absurd k
 no_connection (dhcp a) own c g l k none = absurd k
 no_connection ping own c g l k none = absurd k

@@ -28,7 +28,7 @@ use Rattle.nb_machine.specs.Connections.{Connection, KeepsAt, connection_of, put
 use Rattle.nb_machine.specs.Kinds.{Keeps, first_records}
 use Rattle.nb_machine.specs.Lives.{Live}
 use Rattle.nb_machine.specs.Sendings.{has_route, try_records}
-use Rattle.nb_machine.specs.Webs.{request_at, web_at}
+use Rattle.nb_machine.specs.Webs.{request_at, web_talking}
 use Rattle.nb_webchains.specs.declared.web_chain.WebChain.{WebChain}
 use Rattle.nb_webchains.specs.WebCalls.{ClosesWeb, ComesOfWeb, goes_on, has_closed}
 use Rattle.nb_webchains.proofs.Opened.{ready_open}
@@ -58,7 +58,7 @@ use Rattle.nb_open.proofs.WebPuts.{lacks_messages, one_lacks, one_segment, put_m
 -- WHERE ITS SYN IS ASKED FOR
 
 -- it is given its request
-begun_calls : (l : Live) (isn : ℕ) (name path : List ℕ) (port : ℕ) → request_at l.target ≡ request_text name port path → (talk_of (web_at l.target) (connection_of isn l) []).calls ≡ text_came (request_text name port path) l.since ∷ []
+begun_calls : (l : Live) (isn : ℕ) (name path : List ℕ) (port : ℕ) → request_at l.target ≡ request_text name port path → (talk_of (web_talking l.target) (connection_of isn l) []).calls ≡ text_came (request_text name port path) l.since ∷ []
 begun_calls l isn name path port is = ap (λ (request : List ℕ). (talk_of (web request) (connection_of isn l) []).calls) is
 
 module _ (a : WebOpening) (number now : ℕ) (link : Client) (o : Open) (port : ℕ) (own : Ip4) (c : WebChain) (mid : Objects Obj) (rec : ℕ) (ns : List Notice) (can : AsksItsUrl a) (from : own ≡ a.ask.conn.own) (called : IsSpeakerOf o (live_by (Web a) number now)) where
@@ -77,7 +77,7 @@ module _ (a : WebOpening) (number now : ℕ) (link : Client) (o : Open) (port : 
     opened = is_open;
     kinds = kinds;
     hosted = hosted;
-    stands = subst (λ z. StandsForTalk (ask_of a.ask.conn.isn z l) now (talk_of (web_at l.target) (connection_of a.ask.conn.isn l) []).calls c mid) (sym from)
+    stands = subst (λ z. StandsForTalk (ask_of a.ask.conn.isn z l) now (talk_of (web_talking l.target) (connection_of a.ask.conn.isn l) []).calls c mid) (sym from)
         (subst (λ z. StandsForTalk a.ask.conn now z c mid) (sym (begun_calls l a.ask.conn.isn a.ask.host.now a.ask.path.now a.ask.conn.peer_port (sym can.request))) stands);
     keeps = tt;
     asked = subst (λ (z : List ℕ). 0 < length z) can.request (some_request a.ask.host.now a.ask.path.now a.ask.conn.peer_port);
@@ -152,7 +152,7 @@ web_closes_silent (Web a) number now link o port own c mid new cause m n is live
     let keeps : Keeps (closed_open l cause link put) = web_closed_keeps o.speaker port own c l mid new link m n cause lives closes in
     let first : KeepsAt _ (connection_of a.ask.conn.isn l) [] _ = keeps.0 in
     let no : has_route link (syn_message (connection_of a.ask.conn.isn l)) ≡ false = no_first (has_route link (syn_message (connection_of a.ask.conn.isn l))) _ lost in
-    only_last put (ended number cause) (first.records ∙ (ap (put_records (connection_of a.ask.conn.isn l) link) first.puts ∙ closing_puts (connection_of a.ask.conn.isn l) link a.ask.conn.isn (talk_of (web_at l.target) (connection_of a.ask.conn.isn l) []) cause no))
+    only_last put (ended number cause) (first.records ∙ (ap (put_records (connection_of a.ask.conn.isn l) link) first.puts ∙ closing_puts (connection_of a.ask.conn.isn l) link a.ask.conn.isn (talk_of (web_talking l.target) (connection_of a.ask.conn.isn l) []) cause no))
 web_closes_silent (Name a) number now link o port own c mid new cause m n is lives closes lost = absurd (cc)
 web_closes_silent (Lease a) number now link o port own c mid new cause m n is lives closes lost = absurd (cc)
 web_closes_silent (Echo a) number now link o port own c mid new cause m n is lives closes lost = absurd (cc)

@@ -20,9 +20,9 @@ use Rattle.nb_traced.specs.Plain.{without_graph}
 use Rattle.nb_wire.specs.declared.address.Ip4.{Ip4}
 use Rattle.nb_machine.specs.Connections.{EachExchange, KeepsAt, connection_of, talk_of}
 use Rattle.nb_machine.specs.Kinds.{Keeps, KeepsBy}
-use Rattle.nb_machine.specs.Lives.{Exchange, Live, OpenKind, close, dhcp, dns, exchange, http, ping, tftp}
+use Rattle.nb_machine.specs.Lives.{Exchange, Live, OpenKind, close, dhcp, dns, exchange, http, iscsi, ping, tftp}
 use Rattle.nb_machine.specs.Sendings.{has_route, send_records}
-use Rattle.nb_machine.specs.Webs.{web_at}
+use Rattle.nb_machine.specs.Webs.{web_talking}
 use Rattle.nb_chains.specs.Chains.{AreChained}
 use Rattle.nb_webchains.specs.declared.web_chain.WebChain.{WebChain}
 use Rattle.nb_webchains.specs.WebCalls.{ClosesWeb}
@@ -82,16 +82,17 @@ module _ (who : Speaker) (port : ℕ) (own : Ip4) (c : WebChain) (l : Live) (old
 
   closed_talk : (isn : ℕ) → who.carrier ≡ Tcp → IsTalkingWeb isn own c old l → KeepsBy (http isn) (closed_open l cause link put)
   closed_talk isn carrier t =
-      let talk = talk_of (web_at l.target) (connection_of isn l) l.exchanges in
+      let talk = talk_of (web_talking l.target) (connection_of isn l) l.exchanges in
       let sent = send_records link l.number None (closing who link isn own c l l.since talk.calls old new m n cause k) in
       let puts : put ≡ sent = closing_puts who link isn own c l l.since talk.calls old new m n cause k carrier called.server called.own chained t.hosted t.opened t.kinds t.stands
       ∙ ap (λ z. send_records link z None (closing who link isn own c l l.since talk.calls old new m n cause k)) (sym called.number) in
-      each_last (KeepsAt (web_at l.target) (connection_of isn l)) [] l.exchanges (exchange (close cause) link (put ++ (ended l.number cause ∷ []))) t.keeps
+      each_last (KeepsAt (web_talking l.target) (connection_of isn l)) [] l.exchanges (exchange (close cause) link (put ++ (ended l.number cause ∷ []))) t.keeps
       (record { put = close_put isn talk cause; puts = refl; records = ap (λ z. z ++ (ended l.number cause ∷ [])) (puts ∙ sym (append-nil sent)) })
 
   closed_by : (kind : OpenKind) → who.carrier ≡ carrier_for kind → IsWebUnderWay kind own c old l → KeepsBy kind (closed_open l cause link put)
   closed_by tftp carrier t = absurd t
   closed_by (http isn) carrier t = closed_talk isn carrier t
+  closed_by (iscsi isn i) carrier t = absurd t
   closed_by (dns id) carrier t = absurd t
   closed_by (dhcp a) carrier t = absurd t
   closed_by ping carrier t = absurd t

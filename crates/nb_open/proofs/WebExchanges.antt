@@ -26,7 +26,7 @@ use Rattle.nb_machine.specs.Kinds.{Keeps, KeepsBy, granted_of, resolved_of}
 use Rattle.nb_machine.specs.Lives.{Exchange, Live, OpenInput, exchange, http}
 use Rattle.nb_machine.specs.Sendings.{advance_records, has_route}
 use Rattle.nb_machine.specs.Transfers.{earlier, end_records}
-use Rattle.nb_machine.specs.Webs.{request_at, web_at}
+use Rattle.nb_machine.specs.Webs.{request_at, web_talking}
 use Rattle.nb_chains.specs.Chains.{AreChained}
 use Rattle.nb_teller.specs.declared.speaker.Speaker.{Speaker}
 use Rattle.nb_teller.specs.Deliveries.{delivered_bytes, delivered_address}
@@ -52,7 +52,7 @@ use Rattle.nb_open.proofs.WebCloses.{closing_hushed, each_last}
 
 -- with one thing more that came, the connection has had one call more
 pub calls_more : (isn : ℕ) (l : Live) (x : Exchange) (c : Came NoTask) → 0 < length (request_at l.target) → came_on x.came ≡ c ∷ [] →
-    (talk_of (web_at l.target) (connection_of isn l) (l.exchanges ++ x ∷ [])).calls ≡ (talk_of (web_at l.target) (connection_of isn l) l.exchanges).calls ++ call_of c ∷ []
+    (talk_of (web_talking l.target) (connection_of isn l) (l.exchanges ++ x ∷ [])).calls ≡ (talk_of (web_talking l.target) (connection_of isn l) l.exchanges).calls ++ call_of c ∷ []
 calls_more isn l x c some is =
     let came : List Exchange → List (Came NoTask) = flat_map (λ (y : Exchange). came_on y.came) in
     let all : came (l.exchanges ++ x ∷ []) ≡ came l.exchanges ++ c ∷ [] = flat_map-append (λ (y : Exchange). came_on y.came) l.exchanges (x ∷ []) ∙ ap (λ z. came l.exchanges ++ (z ++ [])) is in
@@ -85,14 +85,14 @@ module _ (who : Speaker) (port : ℕ) (own : Ip4) (c : WebChain) (l : Live) (old
   conn = connection_of isn l
 
   abbrev talk : Talk NoTask
-  talk = talk_of (web_at l.target) conn l.exchanges
+  talk = talk_of (web_talking l.target) conn l.exchanges
 
   -- What is known of it: it puts so, and the three go on or have ended.
   pub record WebCalled : Type 0 where
     pub kind : l.kind ≡ http isn
     pub lives : IsOpenOf old o l
     pub talks : IsTalkingWeb isn own c old l
-    pub puts : PutsAt (web_at l.target) conn talk came put
+    pub puts : PutsAt (web_talking l.target) conn talk came put
     pub records : put_by o link ns ≡ advance_records l.number put.advance ++ segment_records conn link put.sends
     pub lacks : any_lacks_route link who ns ≡ loses_way conn link put.sends
     pub closes : first_close ns ≡ put.over
@@ -100,7 +100,7 @@ module _ (who : Speaker) (port : ℕ) (own : Ip4) (c : WebChain) (l : Live) (old
     pub kinds : AreOfWeb c new
     pub noded : AreNoded rank_of_obj new
     pub still : AreChained new (web_ids c)
-    pub stands : (outs : List Out) → put.over ≡ None → StandsForTalk (ask_of isn own l) l.since (talk_of (web_at l.target) conn (l.exchanges ++ exchange came link outs ∷ [])).calls c new
+    pub stands : (outs : List Out) → put.over ≡ None → StandsForTalk (ask_of isn own l) l.since (talk_of (web_talking l.target) conn (l.exchanges ++ exchange came link outs ∷ [])).calls c new
     pub silent : delivered_bytes ns ≡ None
     pub unfound : delivered_address ns ≡ None
     pub brings : (outs : List Out) (x : Cause) → put.over ≡ Some x → is_ok_cause x ≡ true → Brings o (with_exchange l came link outs) new
@@ -110,7 +110,7 @@ module _ (who : Speaker) (port : ℕ) (own : Ip4) (c : WebChain) (l : Live) (old
     kept : (outs : List Out) → outs ≡ put_records conn link put → Keeps (with_exchange l came link outs)
     kept outs is =
         subst (λ z. KeepsBy z (with_exchange l came link outs)) (sym k.kind)
-        (each_last (KeepsAt (web_at l.target) conn) [] l.exchanges (exchange came link outs) k.talks.keeps (record { put = put; puts = k.puts; records = is }))
+        (each_last (KeepsAt (web_talking l.target) conn) [] l.exchanges (exchange came link outs) k.talks.keeps (record { put = put; puts = k.puts; records = is }))
 
     -- with this end
     ends_by : (end : Option Cause) → talk_end conn link put ≡ end → put_by o link ns ++ end_records l.number end ≡ put_records conn link put
@@ -133,7 +133,7 @@ module _ (who : Speaker) (port : ℕ) (own : Ip4) (c : WebChain) (l : Live) (old
     -- where the user closes it then, that finds no route either
     hush : put.over ≡ None → IsOpenWeb c new → any_lacks_route link who ns ≡ true → (after : Objects Obj) (m n : Heard) (cause : Cause) (closes : ClosesWeb c new after cause m n) → AddsNothing link who closes.ns
     hush over is_open lacks after m n cause closes =
-        let calls = (talk_of (web_at l.target) conn (l.exchanges ++ exchange came link [] ∷ [])).calls in
+        let calls = (talk_of (web_talking l.target) conn (l.exchanges ++ exchange came link [] ∷ [])).calls in
         let segment : SendTo = outgoing_message conn.link (closing_segment isn (conn_phase isn calls)) in
         closing_hushed who link isn own c l l.since calls new after m n cause closes (k.lives.called.carrier ∙ ap carrier_for k.kind) k.lives.called.server k.lives.called.own k.still (are_hosted c new k.still k.noded) is_open k.kinds
         (k.stands [] over) (any_same (has_route link segment) put.sends (sym k.lacks ∙ lacks))
@@ -157,7 +157,7 @@ module _ (who : Speaker) (port : ℕ) (own : Ip4) (c : WebChain) (l : Live) (old
                   kinds = k.kinds;
                   hosted = are_hosted c new k.still k.noded;
                   stands = k.stands outs over;
-                  keeps = each_last (KeepsAt (web_at l.target) conn) [] l.exchanges (exchange came link outs) k.talks.keeps (record { put = put; puts = k.puts; records = records });
+                  keeps = each_last (KeepsAt (web_talking l.target) conn) [] l.exchanges (exchange came link outs) k.talks.keeps (record { put = put; puts = k.puts; records = records });
                   asked = k.talks.asked;
                 });
               };

@@ -37,7 +37,7 @@ use Rattle.nb_tcpseg.specs.SegmentText.{IsSegment, SegmentParts}
 use Rattle.nb_machine.specs.Connections.{Connection, PutsAt, came_on, connection_of, talk_of}
 use Rattle.nb_machine.specs.Kinds.{fetched_by, moved_by}
 use Rattle.nb_machine.specs.Lives.{Exchange, Live, exchange, http, tcp_segment}
-use Rattle.nb_machine.specs.Webs.{request_at, web_at}
+use Rattle.nb_machine.specs.Webs.{request_at, web_at, web_talking}
 use Rattle.nb_webs.specs.Webs.{NoTask, response_come, web_put}
 use Rattle.nb_webs.proofs.WebLaws.{ok_is_whole, says_once, web_puts}
 use Rattle.nb_teller.specs.declared.speaker.Speaker.{Speaker}
@@ -92,7 +92,7 @@ module _ (who : Speaker) (port : ℕ) (own : Ip4) (c : WebChain) (l : Live) (old
   conn = connection_of isn l
 
   abbrev talk : Talk NoTask
-  talk = talk_of (web_at l.target) conn l.exchanges
+  talk = talk_of (web_talking l.target) conn l.exchanges
 
   abbrev arr : Incoming
   arr = arriving rec g
@@ -116,13 +116,13 @@ module _ (who : Speaker) (port : ℕ) (own : Ip4) (c : WebChain) (l : Live) (old
       (subst (λ z. IsSegment (host l.server) z a.body.now g) (sym has) (subst (λ z. IsSegment z at a.body.now g) (ap host from.0) segment)) (omega (arith, short))
 
   -- it is what the promise puts
-  puts : PutsAt (web_at l.target) conn talk (tcp_segment rec g now) put
+  puts : PutsAt (web_talking l.target) conn talk (tcp_segment rec g now) put
   puts =
       let came : List (Came NoTask) = flat_map (λ (x : Exchange). came_on x.came) l.exchanges in
       ap (λ z. web_put isn z arr now) (says_once (request_at l.target) isn l.since came talks.asked)
       ∙ sym (web_puts (request_at l.target) isn l.since came arr now (segment_put (web_at l.target) isn talk arr now) talks.asked refl)
 
-  calls_then : (outs : List Out) → (talk_of (web_at l.target) conn (l.exchanges ++ exchange (tcp_segment rec g now) link outs ∷ [])).calls ≡ with_segment talk.calls arr now
+  calls_then : (outs : List Out) → (talk_of (web_talking l.target) conn (l.exchanges ++ exchange (tcp_segment rec g now) link outs ∷ [])).calls ≡ with_segment talk.calls arr now
   calls_then outs = calls_more isn l (exchange (tcp_segment rec g now) link outs) (by_segment arr now) talks.asked refl
 
   -- what the Fetch has brought is the response's
@@ -133,7 +133,7 @@ module _ (who : Speaker) (port : ℕ) (own : Ip4) (c : WebChain) (l : Live) (old
       let stands : ObjectStands ObjStands new c.fetch.0 b.trace = λ node e. b.stands node (node_own (web_ids c) new there c.fetch.0 (fetch_in c) ∙ e) in
       let kinds = k.kinds talks.kinds in
       let lives = k.still.lives c.fetch.0 (fetch_in c) in
-      let come : response_come isn (talk_of (web_at l.target) conn after.exchanges).calls ≡ response = ap (response_come isn) (calls_then outs) in
+      let come : response_come isn (talk_of (web_talking l.target) conn after.exchanges).calls ≡ response = ap (response_come isn) (calls_then outs) in
       record {
         body = λ hands h none.
             let unmoved : text_of response.verdict ≡ None = sym b.moves ∙ sym (h.moved kinds b.trace stands lives) ∙ none in

@@ -19,8 +19,8 @@ use Rattle.nb_streams.specs.TalkPromises.{Put, due_sends, time_put}
 use Rattle.nb_streams.specs.Trying.{timer_after}
 use Rattle.nb_tcp.specs.ConnPromises.{last_try}
 use Rattle.nb_machine.specs.Connections.{Connection, connection_of, talk_of}
-use Rattle.nb_machine.specs.Lives.{Live, OpenKind, tftp, http, dns, dhcp, ping, exchange, time}
-use Rattle.nb_machine.specs.Webs.{web_at}
+use Rattle.nb_machine.specs.Lives.{Live, OpenKind, tftp, http, iscsi, dns, dhcp, ping, exchange, time}
+use Rattle.nb_machine.specs.Webs.{web_talking}
 use Rattle.nb_teller.specs.declared.speaker.Speaker.{Speaker}
 use Rattle.nb_wire.specs.declared.address.Ip4.{Ip4}
 use Rattle.nb_webchains.specs.declared.web_chain.WebChain.{WebChain}
@@ -57,7 +57,7 @@ module _ (who : Speaker) (port : ℕ) (own : Ip4) (c : WebChain) (l : Live) (old
       conn = connection_of isn l
 
       abbrev calls : List TcpCall
-      calls = (talk_of (web_at l.target) conn l.exchanges).calls
+      calls = (talk_of (web_talking l.target) conn l.exchanges).calls
 
       abbrev plan : Plan
       plan = (timer_after isn l.since calls).plan
@@ -97,6 +97,7 @@ module _ (who : Speaker) (port : ℕ) (own : Ip4) (c : WebChain) (l : Live) (old
     web_ticked : (kind : OpenKind) → l.kind ≡ kind → IsWebUnderWay kind own c old l → Did o l (time now) link new k.ns
     web_ticked tftp e t = absurd t
     web_ticked (http isn) e t = ticked_so isn e t
+    web_ticked (iscsi isn i) e t = absurd t
     web_ticked (dns id) e t = absurd t
     web_ticked (dhcp a) e t = absurd t
     web_ticked ping e t = absurd t

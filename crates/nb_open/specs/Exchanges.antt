@@ -10,7 +10,7 @@ use Rattle.nb_nodes.specs.declared.obj.Obj.{Obj}
 use Rattle.nb_traced.specs.Plain.{without_graph}
 use Rattle.nb_chains.specs.declared.arrival.Arrival.{Arrival}
 use Rattle.nb_stack.specs.Client.{Client}
-use Rattle.nb_machine.specs.Lives.{OpenInput, message, tcp_segment, OpenKind, tftp, http, dns, dhcp, ping, Live, exchange, continued}
+use Rattle.nb_machine.specs.Lives.{OpenInput, message, tcp_segment, OpenKind, tftp, http, iscsi, dns, dhcp, ping, Live, exchange, continued}
 use Rattle.nb_machine.specs.Kinds.{Keeps, fetched, moved, granted, is_connection, resolved}
 use Rattle.nb_machine.specs.Takings.{end_among}
 use Rattle.nb_traced.specs.Outputs.{CallsOpen, own_serials}
@@ -28,6 +28,7 @@ use Rattle.nb_dhcpmsg.specs.Fields.{message_in}
 abbrev pub SuitsBy : OpenKind → Live → Arrival → Type 0
 SuitsBy tftp l a = a.source.0 ≡ l.server
 SuitsBy (http isn) l a = (a.source.0 ≡ l.server) × (a.port ≡ l.port)
+SuitsBy (iscsi isn i) l a = (a.source.0 ≡ l.server) × (a.port ≡ l.port)
 SuitsBy (dns id) l a = (a.source.0 ≡ l.server) × (a.port ≡ 53)
 SuitsBy (dhcp x) l a = a.port ≡ 67
 SuitsBy ping l a = (a.source.0 ≡ l.server) × (a.port ≡ l.own)

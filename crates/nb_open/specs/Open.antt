@@ -11,7 +11,7 @@ use Rattle.nb_opens.specs.Alones.{Talks}
 use Rattle.nb_opens.specs.Pairs.{Downloads}
 use Rattle.nb_tftp.specs.Blocks.{file}
 use Rattle.nb_tftp.specs.History.{Entry, got}
-use Rattle.nb_machine.specs.Lives.{OpenKind, tftp, http, dns, dhcp, ping, Live}
+use Rattle.nb_machine.specs.Lives.{OpenKind, tftp, http, iscsi, dns, dhcp, ping, Live}
 use Rattle.nb_machine.specs.States.{net0}
 use Rattle.nb_machine.specs.Transfers.{Exchanged, transfer_of}
 use Rattle.nb_machine.specs.Cores.{CoreExchanged, look_up_of, ping_of}
@@ -31,7 +31,7 @@ use Rattle.nb_wire.specs.declared.address.Ip4.{Ip4}
 use Rattle.nb_command.specs.SettingAddresses.{host}
 use Rattle.nb_machine.specs.Connections.{connection_of, talk_of}
 use Rattle.nb_machine.specs.Kinds.{is_connection}
-use Rattle.nb_machine.specs.Webs.{KeepsWeb, request_at, web_at}
+use Rattle.nb_machine.specs.Webs.{KeepsWeb, request_at, web_talking}
 use Rattle.nb_open.specs.Objects.{AreObjectsChained}
 use Rattle.nb_open.specs.declared.objects.OpenObjects.{OpenObjects}
 use Rattle.nb_open.specs.declared.objects.OpenObjects.TheVariants as objects
@@ -57,6 +57,7 @@ pub record IsAskingCore {S B C : Type 0} (s : Service S B C) (kind : ℕ) (b : B
 abbrev pub IsUnderWay : OpenKind → Chain → Objects Obj → Live → Type 0
 IsUnderWay tftp c g l = IsFetching c g l
 IsUnderWay (http isn) c g l = ⊥
+IsUnderWay (iscsi isn i) c g l = ⊥
 IsUnderWay (dns id) c g l = IsAskingCore lookup_service (top_mark chain.Name) (look_up_of id l) c g l
 IsUnderWay (dhcp a) c g l = IsAskingCore lease_service (top_mark chain.Lease) a c g l
 IsUnderWay ping c g l = IsAskingCore ping_service (top_mark chain.Echo) (ping_of l) c g l
@@ -65,6 +66,7 @@ IsUnderWay ping c g l = IsAskingCore ping_service (top_mark chain.Echo) (ping_of
 abbrev pub kind_for : OpenKind → ChainKind
 kind_for tftp = chain.File
 kind_for (http isn) = chain.File
+kind_for (iscsi isn i) = chain.File
 kind_for (dns id) = chain.Name
 kind_for (dhcp a) = chain.Lease
 kind_for ping = chain.Echo
@@ -72,6 +74,7 @@ kind_for ping = chain.Echo
 abbrev pub carrier_for : OpenKind → Carrier
 carrier_for tftp = Udp
 carrier_for (http isn) = Tcp
+carrier_for (iscsi isn i) = Tcp
 carrier_for (dns id) = Udp
 carrier_for (dhcp a) = Udp
 carrier_for ping = Icmp
@@ -80,6 +83,7 @@ carrier_for ping = Icmp
 abbrev pub AsksRight : OpenKind → (server own : ℕ) → Type 0
 AsksRight tftp server own = Unit {0}
 AsksRight (http isn) server own = Unit {0}
+AsksRight (iscsi isn i) server own = Unit {0}
 AsksRight (dns id) server own = Unit {0}
 AsksRight (dhcp a) server own = (server ≡ 4294967295) × (own ≡ 68)
 AsksRight ping server own = Unit {0}
@@ -108,12 +112,14 @@ pub record IsTalkingWeb (isn : ℕ) (own : Ip4) (c : WebChain) (g : Objects Obj)
   pub opened : IsOpenWeb c g
   pub kinds : AreOfWeb c g
   pub hosted : AreHosted c g
-  pub stands : StandsForTalk (ask_of isn own l) l.since (talk_of (web_at l.target) (connection_of isn l) l.exchanges).calls c g
+  pub stands : StandsForTalk (ask_of isn own l) l.since (talk_of (web_talking l.target) (connection_of isn l) l.exchanges).calls c g
   pub keeps : KeepsWeb isn l
   pub asked : 0 < length (request_at l.target)
 
+-- a drive has no objects yet
 abbrev pub IsWebUnderWay : OpenKind → Ip4 → WebChain → Objects Obj → Live → Type 0
 IsWebUnderWay (http isn) own c g l = IsTalkingWeb isn own c g l
+IsWebUnderWay (iscsi isn i) own c g l = ⊥
 IsWebUnderWay tftp own c g l = ⊥
 IsWebUnderWay (dns id) own c g l = ⊥
 IsWebUnderWay (dhcp a) own c g l = ⊥

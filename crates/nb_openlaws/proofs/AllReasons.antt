@@ -10,7 +10,7 @@ use Rattle.nb_defs.specs.Records.{Out}
 use Rattle.nb_stack.specs.Client.{Client}
 use Rattle.nb_tftp.specs.History.{Entry, got, received_by}
 use Rattle.nb_laws.specs.Cores.{has_its_answer}
-use Rattle.nb_laws.specs.Webs.{opens_connection, stream_place_by}
+use Rattle.nb_laws.specs.Webs.{opens_web, stream_place_by}
 use Rattle.nb_laws.specs.Events.{Event, puts}
 use Rattle.nb_laws.specs.Histories.{client}
 use Rattle.nb_laws.specs.Lists as lists
@@ -64,7 +64,7 @@ link_of es devices l link d at got_it = let both : Some (client es) ≡ Some lin
 -- what was brought before, where its last ADVANCE stands
 pub record IsPlaced (es : List Event) (l : Live) : Type 0 where
   pub placed : ByDatagrams l.kind → (h : List Entry) → heard_calls l.kind l.exchanges ≡ map (λ e. e.call) h → last_place l.number es ≡ blocks_where ((live_opening l).kind == 1) (got h)
-  pub streamed_to : opens_connection (live_opening l) ≡ true → last_place l.number es ≡ stream_place_by (hardware es) l.number (streamed l.exchanges) (live_opening l)
+  pub streamed_to : opens_web (live_opening l) ≡ true → last_place l.number es ≡ stream_place_by (hardware es) l.number (streamed l.exchanges) (live_opening l)
   pub others : (j : ℕ) → (l.number == j) ≡ false → last_place j es ≡ file_place j es
 
 pub one_exchange : (es : List Event) (devices : List Client) (input : OpenInput) (l : Live) (link : Client) (put : List Out) → IsTaken input → devices ≡ client es ∷ [] → slice_get devices l.device ≡ Some link → HasCome es input l → Keeps l → Keeps (continued l (exchange input link put)) →

@@ -7,7 +7,7 @@ use Rattle.nb_terms.specs.declared.cause.Cause.{Cause}
 use Rattle.nb_defs.specs.Causes.{is_ok_cause}
 use Rattle.nb_defs.specs.Records.{Out, ended}
 use Rattle.nb_stack.specs.Client.{Client}
-use Rattle.nb_machine.specs.Lives.{OpenKind, tftp, http, dns, dhcp, ping, close, Exchange, exchange, Live, continued}
+use Rattle.nb_machine.specs.Lives.{OpenKind, tftp, http, iscsi, dns, dhcp, ping, close, Exchange, exchange, Live, continued}
 use Rattle.nb_machine.specs.Kinds.{KeepsBy, Keeps, is_connection}
 use Rattle.nb_machine.specs.Takings.{Over, AllTake, all_have, lives_on, is_over}
 use Rattle.nb_laws.specs.Events.{Event, puts}
@@ -62,6 +62,7 @@ kind_closes tftp es l x cause is came bad same a k keeps advanced why =
 kind_closes (http isn) es l x cause is came bad same a k keeps advanced why =
     web_closes es l x isn cause came bad same (subst (λ z. IsKindBy (hardware es) l.number z (opening_as z l)) is a.kind_is) (a.opening ∙ ap (λ z. opening_as z l ∷ []) is) a.lives a.streams (subst (λ z. KeepsBy z l) is k) keeps
     (subst (λ z. AllByRecursion (IsOngoing z l.number l.own) l.exchanges) is a.goes_on) advanced (subst WhyClosed (append-nil es) (why [] tt).1) (λ frames alone. (why frames (frames_close cause frames alone)).0 l.number)
+kind_closes (iscsi isn i) es l x cause is came bad same a k keeps advanced why = absurd (subst (λ z. IsKindBy (hardware es) l.number z (opening_as z l)) is a.kind_is)
 kind_closes (dns id) es l x cause is came bad same a k keeps advanced why =
     subst (λ z. OpenReasons es z) (sym (datagrams_close (dns id) l x cause refl came keeps (subst (λ z. AllByRecursion (IsOngoing z l.number l.own) l.exchanges) is a.goes_on) tt)) (end_closes es l cause bad a k advanced why)
 kind_closes (dhcp b) es l x cause is came bad same a k keeps advanced why =

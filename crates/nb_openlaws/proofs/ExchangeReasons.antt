@@ -33,7 +33,7 @@ use Rattle.nb_laws.proofs.Asides.{aside_acts}
 use Rattle.nb_laws.proofs.Calls.{got_same}
 use Rattle.nb_laws.proofs.CoreAsks.{GoesAs, CoreAsks, asks_none, asks_one}
 use Rattle.nb_laws.proofs.Tellings.{told, advanced_more, kept, tries_by}
-use Rattle.nb_machine.specs.Lives.{OpenKind, tftp, http, dns, dhcp, ping, OpenInput, message, tcp_segment, time as time_came, close, Exchange, Live, continued}
+use Rattle.nb_machine.specs.Lives.{OpenKind, tftp, http, iscsi, dns, dhcp, ping, OpenInput, message, tcp_segment, time as time_came, task, close, Exchange, Live, continued}
 use Rattle.nb_machine.specs.Kinds.{KeepsBy, is_connection}
 use Rattle.nb_machine.specs.Connections.{came_on}
 use Rattle.nb_machine.specs.Findings.{first_word}
@@ -41,7 +41,9 @@ use Rattle.nb_readings.specs.Ends.{is_whole}
 use Rattle.nb_streams.specs.Streams.{next}
 use Rattle.nb_streams.specs.Talking.{talk_held}
 use Rattle.nb_streams.specs.Trying.{tries_at}
-use Rattle.nb_laws.specs.Webs.{opens_connection, brought_to, talk_by, response_by, stream_place_by, try_marks_of}
+use Rattle.nb_laws.specs.Drives.{session_place_by, session_place}
+use Rattle.nb_laws.proofs.SessionOpenings.{no_session_of}
+use Rattle.nb_laws.specs.Webs.{opens_web, opens_session, opens_connection, brought_to, talk_by, response_by, stream_place_by, try_marks_of}
 use Rattle.nb_machine.specs.Transfers.{transfer_of, earlier, finds_none, end_records}
 use Rattle.nb_machine.specs.Takings.{end_among}
 use Rattle.nb_openlaws.specs.Standings.{streamed, streamed_marks, heard_call, heard_calls, heard_marks, moment_in, told_tries, IsKindBy, ComesToOwnPort, IsOngoing}
@@ -54,7 +56,7 @@ use Rattle.nb_openlaws.proofs.NetworkDevices.{client_some, some_of}
 use Rattle.nb_openlaws.proofs.OpenEntries.{acts_end, untried_tries, Did}
 use Rattle.nb_openlaws.proofs.LastEntries.{Promised, exchange_end, EndsUntried, TookAs, LastAs, took_as, closed_as, last_as, DidSo, did_so}
 use Rattle.nb_openlaws.proofs.Sendings.{reasons_then, MaySend, core_reasons, transfer_reasons, each_open}
-use Rattle.nb_openlaws.proofs.KindFacts.{ByDatagrams, by_datagrams, no_stream, no_connection, answer_as, opening_as, first_of, unanswered_as, IsCore, core_asks, core_ends, no_way_as}
+use Rattle.nb_openlaws.proofs.KindFacts.{ByDatagrams, by_datagrams, no_stream, no_session, no_connection, answer_as, opening_as, first_of, unanswered_as, IsCore, core_asks, core_ends, no_way_as}
 use Rattle.nb_openlaws.proofs.TransferEnds.{within_limit, transfer_holds}
 
 -- it has come to an open, were it of this kind, over this client
@@ -72,25 +74,28 @@ pub record ComeAs (kind : OpenKind) (es : List Event) (input : OpenInput) (l : L
   pub tries_stand : try_marks_of l.number es ≡ (tries_at 1 l.since ∷ streamed_marks l.number l.exchanges) ++ came_marks input
   -- its last ADVANCE has the last block that it had received before, or the end of what had come of its stream
   pub placed : ByDatagrams kind → (h : List Entry) → heard_calls kind l.exchanges ≡ map (λ e. e.call) h → last_place l.number es ≡ blocks_where ((opening_as kind l).kind == 1) (got h)
-  pub streamed_to : opens_connection (opening_as kind l) ≡ true → last_place l.number es ≡ stream_place_by (hardware es) l.number (streamed l.exchanges) (opening_as kind l)
+  pub streamed_to : opens_web (opening_as kind l) ≡ true → last_place l.number es ≡ stream_place_by (hardware es) l.number (streamed l.exchanges) (opening_as kind l)
   pub others : (j : ℕ) → (l.number == j) ≡ false → last_place j es ≡ file_place j es
 
 now_of : (kind : OpenKind) (input : OpenInput) (call : Call) (t : ℕ) → heard_call kind input ≡ call ∷ [] → IsNow input t → t ≡ moment_in input
 now_of kind (message rec port body now) call t is at = at
 now_of kind (tcp_segment rec g now) call t is at = at
 now_of kind (time_came now) call t is at = at
+now_of kind (task x now) call t is at = absurd (let no : [] ≡ call ∷ [] = is in cc)
 now_of kind (close cause) call t is at = absurd (let no : [] ≡ call ∷ [] = is in cc)
 
 due_of_call : (kind : OpenKind) (input : OpenInput) (call : Call) (k : ℕ) (es : List Event) → heard_call kind input ≡ call ∷ [] → IsDueBy input k es → IsDue k es
 due_of_call kind (message rec port body now) call k es is d = d
 due_of_call kind (tcp_segment rec g now) call k es is d = d
 due_of_call kind (time_came now) call k es is d = d
+due_of_call kind (task x now) call k es is d = absurd (let no : [] ≡ call ∷ [] = is in cc)
 due_of_call kind (close cause) call k es is d = absurd (let no : [] ≡ call ∷ [] = is in cc)
 
 -- the place that a transfer's last ADVANCE has is the number of its file's last block
 abbrev AdvancedSo : OpenKind → List Entry → Type 0
 AdvancedSo tftp h = last_advance h ≡ count (got h)
 AdvancedSo (http isn) h = Unit {0}
+AdvancedSo (iscsi isn i) h = Unit {0}
 AdvancedSo (dns id) h = Unit {0}
 AdvancedSo (dhcp a) h = Unit {0}
 AdvancedSo ping h = Unit {0}
@@ -114,6 +119,7 @@ may_send kind es l x h call acts c = record {
   received = got_same l.number es (h ++ entry call acts ∷ []) (received_in kind es l x h call acts c);
   due = due_of_call kind x.came call l.number es c.did.heard c.come.due;
   no_stream = no_stream kind l (by_datagrams kind l (h ++ entry call acts ∷ []) c.did.promised);
+  no_session = no_session kind l (by_datagrams kind l (h ++ entry call acts ∷ []) c.did.promised);
 }
 
 -- WHAT IT ASKS
@@ -121,6 +127,7 @@ may_send kind es l x h call acts c = record {
 not_file : (kind : OpenKind) (l : Live) → IsCore kind → (opening_as kind l).kind ≡ 1 → ⊥
 not_file tftp l core e = core
 not_file (http isn) l core e = absurd core
+not_file (iscsi isn i) l core e = absurd core
 not_file (dns id) l core e = omega (arith, e)
 not_file (dhcp a) l core e = omega (arith, e)
 not_file ping l core e = omega (arith, e)
@@ -128,6 +135,7 @@ not_file ping l core e = omega (arith, e)
 no_file : (kind : OpenKind) (l : Live) → IsCore kind → ((opening_as kind l).kind == 1) ≡ false
 no_file tftp l core = absurd core
 no_file (http isn) l core = absurd core
+no_file (iscsi isn i) l core = absurd core
 no_file (dns id) l core = refl
 no_file (dhcp a) l core = refl
 no_file ping l core = refl
@@ -140,12 +148,18 @@ blocks_so k es o e = ap (λ os. blocks_where (list_any opens_file os) (lists.dat
     or_none true = refl
     or_none false = refl
 
+neither_one : (a b : Bool) → (a || b) ≡ false → (a ≡ false) × (b ≡ false)
+neither_one true b e = absurd (cc)
+neither_one false b e = (refl, e)
+
 -- what its stream adds is nothing
 pub place_so : (k : ℕ) (es : List Event) (o : Opening) → openings k es ≡ o ∷ [] → opens_connection o ≡ false → file_place k es ≡ blocks_where (o.kind == 1) (lists.datagrams_of k es)
 place_so k es o e plain =
-    ap (λ os. file_blocks k es + sum_by (stream_place_by (hardware es) k (brought_to k es)) os) e
-    ∙ ap (λ b. file_blocks k es + (0 + cond b (next (talk_held (first_word (hardware es).identity k) (talk_by (hardware es) k o (brought_to k es)))) 0)) plain
-    ∙ add-zero (file_blocks k es) ∙ blocks_so k es o e
+    let neither = neither_one (opens_web o) (opens_session o) plain in
+    ap (λ os. file_blocks k es + sum_by (stream_place_by (hardware es) k (brought_to k es)) os + session_place k es) e
+    ∙ ap (λ b. file_blocks k es + (0 + cond b (next (talk_held (first_word (hardware es).identity k) (talk_by (hardware es) k o (brought_to k es)))) 0) + session_place k es) neither.0
+    ∙ ap (λ ss. file_blocks k es + 0 + sum_by (session_place_by (hardware es) k (brought_to k es)) ss) (no_session_of k es o e neither.1)
+    ∙ add-zero (file_blocks k es + 0) ∙ add-zero (file_blocks k es) ∙ blocks_so k es o e
 
 core_advanced : (kind : OpenKind) (es : List Event) (l : Live) (x : Exchange) (h : List Entry) (call : Call) (acts : Acts) → IsCore kind → Context kind es l x h call acts → IsAdvanced es
 core_advanced kind es l x h call acts core c =
@@ -169,6 +183,7 @@ asked_so tftp es l x h call acts c =
     (sym (last_advance-append h e) ∙ meets.advance ∙ ap count (sym m.received) ∙ sym (place_so k es (opening_as tftp l) c.come.opening refl))
     (λ n is. call_advances true b h call acts n so is ∙ ap (λ z. z + 1) (sym c.advanced_so)) c.come.others
 asked_so (http isn) es l x h call acts c = absurd c.did.promised
+asked_so (iscsi isn i) es l x h call acts c = absurd c.did.promised
 asked_so (dns id) es l x h call acts c =
     core_reasons es x.link l.number (opening_as (dns id) l) (first_of (dns id) l) acts (got (h ++ entry call acts ∷ [])) (may_send (dns id) es l x h call acts c) (core_asks (dns id) (hardware es) l h call acts tt c.come.kind_is c.did.promised)
     (not_file (dns id) l tt) (core_advanced (dns id) es l x h call acts tt c)
@@ -231,6 +246,7 @@ exchange_split : (kind : OpenKind) (l : Live) (link : Client) (h : List Entry) (
 exchange_split tftp l link h call acts cause meets running e =
     split_end acts link l.server cause (ap (λ b. earlier (cond b (Some too_large_image) acts.over) (cond (finds_none link acts) (Some (no_route l.server)) None)) (sym (within_limit l h (entry call acts) meets running)) ∙ e)
 exchange_split (http isn) l link h call acts cause meets running e = absurd meets
+exchange_split (iscsi isn i) l link h call acts cause meets running e = absurd meets
 exchange_split (dns id) l link h call acts cause meets running e = split_end acts link l.server cause e
 exchange_split (dhcp a) l link h call acts cause meets running e = split_end acts link l.server cause e
 exchange_split ping l link h call acts cause meets running e = split_end acts link l.server cause e
@@ -265,6 +281,7 @@ lost_way : (kind : OpenKind) (hw : Hardware) (l : Live) (link : Client) (h : Lis
     has_route link (first_of kind l) ≡ false
 lost_way tftp hw l link h call acts is meets lost = transfer_lost link l acts (call_sends true (transfer_of l) h call acts (asks_last true (transfer_of l) l.since h (entry call acts) meets)) lost
 lost_way (http isn) hw l link h call acts is meets lost = absurd meets
+lost_way (iscsi isn i) hw l link h call acts is meets lost = absurd meets
 lost_way (dns id) hw l link h call acts is meets lost = core_lost link (first_of (dns id) l) acts (core_asks (dns id) hw l h call acts tt is meets) lost
 lost_way (dhcp a) hw l link h call acts is meets lost = core_lost link (first_of (dhcp a) l) acts (core_asks (dhcp a) hw l h call acts tt is meets) lost
 lost_way ping hw l link h call acts is meets lost = core_lost link (first_of ping l) acts (core_asks ping hw l h call acts tt is meets) lost
@@ -295,6 +312,7 @@ own_stands tftp es l x h call acts cause a meets running untried over =
     ticked_untried (came m t) now is u = absurd (cc)
     ticked_untried (ticked t) now is u = u cause over
 own_stands (http isn) es l x h call acts cause a meets running untried over = absurd meets
+own_stands (iscsi isn i) es l x h call acts cause a meets running untried over = absurd meets
 own_stands (dns id) es l x h call acts cause a meets running untried over = core_stands (dns id) es l x h call acts cause tt a meets running (untried cause over) over
 own_stands (dhcp p) es l x h call acts cause a meets running untried over = core_stands (dhcp p) es l x h call acts cause tt a meets running (untried cause over) over
 own_stands ping es l x h call acts cause a meets running untried over = core_stands ping es l x h call acts cause tt a meets running (untried cause over) over
@@ -329,9 +347,9 @@ pub record ExchangeSo (kind : OpenKind) (es : List Event) (l : Live) (x : Exchan
 -- what an open asks for has come by START's key, its datagrams and its stream
 pub answer_same : (k : ℕ) (o : Opening) (a b : List Event) → hardware b ≡ hardware a → lists.datagrams_of k b ≡ lists.datagrams_of k a → brought_to k b ≡ brought_to k a → has_its_answer k o b ≡ has_its_answer k o a
 answer_same k o a b hw ds cs =
-    ap (λ h. cond (opens_connection o) (is_whole (response_by h k o (brought_to k b)).verdict) (answers_open h k o (lists.datagrams_of k b))) hw
-    ∙ ap (λ c. cond (opens_connection o) (is_whole (response_by (hardware a) k o c).verdict) (answers_open (hardware a) k o (lists.datagrams_of k b))) cs
-    ∙ ap (λ d. cond (opens_connection o) (is_whole (response_by (hardware a) k o (brought_to k a)).verdict) (answers_open (hardware a) k o d)) ds
+    ap (λ h. cond (opens_web o) (is_whole (response_by h k o (brought_to k b)).verdict) (answers_open h k o (lists.datagrams_of k b))) hw
+    ∙ ap (λ c. cond (opens_web o) (is_whole (response_by (hardware a) k o c).verdict) (answers_open (hardware a) k o (lists.datagrams_of k b))) cs
+    ∙ ap (λ d. cond (opens_web o) (is_whole (response_by (hardware a) k o (brought_to k a)).verdict) (answers_open (hardware a) k o d)) ds
 
 answer_kept : (kind : OpenKind) (es : List Event) (l : Live) (x : Exchange) (acts : Acts) → has_its_answer l.number (opening_as kind l) (es ++ told (acts_records x.link l.number acts)) ≡ has_its_answer l.number (opening_as kind l) es
 answer_kept kind es l x acts =
@@ -372,15 +390,17 @@ advanced_as tftp l h d k =
     got_map : (z : List Entry) → got z ≡ flat_map received_by (map (λ e. e.call) z)
     got_map z = sym (flat_map-map received_by (λ (e : Entry). e.call) z)
 advanced_as (http isn) l h d k = tt
+advanced_as (iscsi isn i) l h d k = tt
 advanced_as (dns id) l h d k = tt
 advanced_as (dhcp a) l h d k = tt
 advanced_as ping l h d k = tt
 
--- a message or a time, and no close
+-- a message or a time, which a record brings, and nothing from above
 abbrev pub IsTaken : OpenInput → Type 0
 IsTaken (message rec port body now) = Unit {0}
 IsTaken (tcp_segment rec g now) = Unit {0}
 IsTaken (time_came now) = Unit {0}
+IsTaken (task x now) = ⊥
 IsTaken (close cause) = ⊥
 
 pub datagrams_so : (kind : OpenKind) (es : List Event) (l : Live) (x : Exchange) → is_connection kind ≡ false → IsTaken x.came → ComeAs kind es x.came l x.link → KeepsBy kind l → KeepsBy kind (continued l x) → AllByRecursion (IsOngoing kind l.number l.own) l.exchanges → ComesToOwnPort kind l.own x.came →

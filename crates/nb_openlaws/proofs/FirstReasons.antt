@@ -14,7 +14,7 @@ use Rattle.nb_tftp.specs.History.{received_by}
 use Rattle.nb_command.specs.SettingAddresses.{host}
 use Rattle.nb_machine.specs.Sendings.{has_route, send_records}
 use Rattle.nb_machine.specs.CommandRecords.{no_route}
-use Rattle.nb_machine.specs.Lives.{OpenKind, tftp, http, dns, dhcp, ping, kind_number, Live, open_record, end_record}
+use Rattle.nb_machine.specs.Lives.{OpenKind, tftp, http, iscsi, dns, dhcp, ping, kind_number, Live, open_record, end_record}
 use Rattle.nb_machine.specs.Findings.{first_word}
 use Rattle.nb_machine.specs.Connections.{connection_of}
 use Rattle.nb_machine.specs.Webs.{request_at}
@@ -51,6 +51,7 @@ use Rattle.nb_openlaws.proofs.Closings.{ended_advanced}
 first_may : (kind : OpenKind) (hw : Hardware) (l : Live) → is_connection kind ≡ false → IsKindBy hw l.number kind (opening_as kind l) → MayAskFor hw l.number (opening_as kind l) [] (first_of kind l)
 first_may tftp hw l plain is = by_transfer refl (requests refl refl)
 first_may (http isn) hw l plain is = absurd (cc)
+first_may (iscsi isn i) hw l plain is = absurd (cc)
 first_may (dns id) hw l plain is = by_look_up refl tt (ap (λ n. query_to (lookup (host l.server) l.own n l.target)) is.0)
 first_may (dhcp a) hw l plain is = by_discover refl tt (ap (λ z. to_servers (message_text z None)) is.0)
 first_may ping hw l plain is = by_ping refl refl refl
@@ -58,6 +59,7 @@ first_may ping hw l plain is = by_ping refl refl refl
 first_newest : (kind : OpenKind) (l : Live) → is_connection kind ≡ false → NewestBy (opening_as kind l) [] (first_of kind l)
 first_newest tftp l plain = λ file. refl
 first_newest (http isn) l plain = absurd (cc)
+first_newest (iscsi isn i) l plain = absurd (cc)
 first_newest (dns id) l plain = λ file. absurd (omega (arith, file))
 first_newest (dhcp a) l plain = λ file. absurd (omega (arith, file))
 first_newest ping l plain = λ file. absurd (omega (arith, file))
@@ -74,6 +76,7 @@ first_unanswered (http isn) es l is none unstreamed =
     let word = first_word (hardware es).identity l.number in
     ap (λ cs. is_whole (response_come word cs).verdict) (ap (λ z. (talk_by (hardware es) l.number (opening_as (http isn) l) z).calls) unstreamed ∙ said_once (request_at l.target) word l.since [])
     ∙ goes_unwhole word l.since l.number (request_at l.target) [] (begins_well word l.since l.number (request_at l.target))
+first_unanswered (iscsi isn i) es l is none unstreamed = refl
 first_unanswered (dns id) es l is none unstreamed = ap (answers_open (hardware es) l.number (opening_as (dns id) l)) none
 first_unanswered (dhcp a) es l is none unstreamed = ap (answers_open (hardware es) l.number (opening_as (dhcp a) l)) none
 first_unanswered ping es l is none unstreamed = ap (answers_open (hardware es) l.number (opening_as ping l)) none
@@ -136,15 +139,24 @@ either_sent es false x put is r = absurd (none-some put is)
 datagrams_begin : (kind : OpenKind) (es : List Event) (l : Live) (link : Client) → is_connection kind ≡ false → client es ≡ link → openings l.number es ≡ opening_as kind l ∷ [] → open_has_ended l.number es ≡ false → datagrams_of l.number es ≡ [] →
     IsDue l.number es → IsKindBy (hardware es) l.number kind (opening_as kind l) → IsAdvanced es → OpenReasons es (send_records link l.number (Some 1) (first_of kind l))
 datagrams_begin kind es l link plain same opening lives received due is a =
-    send_reasons es link l.number (opening_as kind l) (Some 1) (first_of kind l) [] a (record { client_is = same; opening = opening; lives = lives; received = received; due = due; no_stream = not_streamed kind plain })
+    send_reasons es link l.number (opening_as kind l) (Some 1) (first_of kind l) [] a (record { client_is = same; opening = opening; lives = lives; received = received; due = due; no_stream = not_streamed kind plain; no_session = no_drive kind plain })
     (first_may kind (hardware es) l plain is) (λ n tries. first_newest kind l plain)
   where
     not_streamed : (z : OpenKind) → is_connection z ≡ false → (opening_as z l).kind ≡ 2 → ⊥
     not_streamed tftp none e = omega (arith, e)
     not_streamed (http isn) none e = absurd (cc)
+    not_streamed (iscsi isn i) none e = absurd (cc)
     not_streamed (dns id) none e = omega (arith, e)
     not_streamed (dhcp a) none e = omega (arith, e)
     not_streamed ping none e = omega (arith, e)
+
+    no_drive : (z : OpenKind) → is_connection z ≡ false → (opening_as z l).kind ≡ 3 → ⊥
+    no_drive tftp none e = omega (arith, e)
+    no_drive (http isn) none e = absurd (cc)
+    no_drive (iscsi isn i) none e = absurd (cc)
+    no_drive (dns id) none e = omega (arith, e)
+    no_drive (dhcp a) none e = omega (arith, e)
+    no_drive ping none e = omega (arith, e)
 
 web_begins : (es : List Event) (l : Live) (link : Client) (isn : ℕ) → client es ≡ link → openings l.number es ≡ opening_as (http isn) l ∷ [] → open_has_ended l.number es ≡ false → brought_to l.number es ≡ [] → IsDue l.number es →
     IsKindBy (hardware es) l.number (http isn) (opening_as (http isn) l) → IsAdvanced es → OpenReasons es (send_records link l.number (Some 1) (first_of (http isn) l))
@@ -164,6 +176,7 @@ kind_begins : (kind : OpenKind) (es : List Event) (l : Live) (link : Client) →
     IsKindBy (hardware es) l.number kind (opening_as kind l) → IsAdvanced es → OpenReasons es (send_records link l.number (Some 1) (first_of kind l))
 kind_begins tftp es l link same opening lives received streams due is a = datagrams_begin tftp es l link refl same opening lives received due is a
 kind_begins (http isn) es l link same opening lives received streams due is a = web_begins es l link isn same opening lives streams due is a
+kind_begins (iscsi isn i) es l link same opening lives received streams due is a = absurd is
 kind_begins (dns id) es l link same opening lives received streams due is a = datagrams_begin (dns id) es l link refl same opening lives received due is a
 kind_begins (dhcp b) es l link same opening lives received streams due is a = datagrams_begin (dhcp b) es l link refl same opening lives received due is a
 kind_begins ping es l link same opening lives received streams due is a = datagrams_begin ping es l link refl same opening lives received due is a
@@ -179,6 +192,7 @@ begins_reasons es s l link put o first =
     by : (es1 : List Event) (kind : OpenKind) → first_records kind l link ≡ Some put → OpenReasons es1 (send_records link l.number (Some 1) (first_of kind l)) → OpenReasons es1 put
     by es1 tftp is r = either_sent es1 (has_route link (first_of tftp l)) (send_records link l.number (Some 1) (first_of tftp l)) put is r
     by es1 (http isn) is r = either_sent es1 (has_route link (first_of (http isn) l)) (send_records link l.number (Some 1) (first_of (http isn) l)) put is r
+    by es1 (iscsi isn i) is r = either_sent es1 (has_route link (first_of (iscsi isn i) l)) (send_records link l.number (Some 1) (first_of (iscsi isn i) l)) put is r
     by es1 (dns id) is r = either_sent es1 (has_route link (first_of (dns id) l)) (send_records link l.number (Some 1) (first_of (dns id) l)) put is r
     by es1 (dhcp a) is r = either_sent es1 (has_route link (first_of (dhcp a) l)) (send_records link l.number (Some 1) (first_of (dhcp a) l)) put is r
     by es1 ping is r = either_sent es1 (has_route link (first_of ping l)) (send_records link l.number (Some 1) (first_of ping l)) put is r
@@ -195,6 +209,7 @@ lost l link is = by l.kind is
     by : (kind : OpenKind) → first_records kind l link ≡ None → has_route link (first_of kind l) ≡ false
     by tftp is = either_lost (has_route link (first_of tftp l)) (send_records link l.number (Some 1) (first_of tftp l)) is
     by (http isn) is = either_lost (has_route link (first_of (http isn) l)) (send_records link l.number (Some 1) (first_of (http isn) l)) is
+    by (iscsi isn i) is = either_lost (has_route link (first_of (iscsi isn i) l)) (send_records link l.number (Some 1) (first_of (iscsi isn i) l)) is
     by (dns id) is = either_lost (has_route link (first_of (dns id) l)) (send_records link l.number (Some 1) (first_of (dns id) l)) is
     by (dhcp a) is = either_lost (has_route link (first_of (dhcp a) l)) (send_records link l.number (Some 1) (first_of (dhcp a) l)) is
     by ping is = either_lost (has_route link (first_of ping l)) (send_records link l.number (Some 1) (first_of ping l)) is

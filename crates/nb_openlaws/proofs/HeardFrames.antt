@@ -14,7 +14,7 @@ use Rattle.nb_stack.specs.Brings.{Brought, nothing, arp_message, datagram, echo_
 use Rattle.nb_tftp.proofs.BlockLemmas.{either_way}
 use Rattle.nb_tftp.specs.Received.{received}
 use Rattle.nb_tftp.specs.History.{came}
-use Rattle.nb_machine.specs.Lives.{OpenKind, tftp, http, dns, dhcp, ping, kind_number, message, tcp_segment, Live}
+use Rattle.nb_machine.specs.Lives.{OpenKind, tftp, http, iscsi, dns, dhcp, ping, kind_number, message, tcp_segment, Live}
 use Rattle.nb_machine.specs.Kinds.{takes_from, is_for, is_ping, is_reply_for, is_connection, has_port, is_segment_for}
 use Rattle.nb_machine.specs.States.{State, net0}
 use Rattle.nb_machine.specs.Network.{is_for_one}
@@ -30,6 +30,7 @@ counts_as : (kind : OpenKind) (l : Live) (p : PacketParts) (d : UdpParts) →
     counts_from (record { kind = kind_number kind; server = l.server; port = l.port; own = l.own; target = l.target; since = l.since }) p.src.0 d.src_port ≡ takes_from kind l p d
 counts_as tftp l p d = refl
 counts_as (http isn) l p d = refl
+counts_as (iscsi isn i) l p d = refl
 counts_as (dns id) l p d = refl
 counts_as (dhcp a) l p d = refl
 counts_as ping l p d = refl
@@ -41,6 +42,7 @@ replies_as : (kind : OpenKind) (l : Live) (p : PacketParts) (e : EchoParts) →
     takes_reply (record { kind = kind_number kind; server = l.server; port = l.port; own = l.own; target = l.target; since = l.since }) p.src.0 e.ident ≡ (is_ping kind && ((l.own == e.ident) && (p.src.0 == l.server)))
 replies_as tftp l p e = refl
 replies_as (http isn) l p e = refl
+replies_as (iscsi isn i) l p e = refl
 replies_as (dns id) l p e = refl
 replies_as (dhcp a) l p e = refl
 replies_as ping l p e = refl
@@ -62,9 +64,10 @@ pub streamed_by : (es : List Event) (n : ℕ) (bytes : List ℕ) (m : Brought) (
 streamed_by es n bytes m l h = ap (λ os. flat_map (segment_in n (time es) m) os) (live_one l.number es (live_opening l) h.opening h.lives) ∙ append-nil (segment_in n (time es) m (live_opening l))
 
 -- a segment is for an open as the machine has it
-connects_as : (kind : OpenKind) → (kind_number kind == 2) ≡ is_connection kind
+connects_as : (kind : OpenKind) → ((kind_number kind == 2) || (kind_number kind == 3)) ≡ is_connection kind
 connects_as tftp = refl
 connects_as (http isn) = refl
+connects_as (iscsi isn i) = refl
 connects_as (dns id) = refl
 connects_as (dhcp a) = refl
 connects_as ping = refl
@@ -90,6 +93,7 @@ port_as_told l from p g at = ap (λ b. b && (l.own == g.dst_port)) (connects_as 
 pub own_of_segment : (kind : OpenKind) (own rec now : ℕ) (g : SegmentParts) → ComesToOwnPort kind own (tcp_segment rec g now)
 own_of_segment tftp own rec now g = tt
 own_of_segment (http isn) own rec now g = tt
+own_of_segment (iscsi isn i) own rec now g = tt
 own_of_segment (dns id) own rec now g = tt
 own_of_segment (dhcp a) own rec now g = tt
 own_of_segment ping own rec now g = tt
@@ -98,6 +102,7 @@ own_of_segment ping own rec now g = tt
 pub one_heard : (kind : OpenKind) (l : Live) (p : PacketParts) (d : UdpParts) (n now : ℕ) → takes_from kind l p d ≡ true → (came (received n d.src_port d.body) now ∷ []) ≡ heard_call kind (message n d.src_port d.body now)
 one_heard tftp l p d n now takes = refl
 one_heard (http isn) l p d n now takes = absurd (cc)
+one_heard (iscsi isn i) l p d n now takes = absurd (cc)
 one_heard (dns id) l p d n now takes = refl
 one_heard (dhcp a) l p d n now takes = refl
 one_heard ping l p d n now takes = absurd (cc)
@@ -105,6 +110,7 @@ one_heard ping l p d n now takes = absurd (cc)
 pub own_of_datagram : (kind : OpenKind) (l : Live) (p : PacketParts) (d : UdpParts) (n now : ℕ) → takes_from kind l p d ≡ true → ComesToOwnPort kind l.own (message n d.src_port d.body now)
 own_of_datagram tftp l p d n now takes = tt
 own_of_datagram (http isn) l p d n now takes = tt
+own_of_datagram (iscsi isn i) l p d n now takes = tt
 own_of_datagram (dns id) l p d n now takes = tt
 own_of_datagram (dhcp a) l p d n now takes = tt
 own_of_datagram ping l p d n now takes = absurd (cc)
@@ -113,6 +119,7 @@ own_of_datagram ping l p d n now takes = absurd (cc)
 pub one_echoed : (kind : OpenKind) (rec port now : ℕ) (body : List ℕ) → is_ping kind ≡ true → (came (received rec 0 body) now ∷ []) ≡ heard_call kind (message rec port body now)
 one_echoed tftp rec port now body is = absurd (cc)
 one_echoed (http isn) rec port now body is = absurd (cc)
+one_echoed (iscsi isn i) rec port now body is = absurd (cc)
 one_echoed (dns id) rec port now body is = absurd (cc)
 one_echoed (dhcp a) rec port now body is = absurd (cc)
 one_echoed ping rec port now body is = refl
@@ -120,6 +127,7 @@ one_echoed ping rec port now body is = refl
 pub own_of_reply : (kind : OpenKind) (own rec port now : ℕ) (body : List ℕ) → own ≡ port → ComesToOwnPort kind own (message rec port body now)
 own_of_reply tftp own rec port now body is = tt
 own_of_reply (http isn) own rec port now body is = tt
+own_of_reply (iscsi isn i) own rec port now body is = tt
 own_of_reply (dns id) own rec port now body is = tt
 own_of_reply (dhcp a) own rec port now body is = tt
 own_of_reply ping own rec port now body is = sym is

@@ -14,7 +14,7 @@ use Rattle.nb_machine.specs.Errands.{Wanted, Onward, fetches_now, echoes_now, lo
 use Rattle.nb_machine.specs.Queries.{Query, for_lease, for_echo, for_host, for_address}
 use Rattle.nb_machine.specs.Running.{Running, entered, anew}
 use Rattle.nb_streams.proofs.FlowLaws.{all_append}
-use Rattle.nb_machine.specs.Lives.{OpenKind, tftp, http, dns, dhcp, ping, OpenInput, Live}
+use Rattle.nb_machine.specs.Lives.{OpenKind, tftp, http, iscsi, dns, dhcp, ping, OpenInput, Live}
 use Rattle.nb_machine.specs.Transfers as transfers
 use Rattle.nb_machine.specs.Cores as cores
 use Rattle.nb_machine.specs.Kinds.{Keeps, KeepsBy, is_connection}
@@ -197,6 +197,7 @@ kind_unanswered : (kind : OpenKind) (es : List Event) (l : Live) → IsKindBy (h
     AllByRecursion (IsOngoing kind l.number l.own) l.exchanges → has_its_answer l.number (opening_as kind l) es ≡ false
 kind_unanswered tftp es l is received streams k going = datagrams_unanswered tftp es l refl is received k going
 kind_unanswered (http isn) es l is received streams k going = web_unanswered es l isn is streams k going
+kind_unanswered (iscsi isn i) es l is received streams k going = refl
 kind_unanswered (dns id) es l is received streams k going = datagrams_unanswered (dns id) es l refl is received k going
 kind_unanswered (dhcp a) es l is received streams k going = datagrams_unanswered (dhcp a) es l refl is received k going
 kind_unanswered ping es l is received streams k going = datagrams_unanswered ping es l refl is received k going

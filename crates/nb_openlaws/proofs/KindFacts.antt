@@ -34,7 +34,7 @@ use Rattle.nb_laws.proofs.LookupCores.{lookup_opening, lookup_is, lookup_unanswe
 use Rattle.nb_laws.proofs.LeaseCores.{lease_opening, lease_unanswered, lease_sends, lease_ends}
 use Rattle.nb_laws.proofs.PingCores.{ping_opening, ping_unanswered, ping_sends, ping_ends}
 use Rattle.nb_laws.proofs.Tries.{either_false}
-use Rattle.nb_machine.specs.Lives.{OpenKind, tftp, http, dns, dhcp, ping, kind_number, Live}
+use Rattle.nb_machine.specs.Lives.{OpenKind, tftp, http, iscsi, dns, dhcp, ping, kind_number, Live}
 use Rattle.nb_laws.specs.Webs.{opens_connection}
 use Rattle.nb_machine.specs.Connections.{connection_of, syn_message}
 use Rattle.nb_machine.specs.Transfers.{transfer_of}
@@ -50,6 +50,7 @@ opening_as kind l = record { kind = kind_number kind; server = l.server; port = 
 abbrev pub first_of : OpenKind → Live → SendTo
 first_of tftp l = request_of (transfer_of l)
 first_of (http isn) l = syn_message (connection_of isn l)
+first_of (iscsi isn i) l = syn_message (connection_of isn l)
 first_of (dns id) l = query_to (look_up_of id l)
 first_of (dhcp a) l = to_servers (message_text a None)
 first_of ping l = echo_request (ping_of l)
@@ -78,6 +79,7 @@ lease_kept hw k a since h is meets = subst (λ (b : Asker). LeasePromises b sinc
 abbrev pub ByDatagrams : OpenKind → Type 0
 ByDatagrams tftp = Unit {0}
 ByDatagrams (http isn) = ⊥
+ByDatagrams (iscsi isn i) = ⊥
 ByDatagrams (dns id) = Unit {0}
 ByDatagrams (dhcp a) = Unit {0}
 ByDatagrams ping = Unit {0}
@@ -85,6 +87,7 @@ ByDatagrams ping = Unit {0}
 pub by_datagrams : (kind : OpenKind) (l : Live) (h : List Entry) → Promised kind l h → ByDatagrams kind
 by_datagrams tftp l h p = tt
 by_datagrams (http isn) l h p = absurd p
+by_datagrams (iscsi isn i) l h p = absurd p
 by_datagrams (dns id) l h p = tt
 by_datagrams (dhcp a) l h p = tt
 by_datagrams ping l h p = tt
@@ -92,13 +95,23 @@ by_datagrams ping l h p = tt
 pub no_stream : (kind : OpenKind) (l : Live) → ByDatagrams kind → (opening_as kind l).kind ≡ 2 → ⊥
 no_stream tftp l d e = omega (arith, e)
 no_stream (http isn) l d e = absurd d
+no_stream (iscsi isn i) l d e = absurd d
 no_stream (dns id) l d e = omega (arith, e)
 no_stream (dhcp a) l d e = omega (arith, e)
 no_stream ping l d e = omega (arith, e)
 
+pub no_session : (kind : OpenKind) (l : Live) → ByDatagrams kind → (opening_as kind l).kind ≡ 3 → ⊥
+no_session tftp l d e = omega (arith, e)
+no_session (http isn) l d e = absurd d
+no_session (iscsi isn i) l d e = absurd d
+no_session (dns id) l d e = omega (arith, e)
+no_session (dhcp a) l d e = omega (arith, e)
+no_session ping l d e = omega (arith, e)
+
 pub no_connection : (kind : OpenKind) (l : Live) → ByDatagrams kind → opens_connection (opening_as kind l) ≡ false
 no_connection tftp l d = refl
 no_connection (http isn) l d = absurd d
+no_connection (iscsi isn i) l d = absurd d
 no_connection (dns id) l d = refl
 no_connection (dhcp a) l d = refl
 no_connection ping l d = refl
@@ -107,6 +120,7 @@ no_connection ping l d = refl
 pub answer_as : (kind : OpenKind) (l : Live) (k : ℕ) (es : List Event) → ByDatagrams kind → has_its_answer k (opening_as kind l) es ≡ answers_open (hardware es) k (opening_as kind l) (datagrams_of k es)
 answer_as tftp l k es d = refl
 answer_as (http isn) l k es d = absurd d
+answer_as (iscsi isn i) l k es d = absurd d
 answer_as (dns id) l k es d = refl
 answer_as (dhcp a) l k es d = refl
 answer_as ping l k es d = refl
@@ -152,6 +166,7 @@ lease_ungranted hw k since h meets running = by (by_last h)
 pub unanswered_as : (kind : OpenKind) (hw : Hardware) (l : Live) (h : List Entry) → IsKindBy hw l.number kind (opening_as kind l) → Promised kind l h → is_ended h ≡ false → answers_open hw l.number (opening_as kind l) (got h) ≡ false
 unanswered_as tftp hw l h is meets running = transfer_unwhole l h meets running
 unanswered_as (http isn) hw l h is meets running = absurd meets
+unanswered_as (iscsi isn i) hw l h is meets running = absurd meets
 unanswered_as (dns id) hw l h is meets running =
     ap (λ o. answers_open hw l.number o (got h)) (lookup_opened hw id l is) ∙ lookup_unanswered hw l.number (asked_of id l) l.since h (lookup_kept hw id l h is.0 meets) running
 unanswered_as (dhcp a) hw l h is meets running =
@@ -165,6 +180,7 @@ unanswered_as ping hw l h is meets running =
 abbrev pub IsCore : OpenKind → Type 0
 IsCore tftp = ⊥
 IsCore (http isn) = ⊥
+IsCore (iscsi isn i) = ⊥
 IsCore (dns id) = Unit {0}
 IsCore (dhcp a) = Unit {0}
 IsCore ping = Unit {0}
@@ -173,6 +189,7 @@ pub core_asks : (kind : OpenKind) (hw : Hardware) (l : Live) (h : List Entry) (c
     CoreAsks (MayAskFor hw l.number (opening_as kind l) (got (h ++ entry call acts ∷ []))) (first_of kind l) acts
 core_asks tftp hw l h call acts core is meets = absurd core
 core_asks (http isn) hw l h call acts core is meets = absurd core
+core_asks (iscsi isn i) hw l h call acts core is meets = absurd core
 core_asks (dns id) hw l h call acts core is meets =
     subst (λ o. CoreAsks (MayAskFor hw l.number o (got (h ++ entry call acts ∷ []))) (query_to (look_up_of id l)) acts) (sym (lookup_opened hw id l is))
     (subst (λ (x : Lookup). CoreAsks (MayAskFor hw l.number (lookup_opening (asked_of id l) l.since) (got (h ++ entry call acts ∷ []))) (query_to x) acts) (sym (lookup_is hw l.number (asked_of id l) l.since is.0))
@@ -190,6 +207,7 @@ pub core_ends : (kind : OpenKind) (es : List Event) (l : Live) (h : List Entry) 
     CoreTold es l.number (opening_as kind l) (h ++ entry call acts ∷ []) → is_ended h ≡ false → moment call ≡ time es → acts.over ≡ Some cause → CoreEnds l.number es (opening_as kind l) cause
 core_ends tftp es l h call acts cause core is meets told running at over = absurd core
 core_ends (http isn) es l h call acts cause core is meets told running at over = absurd core
+core_ends (iscsi isn i) es l h call acts cause core is meets told running at over = absurd core
 core_ends (dns id) es l h call acts cause core is meets told running at over =
     let e = lookup_opened (hardware es) id l is in
     subst (λ o. CoreEnds l.number es o cause) (sym e)
@@ -217,6 +235,7 @@ a_way f on none = let no : true ≡ false = sym on ∙ ap is_on_its_way none in 
 pub first_way : (kind : OpenKind) (hw : Hardware) (l : Live) (link : Client) → IsKindBy hw l.number kind (opening_as kind l) → has_route link (first_of kind l) ≡ is_on_its_way (fate_to link (opening_as kind l))
 first_way tftp hw l link is = refl
 first_way (http isn) hw l link is = refl
+first_way (iscsi isn i) hw l link is = refl
 first_way (dns id) hw l link is = refl
 first_way (dhcp a) hw l link is = ap (λ (o : Opening). is_on_its_way (fate_to link o)) (sym (lease_opened hw a l is))
 first_way ping hw l link is = refl

@@ -34,7 +34,7 @@ use Rattle.nb_nodes.specs.LeaseExchanges.{lease_service}
 use Rattle.nb_nodes.specs.EchoExchanges.{ping_service}
 use Rattle.nb_machine.specs.Sendings.{acts_records}
 use Rattle.nb_laws.specs.Agreement.{moment, lookup_entry_of, lease_entry_of, ping_entry_of}
-use Rattle.nb_machine.specs.Lives.{OpenKind, tftp, http, dns, dhcp, ping, OpenInput, message, time as time_came, close, Exchange, exchange, Live, continued}
+use Rattle.nb_machine.specs.Lives.{OpenKind, tftp, http, iscsi, dns, dhcp, ping, OpenInput, message, time as time_came, close, Exchange, exchange, Live, continued}
 use Rattle.nb_machine.specs.Transfers.{transfer_of, arrival_of, end_records, transfer_end, transfer_records, Exchanged, at_first, takes, closes}
 use Rattle.nb_machine.specs.Cores as cores
 use Rattle.nb_machine.specs.Cores.{look_up_of, ping_of, core_end, core_records, CoreExchanged, KeepsCore}
@@ -143,6 +143,7 @@ reads_ping p server is = record {
 abbrev pub Promised : OpenKind → Live → List Entry → Type 0
 Promised tftp l h = Meets (transfer_of l) l.since h
 Promised (http isn) l h = ⊥
+Promised (iscsi isn i) l h = ⊥
 Promised (dns id) l h = LookupMeets (look_up_of id l) l.since (map (lookup_entry_of (host l.server)) h)
 Promised (dhcp a) l h = LeasePromises a l.since (map lease_entry_of h)
 Promised ping l h = PingMeets (ping_of l) l.since (map (ping_entry_of (ping_of l)) h)
@@ -151,6 +152,7 @@ Promised ping l h = PingMeets (ping_of l) l.since (map (ping_entry_of (ping_of l
 abbrev pub exchange_end : OpenKind → Live → Client → List Entry → Acts → Option Cause
 exchange_end tftp l link h acts = transfer_end l.server link (file (got h)) acts
 exchange_end (http isn) l link h acts = None
+exchange_end (iscsi isn i) l link h acts = None
 exchange_end (dns id) l link h acts = core_end l.server link acts
 exchange_end (dhcp a) l link h acts = core_end l.server link acts
 exchange_end ping l link h acts = core_end l.server link acts
@@ -159,6 +161,7 @@ exchange_end ping l link h acts = core_end l.server link acts
 abbrev pub EndsUntried : OpenKind → Call → Acts → Type 0
 EndsUntried tftp call acts = IfTicked call ((cause : Cause) → acts.over ≡ Some cause → acts.tried ≡ None)
 EndsUntried (http isn) call acts = ⊥
+EndsUntried (iscsi isn i) call acts = ⊥
 EndsUntried (dns id) call acts = (cause : Cause) → acts.over ≡ Some cause → acts.tried ≡ None
 EndsUntried (dhcp a) call acts = (cause : Cause) → acts.over ≡ Some cause → acts.tried ≡ None
 EndsUntried ping call acts = (cause : Cause) → acts.over ≡ Some cause → acts.tried ≡ None
@@ -270,6 +273,7 @@ last_core s kind l conv acts_in of x calls ys (cores.closes calls0 xs0 link caus
 pub last_as : (kind : OpenKind) (l : Live) (x : Exchange) → (is_connection kind ≡ false) → KeepsBy kind (continued l x) → AllByRecursion (IsOngoing kind l.number l.own) l.exchanges → ComesToOwnPort kind l.own x.came → LastAs kind l x
 last_as tftp l x d k going own = last_transfer l x k.entries _ k.exchanged refl k.meets going
 last_as (http isn) l x d k going own = absurd (cc)
+last_as (iscsi isn i) l x d k going own = absurd (cc)
 last_as (dns id) l x d k going own =
     last_core lookup_service (dns id) l (lookup_entry_of (host l.server)) (λ c. c.acts) (record { reads = reads_lookup id l.server l.own; ends = λ link h acts. refl; untries = λ call acts f. f }) x k.calls _ k.exchanged refl
     (lookup_fits (look_up_of id l) [] k.calls k.meets.asking) (λ h is. subst (LookupMeets (look_up_of id l) l.since) is k.meets) going own
@@ -295,6 +299,7 @@ did_so_core {S} {B} {C} s kind l conv acts_in of calls x fits promised going =
 pub did_so : (kind : OpenKind) (l : Live) → (is_connection kind ≡ false) → KeepsBy kind l → AllByRecursion (IsOngoing kind l.number l.own) l.exchanges → DidSo kind l
 did_so tftp l d k going = record { entries = k.entries; did = did_transfer l.number l.server l.own (transfer_of l) k.entries l.exchanges k.exchanged k.meets.sending going; promised = k.meets }
 did_so (http isn) l d k going = absurd (cc)
+did_so (iscsi isn i) l d k going = absurd (cc)
 did_so (dns id) l d k going =
     did_so_core lookup_service (dns id) l (lookup_entry_of (host l.server)) (λ c. c.acts) (record { reads = reads_lookup id l.server l.own; ends = λ link h acts. refl; untries = λ call acts f. f }) k.calls k.exchanged
     (lookup_fits (look_up_of id l) [] k.calls k.meets.asking) (λ h is. subst (LookupMeets (look_up_of id l) l.since) is k.meets) going

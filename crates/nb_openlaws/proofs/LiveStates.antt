@@ -6,7 +6,7 @@ use Rattle.nb_terms.specs.declared.cause.Cause.{Cause}
 use Rattle.nb_defs.specs.Records.{Out}
 use Rattle.nb_tftp.proofs.BlockLemmas.{either_way}
 use Rattle.nb_tftp.specs.History.{ticked}
-use Rattle.nb_machine.specs.Lives.{OpenKind, tftp, http, dns, dhcp, ping, time as time_came, close, Live}
+use Rattle.nb_machine.specs.Lives.{OpenKind, tftp, http, iscsi, dns, dhcp, ping, time as time_came, close, Live}
 use Rattle.nb_machine.specs.States.{State, with_live, later_by}
 use Rattle.nb_machine.specs.Takings.{Over, AllTake}
 use Rattle.nb_laws.specs.Events.{Event, waits}
@@ -119,6 +119,7 @@ not_among es j (l ∷ ls) h more = both_false (l.number == j) (lives_among j ls)
 own_at_time : (kind : OpenKind) (own now : ℕ) → ComesToOwnPort kind own (time_came now)
 own_at_time tftp own now = tt
 own_at_time (http isn) own now = tt
+own_at_time (iscsi isn i) own now = tt
 own_at_time (dns id) own now = tt
 own_at_time (dhcp a) own now = tt
 own_at_time ping own now = tt
@@ -126,6 +127,7 @@ own_at_time ping own now = tt
 own_at_close : (kind : OpenKind) (own : ℕ) (cause : Cause) → ComesToOwnPort kind own (close cause)
 own_at_close tftp own cause = tt
 own_at_close (http isn) own cause = tt
+own_at_close (iscsi isn i) own cause = tt
 own_at_close (dns id) own cause = tt
 own_at_close (dhcp a) own cause = tt
 own_at_close ping own cause = tt

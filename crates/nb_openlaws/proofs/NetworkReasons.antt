@@ -20,7 +20,7 @@ use Rattle.nb_laws.specs.Lists.{gathered, hardware, blocks_where, opens_file, fi
 use Rattle.nb_laws.specs.Progress.{file_place, IsAdvanced}
 use Rattle.nb_laws.specs.Webs.{came_at, brought_to, stream_place_by, stream_place, comes_to_port, ComesToNone}
 use Rattle.nb_laws.proofs.Histories.{client_hears, client_waits}
-use Rattle.nb_laws.proofs.Tellings.{KeepsHardware, hardware_stays, openings_more, calls_more, came_more, no_more, place_more, place_same, blocks_same, no_datagram, advanced_more, still_advanced}
+use Rattle.nb_laws.proofs.Tellings.{KeepsHardware, hardware_stays, openings_more, calls_more, came_more, no_more, place_more, place_same, blocks_same, no_datagram, advanced_more, still_advanced, sessions_stay}
 use Rattle.nb_machine.specs.Lives.{OpenInput, message, tcp_segment, Live}
 use Rattle.nb_machine.specs.Kinds.{Keeps, has_port, reply_beside}
 use Rattle.nb_machine.specs.States.{State, net0}
@@ -37,7 +37,9 @@ use Rattle.nb_openlaws.proofs.NetworkDevices.{link_is}
 use Rattle.nb_openlaws.proofs.LiveStates.{times_come}
 use Rattle.nb_openlaws.proofs.Sendings.{no_reasons}
 use Rattle.nb_openlaws.proofs.KindFacts.{no_connection}
-use Rattle.nb_openlaws.proofs.StreamPlaces.{times_stream, same_sum, stream_so}
+use Rattle.nb_laws.specs.Drives.{sessions, session_place_by, session_place}
+use Rattle.nb_laws.proofs.SessionOpenings.{no_session_unopened}
+use Rattle.nb_openlaws.proofs.StreamPlaces.{times_stream, times_session, same_sum, stream_so}
 use Rattle.nb_openlaws.proofs.ExchangeReasons.{place_so, IsTaken}
 use Rattle.nb_openlaws.proofs.AllReasons.{IsPlaced, TakenSo, all_reasons, one_reasons}
 
@@ -67,8 +69,8 @@ pub time_advanced : (es : List Event) (n ms : ℕ) → IsAdvanced es → IsAdvan
 time_advanced es n ms a = λ k.
     let e = waits n ms in
     place_more k es e ∙ a k
-    ∙ sym (ap (λ z. z + stream_place k (es ++ e ∷ [])) (blocks_same k (es ++ e ∷ []) es (openings_more k es e ∙ append-nil (openings k es)) (no_datagram k es e (none_of_ticks (lists.time es + ms) (live k es))))
-    ∙ ap (λ z. file_blocks k es + z) (stream k))
+    ∙ sym (ap (λ z. z + stream_place k (es ++ e ∷ []) + session_place k (es ++ e ∷ [])) (blocks_same k (es ++ e ∷ []) es (openings_more k es e ∙ append-nil (openings k es)) (no_datagram k es e (none_of_ticks (lists.time es + ms) (live k es))))
+    ∙ ap (λ z. file_blocks k es + z + session_place k (es ++ e ∷ [])) (stream k) ∙ ap (λ z. file_blocks k es + stream_place k es + z) (session k))
   where
     stream : (k : ℕ) → stream_place k (es ++ waits n ms ∷ []) ≡ stream_place k es
     stream k =
@@ -78,8 +80,18 @@ time_advanced es n ms a = λ k.
         ∙ same_sum (stream_place_by (hardware es) k (brought_to k es ++ came_at k es (waits n ms))) (stream_place_by (hardware es) k (brought_to k es)) (openings k es)
         (λ o. times_stream (hardware es) k o (brought_to k es) (lists.time es + ms) (live k es))
 
+    session : (k : ℕ) → session_place k (es ++ waits n ms ∷ []) ≡ session_place k es
+    session k =
+        ap (λ ss. sum_by (session_place_by (hardware (es ++ waits n ms ∷ [])) k (brought_to k (es ++ waits n ms ∷ []))) ss) (sessions_stay k es (waits n ms) refl)
+        ∙ ap (λ h. sum_by (session_place_by h k (brought_to k (es ++ waits n ms ∷ []))) (sessions k es)) (hardware_stays es (waits n ms) tt)
+        ∙ ap (λ c. sum_by (session_place_by (hardware es) k c) (sessions k es)) (came_more k es (waits n ms))
+        ∙ same_sum (session_place_by (hardware es) k (brought_to k es ++ came_at k es (waits n ms))) (session_place_by (hardware es) k (brought_to k es)) (sessions k es)
+        (λ s. times_session (hardware es) k s (brought_to k es) (lists.time es + ms) (live k es))
+
 unopened_place : (k : ℕ) (es : List Event) → openings k es ≡ [] → file_place k es ≡ 0
-unopened_place k es none = ap (λ os. blocks_where (list_any opens_file os) (lists.datagrams_of k es) + sum_by (stream_place_by (hardware es) k (brought_to k es)) os) none
+unopened_place k es none =
+    ap (λ os. blocks_where (list_any opens_file os) (lists.datagrams_of k es) + sum_by (stream_place_by (hardware es) k (brought_to k es)) os + session_place k es) none
+    ∙ ap (λ ss. 0 + sum_by (session_place_by (hardware es) k (brought_to k es)) ss) (no_session_unopened k es none)
 
 openings_none : (k : ℕ) → openings k [] ≡ []
 unfolding openings gathered
@@ -161,7 +173,7 @@ message_placed es e l u keeps own a none = record {
   others = λ j other.
       place_more j es e ∙ used_place j (last_place j es) e u ∙ a j
       ∙ sym (place_same j (es ++ e ∷ []) es (hardware_stays es e keeps) (openings_more j es e ∙ no_more (openings j es) _ (used_opening j es e u)) (ap (λ z. flat_map received_by z) (calls_more j es e ∙ no_more (calls j es) _ (none j other).0))
-      (came_more j es e ∙ no_more (brought_to j es) _ (none j other).1));
+      (came_more j es e ∙ no_more (brought_to j es) _ (none j other).1) (sessions_stay j es e (used_opening j es e u)));
 }
 
 all_of : {A : Type 0} (P : A → Type 0) (before : List A) (x : A) (behind : List A) → AllByRecursion P (before ++ x ∷ behind) → P x

@@ -12,7 +12,7 @@ use Rattle.nb_stack.specs.Client.{Client}
 use Rattle.nb_tftp.specs.History.{Call, came, ticked, Entry}
 use Rattle.nb_nodes.specs.Exchanges.{Service}
 use Rattle.nb_machine.specs.Sendings.{has_route, send_records, sends_records, acts_records, advance_records, try_records}
-use Rattle.nb_machine.specs.Lives.{OpenKind, tftp, http, dns, dhcp, ping, close, Exchange, exchange, Live, continued}
+use Rattle.nb_machine.specs.Lives.{OpenKind, tftp, http, iscsi, dns, dhcp, ping, close, Exchange, exchange, Live, continued}
 use Rattle.nb_machine.specs.Transfers.{arrival_of, end_records, Exchanged, at_first, takes, closes}
 use Rattle.nb_machine.specs.Cores as cores
 use Rattle.nb_machine.specs.Cores.{CoreExchanged}
@@ -22,8 +22,9 @@ use Rattle.nb_streams.specs.Talking.{Talker, Talk}
 use Rattle.nb_streams.specs.TalkPromises.{Sends, Put, phase_of, close_put}
 use Rattle.nb_streams.specs.Trying.{tries_at}
 use Rattle.nb_tcp.specs.Messages.{outgoing_message}
-use Rattle.nb_machine.specs.Connections.{Connection, connection_of, segment_records, talk_of, talk_end, put_records, PutsAt, KeepsAt, EachExchange}
-use Rattle.nb_machine.specs.Webs.{web_at}
+use Rattle.nb_machine.specs.Connections.{Connection, connection_of, segment_records, talk_of, talk_end, put_records, PutsAt, KeepsAt, EachExchange, Talking}
+use Rattle.nb_machine.specs.Drives.{session_talking}
+use Rattle.nb_machine.specs.Webs.{web_talking}
 use Rattle.nb_machine.specs.Kinds.{KeepsBy, Keeps}
 use Rattle.nb_machine.specs.Takings.{end_told, end_among}
 use Rattle.nb_laws.specs.Events.{Event, puts}
@@ -317,7 +318,7 @@ closed_talk isn c link d cause =
       put_is = refl;
     }
 
-puts_talk : {T : Type 0} (t : Talker T) (c : Connection) (before : List Exchange) (x : Exchange) → KeepsAt t c before x → IsPutBy c.number x
+puts_talk : {T : Type 0} (t : Talking T) (c : Connection) (before : List Exchange) (x : Exchange) → KeepsAt t c before x → IsPutBy c.number x
 puts_talk t c before x h = record {
   of = subst (AreOf c.number) (sym h.records) (of_put c x.link h.put);
   closes = λ cause is.
@@ -336,7 +337,8 @@ kept_puts l x h = by l.kind h
   where
     by : (kind : OpenKind) → KeepsBy kind (continued l x) → IsPutBy l.number x
     by tftp k = last_of_transfer l.number l.server k.entries _ l.exchanges x k.exchanged refl
-    by (http isn) k = puts_talk (web_at l.target) (connection_of isn l) l.exchanges x (last_exchange (KeepsAt (web_at l.target) (connection_of isn l)) [] l.exchanges x k)
+    by (http isn) k = puts_talk (web_talking l.target) (connection_of isn l) l.exchanges x (last_exchange (KeepsAt (web_talking l.target) (connection_of isn l)) [] l.exchanges x k)
+    by (iscsi isn i) k = puts_talk (session_talking i) (connection_of isn l) l.exchanges x (last_exchange (KeepsAt (session_talking i) (connection_of isn l)) [] l.exchanges x k)
     by (dns id) k = last_of_core _ l.number l.server k.calls _ l.exchanges x k.exchanged refl
     by (dhcp a) k = last_of_core _ l.number l.server k.calls _ l.exchanges x k.exchanged refl
     by ping k = last_of_core _ l.number l.server k.calls _ l.exchanges x k.exchanged refl

@@ -19,7 +19,7 @@ use Rattle.nb_machine.specs.Transfers.{transfer_of}
 use Rattle.nb_machine.specs.Connections.{connection_of, syn_message}
 use Rattle.nb_streams.specs.Trying.{tries_at}
 use Rattle.nb_laws.specs.Webs.{brought_to, told_try_mark, try_marks_of}
-use Rattle.nb_machine.specs.Lives.{OpenKind, tftp, http, dns, dhcp, ping, Live, open_record, end_record}
+use Rattle.nb_machine.specs.Lives.{OpenKind, tftp, http, iscsi, dns, dhcp, ping, Live, open_record, end_record}
 use Rattle.nb_machine.specs.Kinds.{first_records}
 use Rattle.nb_machine.specs.States.{State, net0, with_opened, with_one_made}
 use Rattle.nb_machine.specs.Scripts.{net0_mac}
@@ -286,6 +286,7 @@ begun_so link l put e = by l.kind e
     by : (kind : OpenKind) → first_records kind l link ≡ Some put → BeginsSo l put
     by tftp e = message_so link l put (request_of (transfer_of l)) e
     by (http isn) e = message_so link l put (syn_message (connection_of isn l)) e
+    by (iscsi isn i) e = message_so link l put (syn_message (connection_of isn l)) e
     by (dns id) e = message_so link l put (query_to (look_up_of id l)) e
     by (dhcp a) e = message_so link l put (to_servers (message_text a None)) e
     by ping e = message_so link l put (echo_request (ping_of l)) e

@@ -13,12 +13,13 @@ use Rattle.nb_streams.specs.Talking.{Talker}
 use Rattle.nb_streams.specs.Sending.{closing_segment}
 use Rattle.nb_streams.specs.TalkPromises.{Sends, phase_of, close_put}
 use Rattle.nb_tcp.specs.Messages.{outgoing_message}
-use Rattle.nb_machine.specs.Connections.{Connection, connection_of, segment_records, talk_of, talk_end, PutsAt, KeepsAt}
-use Rattle.nb_machine.specs.Webs.{web_at}
+use Rattle.nb_machine.specs.Connections.{Connection, connection_of, segment_records, talk_of, talk_end, PutsAt, KeepsAt, Talking}
+use Rattle.nb_machine.specs.Drives.{session_talking}
+use Rattle.nb_machine.specs.Webs.{web_talking}
 use Rattle.nb_openlaws.proofs.OpenRecords.{snoc_one, no_snoc, IsFrame, frame_by, last_exchange}
 use Rattle.nb_machine.specs.Sendings.{has_route, send_records, try_records, advance_records, acts_records}
 use Rattle.nb_streams.proofs.FlowLaws.{all_append}
-use Rattle.nb_machine.specs.Lives.{OpenKind, tftp, http, dns, dhcp, ping, OpenInput, message, time, close, Exchange, exchange, Live, continued}
+use Rattle.nb_machine.specs.Lives.{OpenKind, tftp, http, iscsi, dns, dhcp, ping, OpenInput, message, time, close, Exchange, exchange, Live, continued}
 use Rattle.nb_machine.specs.Transfers.{arrival_of, end_records, Exchanged, at_first, takes, closes}
 use Rattle.nb_machine.specs.Cores as cores
 use Rattle.nb_machine.specs.Cores.{CoreExchanged}
@@ -79,7 +80,7 @@ unfolding IsOpens
 opens_advance k None = tt
 opens_advance k (Some n) = (tt, tt)
 
-puts_talk : {T : Type 0} (t : Talker T) (c : Connection) (before : List Exchange) (x : Exchange) → KeepsAt t c before x → PutsSo c.number x
+puts_talk : {T : Type 0} (t : Talking T) (c : Connection) (before : List Exchange) (x : Exchange) → KeepsAt t c before x → PutsSo c.number x
 puts_talk t c before x h = record {
   front = advance_records c.number h.put.advance ++ segment_records c x.link h.put.sends;
   over = talk_end c x.link h.put;
@@ -99,7 +100,8 @@ puts_so l x h = by l.kind h
   where
     by : (kind : OpenKind) → KeepsBy kind (continued l x) → PutsSo l.number x
     by tftp k = last_of_transfer l.number l.server k.entries _ l.exchanges x k.exchanged refl
-    by (http isn) k = puts_talk (web_at l.target) (connection_of isn l) l.exchanges x (last_exchange (KeepsAt (web_at l.target) (connection_of isn l)) [] l.exchanges x k)
+    by (http isn) k = puts_talk (web_talking l.target) (connection_of isn l) l.exchanges x (last_exchange (KeepsAt (web_talking l.target) (connection_of isn l)) [] l.exchanges x k)
+    by (iscsi isn i) k = puts_talk (session_talking i) (connection_of isn l) l.exchanges x (last_exchange (KeepsAt (session_talking i) (connection_of isn l)) [] l.exchanges x k)
     by (dns id) k = last_of_core _ l.number l.server k.calls _ l.exchanges x k.exchanged refl
     by (dhcp a) k = last_of_core _ l.number l.server k.calls _ l.exchanges x k.exchanged refl
     by ping k = last_of_core _ l.number l.server k.calls _ l.exchanges x k.exchanged refl

@@ -26,7 +26,7 @@ use Rattle.nb_laws.specs.Lists.{hardware, Opening, openings, open_has_ended, cal
 use Rattle.nb_laws.specs.Frames.{TriesSo, MayAskFor, by_transfer, IsSent, as_received, IsMessageTried, IsDue, stays_due, by_open, begun_by}
 use Rattle.nb_laws.specs.Agreement.{AreAside, IsStill}
 use Rattle.nb_laws.proofs.Histories.{each_append, each_then_append, client_put}
-use Rattle.nb_laws.proofs.Tellings.{told, tries_later, still_advanced, advanced_more, hardware_stays, place_same, came_more, place_more, kept, openings_more, calls_more, same_number}
+use Rattle.nb_laws.proofs.Tellings.{told, tries_later, still_advanced, advanced_more, hardware_stays, place_same, came_more, place_more, kept, openings_more, calls_more, same_number, sessions_stay}
 use Rattle.nb_laws.proofs.Asides.{aside_try}
 use Rattle.nb_laws.proofs.CoreAsks.{CoreAsks, asks_none, asks_one}
 use Rattle.nb_openlaws.specs.OpenEndings.{OpensEndSo, by_reason, FramesSo}
@@ -74,6 +74,7 @@ pub record MaySend (es : List Event) (link : Client) (k : ℕ) (o : Opening) (gs
   pub received : lists.datagrams_of k es ≡ gs
   pub due : IsDue k es
   pub no_stream : o.kind ≡ 2 → ⊥
+  pub no_session : o.kind ≡ 3 → ⊥
 
 -- it stays so while records are written that tell no open
 pub may_send_on : (es : List Event) (quiet : List Out) (link : Client) (k : ℕ) (o : Opening) (gs : List Received) → AreAside quiet → client (es ++ told quiet) ≡ client es → MaySend es link k o gs → MaySend (es ++ told quiet) link k o gs
@@ -86,6 +87,7 @@ may_send_on es quiet link k o gs aside same m =
       received = ap (λ z. flat_map received_by z) (left.calls_is k) ∙ m.received;
       due = due_told k es quiet m.due;
       no_stream = m.no_stream;
+      no_session = m.no_session;
     }
 
 -- a message of an open that lives
@@ -99,7 +101,7 @@ one_sent es link k o send gs m asked = (
     asked = as_received (subst (λ g. MayAskFor (hardware es) k o g send) (sym m.received) asked);
     spelled = ap (λ (c : Client). put_on c send (way_of c send)) (sym m.client_is);
   },
-  λ newest. record { of_transfer = subst (λ g. NewestBy o g send) (sym m.received) newest; of_connection = λ is. absurd (m.no_stream is) },
+  λ newest. record { of_transfer = subst (λ g. NewestBy o g send) (sym m.received) newest; of_connection = λ is. absurd (m.no_stream is); of_session = λ is. absurd (m.no_session is) },
 )
 
 sent_after : (es : List Event) (o : Out) → IsStill o → IsAdvanced es → IsAdvanced (es ++ puts o ∷ [])
@@ -153,7 +155,7 @@ advance_reasons es k p None here now next others = no_reasons es (each_open (λ 
 advance_reasons es k p (Some n) here now next others =
     let e = puts (advanced k n) in
     let same : (j : ℕ) → file_place j (es ++ e ∷ []) ≡ file_place j es = λ j.
-    place_same j (es ++ e ∷ []) es (hardware_stays es e tt) (openings_more j es e ∙ append-nil (openings j es)) (ap (λ z. flat_map received_by z) (calls_more j es e ∙ append-nil (calls j es))) (came_more j es e ∙ append-nil (brought_to j es)) in
+    place_same j (es ++ e ∷ []) es (hardware_stays es e tt) (openings_more j es e ∙ append-nil (openings j es)) (ap (λ z. flat_map received_by z) (calls_more j es e ∙ append-nil (calls j es))) (came_more j es e ∙ append-nil (brought_to j es)) (sessions_stay j es e refl) in
     record {
       ends = (tt, tt);
       frames = (tt, tt);

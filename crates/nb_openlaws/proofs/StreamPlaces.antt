@@ -15,10 +15,14 @@ use Rattle.nb_laws.specs.Events.{Event}
 use Rattle.nb_laws.specs.Lists as lists
 use Rattle.nb_laws.specs.Lists.{Hardware, hardware, Opening, openings, file_blocks, blocks_where, opens_file}
 use Rattle.nb_laws.specs.Progress.{file_place}
-use Rattle.nb_laws.specs.Webs.{opens_connection, brought_to, stream_place_by, stream_place}
+use Rattle.nb_laws.specs.Webs.{opens_web, brought_to, stream_place_by, stream_place}
+use Rattle.nb_laws.specs.Drives.{SessionOpening, session_by, to_session, came_to, session_place_by, session_place}
+use Rattle.nb_laws.proofs.SessionOpenings.{no_session_of}
+use Rattle.nb_sans.specs.Sessions.{session_talker}
+use Rattle.std.proofs.lemmas.List.{map-append}
 
 -- text that is said brings nothing of the stream
-held_text : (isn : ℕ) (cs : List TcpCall) (text : List ℕ) (now : ℕ) → held_after isn (cs ++ text_to_send text now) ≡ held_after isn cs
+pub held_text : (isn : ℕ) (cs : List TcpCall) (text : List ℕ) (now : ℕ) → held_after isn (cs ++ text_to_send text now) ≡ held_after isn cs
 held_text isn cs [] now = ap (held_after isn) (append-nil cs)
 held_text isn cs (b ∷ bytes) now = ap held_in (phase_append isn cs (text_came (b ∷ bytes) now)) ∙ still (conn_phase isn cs)
   where
@@ -34,7 +38,7 @@ time_held t isn start came now =
     ∙ ap held_in (phase_append isn d.calls (time_came now))
 
 pub time_stream : (h : Hardware) (k : ℕ) (o : Opening) (came : List (Came NoTask)) (now : ℕ) → stream_place_by h k (came ++ by_time now ∷ []) o ≡ stream_place_by h k came o
-time_stream h k o came now = ap (λ z. cond (opens_connection o) (next z) 0) (time_held (web_at o.target) (first_word h.identity k) o.since came now)
+time_stream h k o came now = ap (λ z. cond (opens_web o) (next z) 0) (time_held (web_at o.target) (first_word h.identity k) o.since came now)
 
 -- so do several, as one comes to each that lives
 pub times_stream : (h : Hardware) (k : ℕ) (o : Opening) (came : List (Came NoTask)) (now : ℕ) (os : List Opening) → stream_place_by h k (came ++ flat_map (λ x. by_time now ∷ []) os) o ≡ stream_place_by h k came o
@@ -44,18 +48,32 @@ times_stream h k o came now (x ∷ os) =
     ∙ times_stream h k o (came ++ by_time now ∷ []) now os ∙ time_stream h k o came now
 
 -- a sum of the same
-pub same_sum : (f g : Opening → ℕ) (os : List Opening) → ((o : Opening) → f o ≡ g o) → sum_by f os ≡ sum_by g os
-same_sum f g os same = on os 0
+pub same_sum : {A : Type 0} (f g : A → ℕ) (os : List A) → ((o : A) → f o ≡ g o) → sum_by f os ≡ sum_by g os
+same_sum {A} f g os same = on os 0
   where
-    on : (xs : List Opening) (t : ℕ) → fold (λ (n : ℕ) (o : Opening). n + f o) t xs ≡ fold (λ (n : ℕ) (o : Opening). n + g o) t xs
+    on : (xs : List A) (t : ℕ) → fold (λ (n : ℕ) (o : A). n + f o) t xs ≡ fold (λ (n : ℕ) (o : A). n + g o) t xs
     on [] t = refl
-    on (x ∷ xs) t = ap (λ z. fold (λ (n : ℕ) (o : Opening). n + f o) (t + z) xs) (same x) ∙ on xs (t + g x)
+    on (x ∷ xs) t = ap (λ z. fold (λ (n : ℕ) (o : A). n + f o) (t + z) xs) (same x) ∙ on xs (t + g x)
 
--- of one opening that has a connection
-pub stream_so : (k : ℕ) (es : List Event) (o : Opening) → openings k es ≡ o ∷ [] → opens_connection o ≡ true → file_place k es ≡ stream_place_by (hardware es) k (brought_to k es) o
+-- the same of a drive's session
+time_session : (h : Hardware) (k : ℕ) (s : SessionOpening) (came : List (Came NoTask)) (now : ℕ) → session_place_by h k (came ++ by_time now ∷ []) s ≡ session_place_by h k came s
+time_session h k s came now =
+    ap (λ z. next (talk_held (first_word h.identity k) (session_by h k s z))) (map-append to_session came (by_time now ∷ []))
+    ∙ ap next (time_held (session_talker s.login) (first_word h.identity k) s.opening.since (came_to came) now)
+
+pub times_session : (h : Hardware) (k : ℕ) (s : SessionOpening) (came : List (Came NoTask)) (now : ℕ) (os : List Opening) → session_place_by h k (came ++ flat_map (λ x. by_time now ∷ []) os) s ≡ session_place_by h k came s
+times_session h k s came now [] = ap (λ z. session_place_by h k z s) (append-nil came)
+times_session h k s came now (x ∷ os) =
+    ap (λ z. session_place_by h k z s) (sym (append_assoc came (by_time now ∷ []) (flat_map (λ y. by_time now ∷ []) os)))
+    ∙ times_session h k s (came ++ by_time now ∷ []) now os ∙ time_session h k s came now
+
+-- of one opening that fetches by HTTP
+pub stream_so : (k : ℕ) (es : List Event) (o : Opening) → openings k es ≡ o ∷ [] → opens_web o ≡ true → file_place k es ≡ stream_place_by (hardware es) k (brought_to k es) o
 stream_so k es o e is =
-    ap (λ z. z + stream_place k es) (ap (λ os. blocks_where (list_any opens_file os) (lists.datagrams_of k es)) e ∙ ap (λ n. blocks_where ((n == 1) || false) (lists.datagrams_of k es)) (eqb-true o.kind 2 is))
-    ∙ ap (λ os. 0 + sum_by (stream_place_by (hardware es) k (brought_to k es)) os) e ∙ alone (stream_place_by (hardware es) k (brought_to k es) o)
+    ap (λ z. z + stream_place k es + session_place k es) (ap (λ os. blocks_where (list_any opens_file os) (lists.datagrams_of k es)) e ∙ ap (λ n. blocks_where ((n == 1) || false) (lists.datagrams_of k es)) (eqb-true o.kind 2 is))
+    ∙ ap (λ os. 0 + sum_by (stream_place_by (hardware es) k (brought_to k es)) os + session_place k es) e
+    ∙ ap (λ ss. 0 + (0 + stream_place_by (hardware es) k (brought_to k es) o) + sum_by (session_place_by (hardware es) k (brought_to k es)) ss) (no_session_of k es o e (ap (λ n. n == 3) (eqb-true o.kind 2 is)))
+    ∙ alone (stream_place_by (hardware es) k (brought_to k es) o)
   where
-    alone : (n : ℕ) → 0 + (0 + n) ≡ n
+    alone : (n : ℕ) → 0 + (0 + n) + 0 ≡ n
     alone n = omega arith

@@ -10,7 +10,7 @@ use Rattle.nb_terms.specs.declared.cause.Cause.{Cause}
 use Rattle.nb_defs.specs.Records.{Out, step, sent, ended}
 use Rattle.nb_stack.specs.Client.{Client}
 use Rattle.nb_tftp.proofs.BlockLemmas.{either_way}
-use Rattle.nb_machine.specs.Lives.{OpenInput, message, tcp_segment, time as time_came, close, Exchange, exchange, Live, continued}
+use Rattle.nb_machine.specs.Lives.{OpenInput, message, tcp_segment, time as time_came, task, close, Exchange, exchange, Live, continued}
 use Rattle.nb_streams.specs.Trying.{TryMark, comes_in, tries_at}
 use Rattle.nb_webs.specs.Webs.{call_of}
 use Rattle.nb_machine.specs.Connections.{came_on}
@@ -70,13 +70,15 @@ abbrev pub IsNow : OpenInput → ℕ → Type 0
 IsNow (message rec port body now) t = t ≡ now
 IsNow (tcp_segment rec g now) t = t ≡ now
 IsNow (time_came now) t = t ≡ now
+IsNow (task x now) t = t ≡ now
 IsNow (close cause) t = Unit {0}
 
--- the record used last has brought it, unless it is closed from above
+-- the record used last has brought it, unless it comes from above
 abbrev pub IsDueBy : OpenInput → ℕ → List Event → Type 0
 IsDueBy (message rec port body now) k es = IsDue k es
 IsDueBy (tcp_segment rec g now) k es = IsDue k es
 IsDueBy (time_came now) k es = IsDue k es
+IsDueBy (task x now) k es = Unit {0}
 IsDueBy (close cause) k es = Unit {0}
 
 -- what came, as its connection's tries have it
@@ -146,6 +148,7 @@ due_on : (input : OpenInput) (k : ℕ) (es : List Event) (outs : List Out) → I
 due_on (message rec port body now) k es outs d = due_told k es outs d
 due_on (tcp_segment rec g now) k es outs d = due_told k es outs d
 due_on (time_came now) k es outs d = due_told k es outs d
+due_on (task x now) k es outs d = tt
 due_on (close cause) k es outs d = tt
 
 come_on : (es : List Event) (put : List Out) (input : OpenInput) (l : Live) → made (es ++ told put) ≡ made es → hardware (es ++ told put) ≡ hardware es → time (es ++ told put) ≡ time es → SameAt l.number es (es ++ told put) →
@@ -191,12 +194,14 @@ tries_now : (k t : ℕ) (came : OpenInput) (link : Client) (put : List Out) → 
 tries_now k t (message rec port body now) link put e p = ap (λ z. told_tries k z put) e
 tries_now k t (tcp_segment rec g now) link put e p = ap (λ z. told_tries k z put) e
 tries_now k t (time_came now) link put e p = ap (λ z. told_tries k z put) e
+tries_now k t (task x now) link put e p = ap (λ z. told_tries k z put) e
 tries_now k t (close cause) link put e p = let c = p.closes cause refl in closing_tries k t cause put c ∙ sym (closing_tries k 0 cause put c)
 
 try_marks_now : (k t : ℕ) (came : OpenInput) (link : Client) (put : List Out) → IsNow came t → IsPutBy k (exchange came link put) → try_marks_by k t put ≡ try_marks_by k (moment_in came) put
 try_marks_now k t (message rec port body now) link put e p = ap (λ z. try_marks_by k z put) e
 try_marks_now k t (tcp_segment rec g now) link put e p = ap (λ z. try_marks_by k z put) e
 try_marks_now k t (time_came now) link put e p = ap (λ z. try_marks_by k z put) e
+try_marks_now k t (task x now) link put e p = ap (λ z. try_marks_by k z put) e
 try_marks_now k t (close cause) link put e p = let c = p.closes cause refl in closing_try_marks k t cause put c ∙ sym (closing_try_marks k 0 cause put c)
 
 -- an open has taken what came, and lives on

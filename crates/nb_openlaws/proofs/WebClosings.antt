@@ -13,7 +13,7 @@ use Rattle.nb_machine.specs.Findings.{first_word}
 use Rattle.nb_machine.specs.Lives.{http, close, Exchange, Live, continued}
 use Rattle.nb_machine.specs.Kinds.{KeepsBy}
 use Rattle.nb_machine.specs.Connections.{Connection, connection_of, talk_of, segment_records, put_records, PutsAt, KeepsAt}
-use Rattle.nb_machine.specs.Webs.{request_at, web_at}
+use Rattle.nb_machine.specs.Webs.{request_at, web_talking}
 use Rattle.nb_laws.specs.Events.{Event}
 use Rattle.nb_laws.specs.Histories.{client}
 use Rattle.nb_laws.specs.Lists.{hardware, Opening, openings, open_has_ended}
@@ -65,11 +65,11 @@ web_closes es l x isn why came bad same is opening lives streams before keeps go
     goes : WebGoes isn l.since k (request_at l.target) l.exchanges
     goes = web_goes l isn before (ongoing k l.own isn l.exchanges going)
 
-    kept_so : KeepsAt (web_at l.target) conn l.exchanges x
-    kept_so = last_exchange (KeepsAt (web_at l.target) conn) [] l.exchanges x keeps
+    kept_so : KeepsAt (web_talking l.target) conn l.exchanges x
+    kept_so = last_exchange (KeepsAt (web_talking l.target) conn) [] l.exchanges x keeps
 
     put : kept_so.put ≡ record { advance = None; sends = without_try (closing_segment isn (conn_phase isn all)) ∷ []; over = Some why }
-    put = subst (λ z. PutsAt (web_at l.target) conn (talk_of (web_at l.target) conn l.exchanges) z kept_so.put) came kept_so.puts
+    put = subst (λ z. PutsAt (web_talking l.target) conn (talk_of (web_talking l.target) conn l.exchanges) z kept_so.put) came kept_so.puts
         ∙ ap (λ cs. record { advance = None; sends = without_try (closing_segment isn (conn_phase isn cs)) ∷ []; over = Some why }) (said_once (request_at l.target) isn l.since (streamed l.exchanges))
 
     frames : List Out

@@ -21,10 +21,10 @@ use Rattle.nb_command.specs.SettingAddresses.{host}
 use Rattle.nb_machine.specs.Sendings.{advance_records}
 use Rattle.nb_machine.specs.Transfers.{end_records}
 use Rattle.nb_machine.specs.Findings.{first_word}
-use Rattle.nb_machine.specs.Lives.{OpenKind, tftp, http, dns, dhcp, ping, OpenInput, message, tcp_segment, time as time_came_to, close, Exchange, Live, continued}
+use Rattle.nb_machine.specs.Lives.{OpenKind, tftp, http, iscsi, dns, dhcp, ping, OpenInput, message, tcp_segment, time as time_came_to, task, close, Exchange, Live, continued}
 use Rattle.nb_machine.specs.Kinds.{KeepsBy}
 use Rattle.nb_machine.specs.Connections.{Connection, connection_of, arrived_segment, came_on, talk_of, segment_records, talk_end, put_records, PutsAt, KeepsAt}
-use Rattle.nb_machine.specs.Webs.{request_at, web_at}
+use Rattle.nb_machine.specs.Webs.{request_at, web_at, web_talking}
 use Rattle.nb_machine.specs.Takings.{end_among}
 use Rattle.nb_laws.specs.Events.{Event}
 use Rattle.nb_laws.specs.Frames.{IsDue}
@@ -74,7 +74,7 @@ record WebCome (es : List Event) (l : Live) (x : Exchange) (isn : ℕ) (c : Came
   had_way : HadWay l.number es (opening_as (http isn) l)
   placed : last_place l.number es ≡ next (held_after isn (calls_after (request_at l.target) l.since (streamed l.exchanges)))
   others : (j : ℕ) → (l.number == j) ≡ false → last_place j es ≡ file_place j es
-  puts_so : PutsSo (web_at l.target) isn l.since (talk_of (web_at l.target) (connection_of isn l) l.exchanges) c p
+  puts_so : PutsSo (web_at l.target) isn l.since (talk_of (web_talking l.target) (connection_of isn l) l.exchanges) c p
   records : x.put ≡ put_records (connection_of isn l) x.link p
   goes : WebGoes isn l.since l.number (request_at l.target) l.exchanges
 
@@ -231,7 +231,7 @@ time_so es l x isn now p at w = by w.puts_so.due refl
         (fires ∙ ap (λ d. fired (timer_after isn l.since before) ++ due_fired now d) is) w.goes (sym (over ∙ ap (due_end (timer_after isn l.since before).plan) is) ∙ so)
       where
         none_sent : Due → Sends
-        none_sent d = due_sends isn (phase_of isn (talk_of (web_at l.target) (connection_of isn l) l.exchanges)) d
+        none_sent d = due_sends isn (phase_of isn (talk_of (web_talking l.target) (connection_of isn l) l.exchanges)) d
 
     by : (due : Due) → w.puts_so.due ≡ due → ExchangeSo (http isn) es l x
     by due is = comes_so es l x isn (by_time now) p w (ends_by due is) (λ none. unwhole)
@@ -239,8 +239,8 @@ time_so es l x isn now p at w = by w.puts_so.due refl
 web_so : (es : List Event) (l : Live) (x : Exchange) (isn : ℕ) → IsTaken x.came → ComeAs (http isn) es x.came l x.link → KeepsBy (http isn) l → KeepsBy (http isn) (continued l x) → AllByRecursion (IsOngoing (http isn) l.number l.own) l.exchanges → ExchangeSo (http isn) es l x
 web_so es l x isn taken come before keeps going = by x.came taken come kept.puts
   where
-    kept : KeepsAt (web_at l.target) (connection_of isn l) l.exchanges x
-    kept = last_exchange (KeepsAt (web_at l.target) (connection_of isn l)) [] l.exchanges x keeps
+    kept : KeepsAt (web_talking l.target) (connection_of isn l) l.exchanges x
+    kept = last_exchange (KeepsAt (web_talking l.target) (connection_of isn l)) [] l.exchanges x keeps
 
     word : isn ≡ first_word (hardware es).identity l.number
     word = come.kind_is
@@ -249,7 +249,7 @@ web_so es l x isn taken come before keeps going = by x.came taken come kept.puts
     placed = come.streamed_to refl ∙ ap (λ cs. next (held_after (first_word (hardware es).identity l.number) cs)) (said_once (request_at l.target) (first_word (hardware es).identity l.number) l.since (streamed l.exchanges))
         ∙ ap (λ z. next (held_after z (calls_after (request_at l.target) l.since (streamed l.exchanges)))) (sym word)
 
-    comes : (input : OpenInput) (c : Came NoTask) → came_on input ≡ c ∷ [] → ComeAs (http isn) es input l x.link → IsDue l.number es → PutsSo (web_at l.target) isn l.since (talk_of (web_at l.target) (connection_of isn l) l.exchanges) c kept.put → WebCome es l x isn c kept.put
+    comes : (input : OpenInput) (c : Came NoTask) → came_on input ≡ c ∷ [] → ComeAs (http isn) es input l x.link → IsDue l.number es → PutsSo (web_at l.target) isn l.since (talk_of (web_talking l.target) (connection_of isn l) l.exchanges) c kept.put → WebCome es l x isn c kept.put
     comes input c one at due puts_so = record {
       client_is = at.client_is;
       word = word;
@@ -266,8 +266,9 @@ web_so es l x isn taken come before keeps going = by x.came taken come kept.puts
       goes = web_goes l isn before (ongoing l.number l.own isn l.exchanges going);
     }
 
-    by : (input : OpenInput) → IsTaken input → ComeAs (http isn) es input l x.link → PutsAt (web_at l.target) (connection_of isn l) (talk_of (web_at l.target) (connection_of isn l) l.exchanges) input kept.put → ExchangeSo (http isn) es l x
+    by : (input : OpenInput) → IsTaken input → ComeAs (http isn) es input l x.link → PutsAt (web_talking l.target) (connection_of isn l) (talk_of (web_talking l.target) (connection_of isn l) l.exchanges) input kept.put → ExchangeSo (http isn) es l x
     by (message rec port body now) t at puts_so = absurd puts_so
+    by (task x now) t at puts_so = absurd t
     by (close why) t at puts_so = absurd t
     by (tcp_segment rec g now) t at puts_so = segment_so es l x isn (arrived_segment rec g) now kept.put (comes (tcp_segment rec g now) (by_segment (arrived_segment rec g) now) refl at at.due puts_so)
     by (time_came_to now) t at puts_so = time_so es l x isn now kept.put at.now (comes (time_came_to now) (by_time now) refl at at.due puts_so)
@@ -277,6 +278,7 @@ pub exchange_so : (kind : OpenKind) (es : List Event) (l : Live) (x : Exchange) 
     ExchangeSo kind es l x
 exchange_so tftp es l x taken come before keeps going own = datagrams_so tftp es l x refl taken come before keeps going own
 exchange_so (http isn) es l x taken come before keeps going own = web_so es l x isn taken come before keeps going
+exchange_so (iscsi isn i) es l x taken come before keeps going own = absurd come.kind_is
 exchange_so (dns id) es l x taken come before keeps going own = datagrams_so (dns id) es l x refl taken come before keeps going own
 exchange_so (dhcp a) es l x taken come before keeps going own = datagrams_so (dhcp a) es l x refl taken come before keeps going own
 exchange_so ping es l x taken come before keeps going own = datagrams_so ping es l x refl taken come before keeps going own

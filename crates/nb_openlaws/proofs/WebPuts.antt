@@ -42,7 +42,7 @@ sends_past advanced f go = rw go (lt-ltb f.acked (max f.sent (min (f.acked + siz
         (λ free. further f.acked f.sent (size f) (length f.text) (some f.mss f.room) (ltb-true f.acked (length f.text) (and_parts (f.acked == f.sent) (ltb f.acked (length f.text)) free).1))
         (or_cases (advanced && ltb f.acked f.sent) (is_free f) is)
 
-again_is : (isn : ℕ) (advanced : Bool) (f : Flow) → is_sending advanced f ≡ true → text_segment (going_on advanced f) ≡ tried_again isn (flowing (going_on advanced f))
+pub again_is : (isn : ℕ) (advanced : Bool) (f : Flow) → is_sending advanced f ≡ true → text_segment (going_on advanced f) ≡ tried_again isn (flowing (going_on advanced f))
 again_is isn advanced f go = sym (ap (λ b. cond b (text_segment (going_on advanced f)) (probe (going_on advanced f))) (sends_past advanced f go))
 
 -- where one of these is a try, it is what the connection would try again after this
@@ -52,7 +52,7 @@ TriedSo isn p s = (n : ℕ) → s.1 ≡ Some n → s.0 ≡ tried_again isn p
 untried : (isn : ℕ) (p : ConnPhase) (s : Outgoing) → TriedSo isn p (without_try s)
 untried isn p s n is = absurd (cc)
 
-only_tried : (isn : ℕ) (p : ConnPhase) (b : Bool) (s : Outgoing × Option ℕ) → (b ≡ true → TriedSo isn p s) → AllByRecursion (TriedSo isn p) (only_if b s)
+pub only_tried : (isn : ℕ) (p : ConnPhase) (b : Bool) (s : Outgoing × Option ℕ) → (b ≡ true → TriedSo isn p s) → AllByRecursion (TriedSo isn p) (only_if b s)
 only_tried isn p true s t = (t refl, tt)
 only_tried isn p false s t = tt
 
@@ -76,7 +76,7 @@ flow_tried isn f m now = either (is_taken f m.segment)
     (λ dropped. rw dropped (only_tried isn (flowing f) (is_answered f m.segment) (without_try (pure_ack f)) (λ on. untried isn (flowing f) (pure_ack f))))
 
 -- what a segment calls for
-calls_tried : (isn : ℕ) (p : ConnPhase) (m : Arrival) (now : ℕ) → AllByRecursion (TriedSo isn (after_tcp_call isn p (segment_came m now))) (calls_for isn p m.segment)
+pub calls_tried : (isn : ℕ) (p : ConnPhase) (m : Arrival) (now : ℕ) → AllByRecursion (TriedSo isn (after_tcp_call isn p (segment_came m now))) (calls_for isn p m.segment)
 calls_tried isn (flowing f) m now = flow_tried isn f m now
 calls_tried isn (asking text) m now =
     let begins = opened_by isn text m.segment in
@@ -85,12 +85,12 @@ calls_tried isn (asking text) m now =
     (λ opens. rw opens (untried isn then (pure_ack begins), only_tried isn then (is_sending false begins) (with_first_try (text_segment (going_on false begins))) (λ go n is. again_is isn false begins go)))
     (λ not_yet. rw not_yet (only_tried isn (asking text) (m.segment.ack && (not (answers_syn isn m.segment) && not m.segment.rst)) (without_try (rst_for m.segment)) (λ on. untried isn (asking text) (rst_for m.segment))))
 
-close_tried : (isn : ℕ) (p q : ConnPhase) (ends other : Option _) → AllByRecursion (TriedSo isn p) (closes_by ends other isn q)
+pub close_tried : (isn : ℕ) (p q : ConnPhase) (ends other : Option _) → AllByRecursion (TriedSo isn p) (closes_by ends other isn q)
 close_tried isn p q None other = tt
 close_tried isn p q (Some c) None = (untried isn p (closing_segment isn q), tt)
 close_tried isn p q (Some c) (Some d) = tt
 
-close_may : (isn : ℕ) (cs : List TcpCall) (ends other : Option _) → AllByRecursion (λ s. MaySend isn cs s.0) (closes_by ends other isn (conn_phase isn cs))
+pub close_may : (isn : ℕ) (cs : List TcpCall) (ends other : Option _) → AllByRecursion (λ s. MaySend isn cs s.0) (closes_by ends other isn (conn_phase isn cs))
 close_may isn cs None other = tt
 close_may isn cs (Some c) None = (closing_may isn cs (conn_phase isn cs) refl, tt)
 close_may isn cs (Some c) (Some d) = tt
@@ -104,7 +104,7 @@ pub record PutsWell (isn : ℕ) (before after : List TcpCall) (put : Put) : Type
   pub place : put.advance ≡ grown (next (held_after isn before)) (next (held_after isn after))
   pub further : next (held_after isn before) ≤ next (held_after isn after)
 
-not_back : (isn : ℕ) (before more : List TcpCall) → next (held_after isn before) ≤ next (held_after isn (before ++ more))
+pub not_back : (isn : ℕ) (before more : List TcpCall) → next (held_after isn before) ≤ next (held_after isn (before ++ more))
 not_back isn before more =
     let g : IsPrefixOf (front (held_after isn before)) (front (held_after isn (before ++ more))) = front_grows isn before more in
     omega (arith, ap length g.1, length-append (front (held_after isn before)) g.0)
@@ -123,19 +123,19 @@ segment_well isn calls m now =
       further = not_back isn calls (segment_came m now ∷ []);
     }
 
-same_grown : (a b : ℕ) → a ≡ b → None ≡ grown a b
+pub same_grown : (a b : ℕ) → a ≡ b → None ≡ grown a b
 same_grown a b e = sym (ap (λ z. cond z None (Some b)) (eq-eqb a b e))
 
 -- a time leaves the connection as it was
-time_phase : (isn : ℕ) (calls : List TcpCall) (now : ℕ) → conn_phase isn (calls ++ time_came now ∷ []) ≡ conn_phase isn calls
+pub time_phase : (isn : ℕ) (calls : List TcpCall) (now : ℕ) → conn_phase isn (calls ++ time_came now ∷ []) ≡ conn_phase isn calls
 time_phase isn calls now = phase_append isn calls (time_came now)
 
-due_may : (isn : ℕ) (calls : List TcpCall) (now : ℕ) (due : Due) → AllByRecursion (λ s. MaySend isn (calls ++ time_came now ∷ []) s.0) (due_sends isn (conn_phase isn calls) due)
+pub due_may : (isn : ℕ) (calls : List TcpCall) (now : ℕ) (due : Due) → AllByRecursion (λ s. MaySend isn (calls ++ time_came now ∷ []) s.0) (due_sends isn (conn_phase isn calls) due)
 due_may isn calls now Not = tt
 due_may isn calls now (Again n) = (again_may isn (calls ++ time_came now ∷ []) (conn_phase isn calls) (all_in_order isn calls) (time_phase isn calls now), tt)
 due_may isn calls now Over = tt
 
-due_tried : (isn : ℕ) (p : ConnPhase) (due : Due) → AllByRecursion (TriedSo isn p) (due_sends isn p due)
+pub due_tried : (isn : ℕ) (p : ConnPhase) (due : Due) → AllByRecursion (TriedSo isn p) (due_sends isn p due)
 due_tried isn p Not = tt
 due_tried isn p (Again n) = (λ k is. refl, tt)
 due_tried isn p Over = tt

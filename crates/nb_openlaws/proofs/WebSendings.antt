@@ -74,6 +74,7 @@ segment_sent es o link c all s w may =
         of_connection = λ is. ap (outgoing_message c.link) again
             ∙ sym (ap (λ (z : Link). outgoing_message z (tried_again z.isn (conn_phase z.isn (talk_by (hardware es) k o (brought_to k es)).calls))) w.link_is
             ∙ ap (λ cs. outgoing_message c.link (tried_again c.link.isn (conn_phase c.link.isn cs))) w.calls_are);
+        of_session = λ drive. absurd (omega (arith, w.kind_is, drive));
       },
     )
 

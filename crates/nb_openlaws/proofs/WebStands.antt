@@ -25,10 +25,10 @@ use Rattle.nb_machine.specs.CommandRecords.{no_route}
 use Rattle.nb_webs.specs.Webs.{NoTask, call_of, response_come, web_put}
 use Rattle.nb_tcp.specs.Messages.{outgoing_message}
 use Rattle.nb_machine.specs.Sendings.{has_route, send_records, try_records, advance_records}
-use Rattle.nb_machine.specs.Lives.{http, OpenInput, message, tcp_segment, time, close, Exchange, Live}
+use Rattle.nb_machine.specs.Lives.{http, OpenInput, message, tcp_segment, time, task, close, Exchange, Live}
 use Rattle.nb_machine.specs.Transfers.{end_records}
 use Rattle.nb_machine.specs.Connections.{Connection, connection_of, arrived_segment, came_on, talk_of, segment_records, loses_way, talk_end, put_records, PutsAt, KeepsAt, EachExchange}
-use Rattle.nb_machine.specs.Webs.{request_at, web_at}
+use Rattle.nb_machine.specs.Webs.{request_at, web_talking}
 use Rattle.nb_machine.specs.Takings.{end_among}
 use Rattle.nb_laws.specs.Webs.{told_try_mark}
 use Rattle.nb_laws.specs.Agreement.{AreAside}
@@ -191,7 +191,7 @@ pub time_response : (isn : ℕ) (calls : List TcpCall) (now : ℕ) → response_
 time_response isn calls now = ap (λ p. response_read (front (held_in p)) (has_ended (held_in p))) (phase_append isn calls (time_came now))
 
 -- an exchange after which it goes on
-exchange_goes : (l : Live) (isn : ℕ) (xs : List Exchange) (x : Exchange) → KeepsAt (web_at l.target) (connection_of isn l) xs x → GoesOn l.number x →
+exchange_goes : (l : Live) (isn : ℕ) (xs : List Exchange) (x : Exchange) → KeepsAt (web_talking l.target) (connection_of isn l) xs x → GoesOn l.number x →
     WebGoes isn l.since l.number (request_at l.target) xs → WebGoes isn l.since l.number (request_at l.target) (xs ++ x ∷ [])
 exchange_goes l isn xs x kept on goes = by x.came refl kept.puts
   where
@@ -235,8 +235,9 @@ exchange_goes l isn xs x kept on goes = by x.came refl kept.puts
           (subst (TriesStand isn l.since (calls ++ call_of k ∷ [])) (sym (then_marks input k is one)) tries);
     }
 
-    by : (input : OpenInput) → x.came ≡ input → PutsAt (web_at l.target) c (talk_of (web_at l.target) c xs) input kept.put → WebGoes isn l.since l.number request (xs ++ x ∷ [])
+    by : (input : OpenInput) → x.came ≡ input → PutsAt (web_talking l.target) c (talk_of (web_talking l.target) c xs) input kept.put → WebGoes isn l.since l.number request (xs ++ x ∷ [])
     by (message rec port bytes now) is puts = absurd puts
+    by (task t now) is puts = absurd puts
     by (close why) is puts = absurd (let no : Some why ≡ None = sym (ap (λ (p : Put). p.over) puts) ∙ went.none in cc)
     by (tcp_segment rec g now) is puts =
         let m = arrived_segment rec g in
@@ -251,7 +252,7 @@ exchange_goes l isn xs x kept on goes = by x.came refl kept.puts
         (subst (λ z. TriesStand isn l.since (calls ++ time_came now ∷ []) ((comes_in (text_came request l.since) ∷ tries_at 1 l.since ∷ streamed_marks l.number xs) ++ comes_in (time_came now) ∷ sends_marks now z)) (sym sends)
         (time_tries isn l.since calls (comes_in (text_came request l.since) ∷ tries_at 1 l.since ∷ streamed_marks l.number xs) now puts.due fires goes.tries))
 
-goes_through : (l : Live) (isn : ℕ) (before xs : List Exchange) → EachExchange (KeepsAt (web_at l.target) (connection_of isn l)) before xs → AllByRecursion (GoesOn l.number) xs →
+goes_through : (l : Live) (isn : ℕ) (before xs : List Exchange) → EachExchange (KeepsAt (web_talking l.target) (connection_of isn l)) before xs → AllByRecursion (GoesOn l.number) xs →
     WebGoes isn l.since l.number (request_at l.target) before → WebGoes isn l.since l.number (request_at l.target) (before ++ xs)
 goes_through l isn before [] kept on goes = subst (WebGoes isn l.since l.number (request_at l.target)) (sym (append-nil before)) goes
 goes_through l isn before (x ∷ xs) kept on goes =
@@ -259,7 +260,7 @@ goes_through l isn before (x ∷ xs) kept on goes =
     (goes_through l isn (before ++ x ∷ []) xs kept.1 on.1 (exchange_goes l isn before x kept.0 on.0 goes))
 
 -- so it is of each open that has kept its promises and goes on
-pub web_goes : (l : Live) (isn : ℕ) → EachExchange (KeepsAt (web_at l.target) (connection_of isn l)) [] l.exchanges → AllByRecursion (GoesOn l.number) l.exchanges → WebGoes isn l.since l.number (request_at l.target) l.exchanges
+pub web_goes : (l : Live) (isn : ℕ) → EachExchange (KeepsAt (web_talking l.target) (connection_of isn l)) [] l.exchanges → AllByRecursion (GoesOn l.number) l.exchanges → WebGoes isn l.since l.number (request_at l.target) l.exchanges
 web_goes l isn kept on = goes_through l isn [] l.exchanges kept on (begins_well isn l.since l.number (request_at l.target))
 
 pub ongoing : (k own isn : ℕ) (xs : List Exchange) → AllByRecursion (IsOngoing (http isn) k own) xs → AllByRecursion (GoesOn k) xs

@@ -1,5 +1,5 @@
 -- The tries of a connection that goes on: those that are due, by all that has come.
-use Rattle.std.proofs.Common.{◌≡◌, ℕ, ◌==◌, ◌&&◌, Bool, true, false, cond, not, List, [], ◌∷◌, ◌++◌, Option, Some, None, refl, sym, ◌∙◌, ap, append_assoc, append-nil}
+use Rattle.std.proofs.Common.{◌≡◌, ℕ, ◌==◌, ◌&&◌, Bool, true, false, cond, not, List, [], ◌∷◌, ◌++◌, Option, Some, None, refl, sym, ◌∙◌, ap, subst, append_assoc, append-nil, map}
 use Rattle.std.specs.List.{flat_map, fold, list_any}
 use Rattle.std.proofs.lemmas.List.Concat.{flat_map-append}
 use Rattle.nb_terms.specs.declared.cause.Cause.{Cause}
@@ -7,11 +7,12 @@ use Rattle.nb_retry.specs.declared.plan.Plan.TheVariants.{Common, Probe}
 use Rattle.nb_retry.specs.declared.retry.Due.{Due}
 use Rattle.nb_retry.specs.declared.retry.Due.TheVariants.{Not, Again, Over}
 use Rattle.nb_streams.specs.Segments.{Arrival}
-use Rattle.nb_streams.specs.Flows.{TcpCall, segment_came, time_came, Flow, ConnPhase, asking, flowing, conn_phase, after_tcp_call, is_taken, advances, with_segment, is_sending, going_on, answers_syn, establishes, opened_by, window_bytes, has_other_stop, is_past}
-use Rattle.nb_streams.specs.Sending.{Outgoing, without_try, with_first_try, only_if, pure_ack, text_segment, rst_for, brings_more, ongoing_sends, too_long_sends, taken_sends, is_answered, established_sends, calls_for}
-use Rattle.nb_streams.specs.Trying.{TryTimer, timer_since, segment_timer, timer_by, timer_from, timer_after, starting_try, try_of, fired, due_tries, due_fired, TryMark, comes_in, tries_at, mark_tries}
+use Rattle.nb_streams.specs.Flows.{TcpCall, segment_came, time_came, text_came, Flow, ConnPhase, asking, flowing, conn_phase, after_tcp_call, is_taken, advances, with_segment, is_sending, going_on, answers_syn, establishes, opened_by, window_bytes, has_other_stop, is_past}
+use Rattle.nb_streams.specs.Sending.{Outgoing, without_try, with_first_try, only_if, pure_ack, text_segment, rst_for, brings_more, ongoing_sends, too_long_sends, taken_sends, is_answered, established_sends, calls_for, text_calls_for}
+use Rattle.nb_streams.specs.Trying.{TryTimer, timer_since, segment_timer, text_timer, timer_by, timer_from, timer_after, starting_try, try_of, fired, due_tries, due_fired, TryMark, comes_in, tries_at, mark_tries}
 use Rattle.nb_streams.specs.Endings.{segment_end, taken_end, end_cause}
-use Rattle.nb_streams.specs.TalkPromises.{Sends, due_sends, earlier}
+use Rattle.nb_streams.specs.Talking.{text_to_send}
+use Rattle.nb_streams.specs.TalkPromises.{Sends, said_sends, due_sends, earlier}
 use Rattle.nb_streams.proofs.StreamLaws.{either}
 
 -- the tries that segments tell
@@ -163,3 +164,78 @@ time_tries isn start calls marks now due fires t = record {
   where
     timer : timer_after isn start (calls ++ time_came now ∷ []) ≡ record (timer_after isn start calls) { times = (timer_after isn start calls).times ++ now ∷ [] }
     timer = timer_more isn start calls (time_came now)
+
+-- TEXT THAT IS SAID
+
+-- what more text does to the timer, and the try that it calls for
+data TextTimed (p : ConnPhase) (bytes : List ℕ) (now : ℕ) (w : TryTimer) : Type 0 where
+  begins : text_timer p bytes now w ≡ timer_since Common now → sends_marks now (text_calls_for p bytes) ≡ tries_at 1 now ∷ [] → TextTimed p bytes now w
+  waits : text_timer p bytes now w ≡ w → sends_marks now (text_calls_for p bytes) ≡ [] → TextTimed p bytes now w
+
+text_timed : (p : ConnPhase) (bytes : List ℕ) (now : ℕ) (w : TryTimer) → TextTimed p bytes now w
+text_timed (asking text) bytes now w = waits refl refl
+text_timed (flowing f) bytes now w = either (is_sending false (record f { text = f.text ++ bytes }))
+    (λ go. begins (rw go refl) (rw go refl))
+    (λ no. waits (rw no refl) (rw no refl))
+
+-- a segment, and what is said then
+pub said_tries : (isn start : ℕ) (calls : List TcpCall) (marks : List TryMark) (m : Arrival) (now : ℕ) (text : List ℕ) → segment_end isn (conn_phase isn calls) m ≡ None → TriesStand isn start calls marks →
+    TriesStand isn start ((calls ++ segment_came m now ∷ []) ++ text_to_send text now)
+    (marks ++ comes_in (segment_came m now) ∷ map comes_in (text_to_send text now) ++ sends_marks now (calls_for isn (conn_phase isn calls) m.segment ++ said_sends (conn_phase isn (calls ++ segment_came m now ∷ [])) text))
+said_tries isn start calls marks m now [] none t =
+    let then : List TcpCall = calls ++ segment_came m now ∷ [] in
+    let sends : Sends = calls_for isn (conn_phase isn calls) m.segment in
+    subst (λ cs. TriesStand isn start cs (marks ++ comes_in (segment_came m now) ∷ sends_marks now (sends ++ []))) (sym (append-nil then))
+    (subst (λ z. TriesStand isn start then (marks ++ comes_in (segment_came m now) ∷ sends_marks now z)) (sym (append-nil sends)) (segment_tries isn start calls marks m now none t))
+said_tries isn start calls marks m now (b ∷ bytes) none t = by (segment_timed isn (conn_phase isn calls) m now (timer_after isn start calls) none) (text_timed (conn_phase isn then) (b ∷ bytes) now (timer_after isn start then))
+  where
+    then : List TcpCall
+    then = calls ++ segment_came m now ∷ []
+
+    came : TryMark
+    came = comes_in (segment_came m now)
+
+    spoken : TryMark
+    spoken = comes_in (text_came (b ∷ bytes) now)
+
+    first : List TryMark
+    first = sends_marks now (calls_for isn (conn_phase isn calls) m.segment)
+
+    second : List TryMark
+    second = sends_marks now (text_calls_for (conn_phase isn then) (b ∷ bytes))
+
+    put : sends_marks now (calls_for isn (conn_phase isn calls) m.segment ++ text_calls_for (conn_phase isn then) (b ∷ bytes)) ≡ first ++ second
+    put = marks_of_two now (calls_for isn (conn_phase isn calls) m.segment) (text_calls_for (conn_phase isn then) (b ∷ bytes))
+
+    heard : timer_after isn start then ≡ segment_timer isn (conn_phase isn calls) m.segment now (timer_after isn start calls)
+    heard = timer_more isn start calls (segment_came m now)
+
+    timer : timer_after isn start (then ++ text_came (b ∷ bytes) now ∷ []) ≡ text_timer (conn_phase isn then) (b ∷ bytes) now (timer_after isn start then)
+    timer = timer_more isn start then (text_came (b ∷ bytes) now)
+
+    by : Timed isn (conn_phase isn calls) m now (timer_after isn start calls) → TextTimed (conn_phase isn then) (b ∷ bytes) now (timer_after isn start then) →
+        TriesStand isn start (then ++ text_came (b ∷ bytes) now ∷ []) (marks ++ came ∷ spoken ∷ sends_marks now (calls_for isn (conn_phase isn calls) m.segment ++ text_calls_for (conn_phase isn then) (b ∷ bytes)))
+    by seg (begins anew told) = record {
+      earlier = marks ++ came ∷ spoken ∷ first;
+      rest = tries_at 1 now ∷ [];
+      all = ap (λ z. marks ++ came ∷ spoken ∷ z) (put ∙ ap (λ z. first ++ z) told) ∙ sym (append_assoc marks (came ∷ spoken ∷ first) (tries_at 1 now ∷ []));
+      tried = sym (ap due_tries (timer ∙ anew));
+    }
+    by (tries_anew anew told) (waits same quiet) = record {
+      earlier = marks ++ came ∷ spoken ∷ [];
+      rest = tries_at 1 now ∷ [];
+      all = ap (λ z. marks ++ came ∷ spoken ∷ z) (put ∙ ap (λ z. z ++ second) told ∙ ap (λ z. tries_at 1 now ∷ z) quiet) ∙ sym (append_assoc marks (came ∷ spoken ∷ []) (tries_at 1 now ∷ []));
+      tried = sym (ap due_tries (timer ∙ same ∙ heard ∙ anew));
+    }
+    by (rests anew told) (waits same quiet) = record {
+      earlier = marks ++ came ∷ spoken ∷ [];
+      rest = [];
+      all = ap (λ z. marks ++ came ∷ spoken ∷ z) (put ∙ ap (λ z. z ++ second) told ∙ quiet) ∙ sym (append-nil (marks ++ came ∷ spoken ∷ []));
+      tried = sym (ap due_tries (timer ∙ same ∙ heard ∙ anew));
+    }
+    by (stays stay told) (waits same quiet) = record {
+      earlier = t.earlier;
+      rest = t.rest ++ came ∷ spoken ∷ [];
+      all = ap (λ z. marks ++ came ∷ spoken ∷ z) (put ∙ ap (λ z. z ++ second) told ∙ quiet) ∙ all_marks marks t.earlier t.rest (came ∷ spoken ∷ []) t.all;
+      tried = flat_map-append mark_tries t.rest (came ∷ spoken ∷ []) ∙ append-nil (flat_map mark_tries t.rest) ∙ t.tried ∙ sym (ap due_tries (timer ∙ same ∙ heard ∙ stay));
+    }

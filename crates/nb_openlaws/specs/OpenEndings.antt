@@ -14,6 +14,7 @@ use Rattle.nb_laws.specs.CommandsSoFar.{so_far, ComesTo, conclusion_so_far}
 use Rattle.nb_laws.specs.Cores.{has_its_answer}
 use Rattle.nb_laws.specs.Endings.{fate_to, Holds, is_off}
 use Rattle.nb_laws.specs.Frames.{IsSent, IsPut}
+use Rattle.nb_laws.specs.Drives.{ClosesSession}
 use Rattle.nb_laws.specs.Webs.{brought_to, closing_message}
 use Rattle.nb_image.specs.Images.{ImageList}
 use Rattle.nb_machine.specs.Conclusions.{boots}
@@ -86,6 +87,7 @@ pub data IsPutOrCloses (es : List Event) (bytes : List ℕ) : Type 0 where
   by_reason : IsPut es bytes → IsPutOrCloses es bytes
   -- it closes a connection that lives, as all that lives is closed
   by_close : (k : ℕ) (sends : IsSent k es bytes) → sends.opening.kind ≡ 2 → sends.send ≡ closing_message (hardware es) k sends.opening (brought_to k es) → WhyClosed es → IsPutOrCloses es bytes
+  by_drive_close : (k : ℕ) (sends : IsSent k es bytes) → sends.opening.kind ≡ 3 → ClosesSession k es sends.send → WhyClosed es → IsPutOrCloses es bytes
 
 -- each FRAME is a reply to its step's record, once, a message that a live open may send in a step that brings it something, or the ARP
 -- request for its next hop; or it closes a connection

@@ -18,7 +18,7 @@ use Rattle.nb_laws.specs.Histories.{client}
 use Rattle.nb_laws.specs.Webs.{brought_to, told_try_mark, try_marks_of}
 use Rattle.nb_laws.specs.Lists as lists
 use Rattle.nb_laws.specs.Lists.{made, port_offset, Hardware, hardware, Opening, openings, open_has_ended, live, calls, Mark, tries, marks, mark_of}
-use Rattle.nb_machine.specs.Lives.{OpenKind, tftp, http, dns, dhcp, ping, kind_number, OpenInput, message, tcp_segment, time, close, Exchange, Live}
+use Rattle.nb_machine.specs.Lives.{OpenKind, tftp, http, iscsi, dns, dhcp, ping, kind_number, OpenInput, message, tcp_segment, time, task, close, Exchange, Live}
 use Rattle.nb_machine.specs.States.{State, net0}
 use Rattle.nb_machine.specs.Scripts.{net0_mac}
 use Rattle.nb_machine.specs.Takings.{end_among}
@@ -33,15 +33,17 @@ live_opening l = record { kind = kind_number l.kind; server = l.server; port = l
 abbrev pub heard_port : OpenKind → ℕ → ℕ
 heard_port tftp port = port
 heard_port (http isn) port = port
+heard_port (iscsi isn i) port = port
 heard_port (dns id) port = port
 heard_port (dhcp a) port = port
 heard_port ping port = 0
 
--- what came, as the history has it; a segment comes to a connection, and a close is none of its events
+-- what came, as the history has it; a segment comes to a connection, and neither a task nor a close is an event of it
 abbrev pub heard_call : OpenKind → OpenInput → List Call
 heard_call kind (message rec port body now) = came (received rec (heard_port kind port) body) now ∷ []
 heard_call kind (tcp_segment rec g now) = []
 heard_call kind (time now) = ticked now ∷ []
+heard_call kind (task t now) = []
 heard_call kind (close cause) = []
 
 abbrev pub heard_calls : OpenKind → List Exchange → List Call
@@ -52,6 +54,7 @@ abbrev pub moment_in : OpenInput → ℕ
 moment_in (message rec port body now) = now
 moment_in (tcp_segment rec g now) = now
 moment_in (time now) = now
+moment_in (task t now) = now
 moment_in (close cause) = 0
 
 -- the try of open k that a record of this time tells
@@ -92,10 +95,12 @@ abbrev pub streamed_marks : ℕ → List Exchange → List TryMark
 streamed_marks k xs = flat_map (exchange_try_marks k) xs
 
 -- An open of a kind, as its OPEN tells it: a connection's SYN has its number, a look-up's query its number, and a lease its asker, by
--- START's key; a name server is asked at its port 53, a lease of all hosts, from port 68 to port 67, and a ping has no port.
+-- START's key; a name server is asked at its port 53, a lease of all hosts, from port 68 to port 67, and a ping has no port. No command opens a
+-- drive yet.
 abbrev pub IsKindBy : Hardware → ℕ → OpenKind → Opening → Type 0
 IsKindBy h k tftp o = Unit {0}
 IsKindBy h k (http isn) o = isn ≡ first_word h.identity k
+IsKindBy h k (iscsi isn i) o = ⊥
 IsKindBy h k (dns id) o = (id ≡ query_id h.identity k) × (o.port ≡ 53)
 IsKindBy h k (dhcp a) o = (a ≡ asker_by h k) × (o.server ≡ 4294967295) × (o.port ≡ 67) × (o.own ≡ 68) × (o.target ≡ [])
 IsKindBy h k ping o = (o.port ≡ 0) × (o.target ≡ [])
@@ -104,11 +109,13 @@ IsKindBy h k ping o = (o.port ≡ 0) × (o.target ≡ [])
 abbrev pub ComesToOwnPort : OpenKind → (own : ℕ) → OpenInput → Type 0
 ComesToOwnPort tftp own input = Unit {0}
 ComesToOwnPort (http isn) own input = Unit {0}
+ComesToOwnPort (iscsi isn i) own input = Unit {0}
 ComesToOwnPort (dns id) own input = Unit {0}
 ComesToOwnPort (dhcp a) own input = Unit {0}
 ComesToOwnPort ping own (message rec port body now) = port ≡ own
 ComesToOwnPort ping own (tcp_segment rec g now) = Unit {0}
 ComesToOwnPort ping own (time now) = Unit {0}
+ComesToOwnPort ping own (task t now) = Unit {0}
 ComesToOwnPort ping own (close cause) = Unit {0}
 
 -- an exchange after which the open goes on

@@ -43,11 +43,12 @@ lowest_of (x ∷ []) = x
 lowest_of (x ∷ (y ∷ ys)) = lowest_of (y ∷ ys)
 
 -- The objects of an open, by the kind in its OPEN, top first: of a file by TFTP a Fetch (1) and a Tftp (4), by HTTP a Fetch, an Http (2) and
--- a Tcp (3), of a name a Resolver (5), of a lease a Dhcp (6), of an echo a Ping (7).
+-- a Tcp (3), of a drive a Disk (9), an Iscsi (8) and a Tcp, of a name a Resolver (5), of a lease a Dhcp (6), of an echo a Ping (7).
 abbrev pub objects_for : ℕ → List ℕ
 objects_for kind =
     if kind == 1 then 1 ∷ 4 ∷ []
     else if kind == 2 then 1 ∷ 2 ∷ 3 ∷ []
+    else if kind == 3 then 9 ∷ 8 ∷ 3 ∷ []
     else if kind == 4 then 5 ∷ []
     else if kind == 5 then 6 ∷ []
     else if kind == 6 then 7 ∷ []
