@@ -15,7 +15,7 @@ use Rattle.nb_stack.specs.Client.{Client}
 use Rattle.nb_stack.specs.Sends.{put_on, way_of}
 use Rattle.nb_streams.specs.Flows.{text_came}
 use Rattle.nb_streams.specs.Sending.{closing_segment, syn}
-use Rattle.nb_streams.specs.Talking.{Talk}
+use Rattle.nb_streams.specs.Talking.{Talk, talk_after}
 use Rattle.nb_streams.specs.TalkPromises.{close_put, phase_of}
 use Rattle.nb_tcp.specs.Messages.{outgoing_message}
 use Rattle.nb_conns.specs.ConnAsks.{link_of}
@@ -59,7 +59,7 @@ use Rattle.nb_open.proofs.WebPuts.{lacks_messages, one_lacks, one_segment, put_m
 
 -- it is given its request
 begun_calls : (l : Live) (isn : ℕ) (name path : List ℕ) (port : ℕ) → request_at l.target ≡ request_text name port path → (talk_of (web_talking l.target) (connection_of isn l) []).calls ≡ text_came (request_text name port path) l.since ∷ []
-begun_calls l isn name path port is = ap (λ (request : List ℕ). (talk_of (web request) (connection_of isn l) []).calls) is
+begun_calls l isn name path port is = ap (λ (request : List ℕ). (talk_after (web request) isn l.since []).calls) is
 
 module _ (a : WebOpening) (number now : ℕ) (link : Client) (o : Open) (port : ℕ) (own : Ip4) (c : WebChain) (mid : Objects Obj) (rec : ℕ) (ns : List Notice) (can : AsksItsUrl a) (from : own ≡ a.ask.conn.own) (called : IsSpeakerOf o (live_by (Web a) number now)) where
   abbrev l : Live

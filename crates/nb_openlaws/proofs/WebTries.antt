@@ -181,7 +181,7 @@ text_timed (flowing f) bytes now w = either (is_sending false (record f { text =
 -- a segment, and what is said then
 pub said_tries : (isn start : ℕ) (calls : List TcpCall) (marks : List TryMark) (m : Arrival) (now : ℕ) (text : List ℕ) → segment_end isn (conn_phase isn calls) m ≡ None → TriesStand isn start calls marks →
     TriesStand isn start ((calls ++ segment_came m now ∷ []) ++ text_to_send text now)
-    (marks ++ comes_in (segment_came m now) ∷ map comes_in (text_to_send text now) ++ sends_marks now (calls_for isn (conn_phase isn calls) m.segment ++ said_sends (conn_phase isn (calls ++ segment_came m now ∷ [])) text))
+    (marks ++ (comes_in (segment_came m now) ∷ map comes_in (text_to_send text now) ++ sends_marks now (calls_for isn (conn_phase isn calls) m.segment ++ said_sends (conn_phase isn (calls ++ segment_came m now ∷ [])) text)))
 said_tries isn start calls marks m now [] none t =
     let then : List TcpCall = calls ++ segment_came m now ∷ [] in
     let sends : Sends = calls_for isn (conn_phase isn calls) m.segment in
