@@ -11,6 +11,7 @@ use Rattle.nb_machine.specs.Courses.{Standing, Progress, StepBegins, Proceeds, C
 use Rattle.nb_laws.specs.Events.{Event, puts, inputs, outputs, used_by, written_by, EachEvent, EachThen}
 use Rattle.nb_laws.specs.Histories.{IsRead, IsHistory}
 use Rattle.nb_laws.specs.Lists.{last_place, calls, openings, gathered}
+use Rattle.nb_laws.specs.Drives.{sessions}
 use Rattle.nb_laws.specs.Frames.{TriesSo}
 use Rattle.nb_laws.specs.Progress.{StepsSo, AdvancesSo, IsAdvanced, NoneOversleeps}
 use Rattle.nb_laws.proofs.Histories.{each_append, each_then_append, one_history}
@@ -96,7 +97,7 @@ each_one P es e more before one after = each_append P [] (es ++ e ∷ []) (told 
 -- THE EMPTY COURSE
 
 advanced_at_start : IsAdvanced []
-unfolding last_place calls openings gathered
+unfolding last_place calls openings gathered sessions
 advanced_at_start = λ k. refl
 
 story_first : Story [] [] [] course.ready
