@@ -4,7 +4,9 @@ pub mod Moves
 pub mod CommandEnds
 pub mod Arrivals
 pub mod Served
+pub mod Puts
 pub mod Waits
+pub mod Rests
 pub mod Results
 pub mod Starts
 pub mod ImagesLeft

@@ -72,6 +72,21 @@ abbrev pub WaitsOrEnds : Option HasEnded → Pending → Running → Site → Sn
 WaitsOrEnds None p s before after old new = (after ≡ snapshot_at before (stage.Waiting (anew s) (Open p))) × (new ≡ old)
 WaitsOrEnds (Some e) p s before after old new = Concludes p e (anew s) before after old new
 
+-- where a run stands after a step in which its command has waited on
+abbrev pub rested : Stage → Stage
+rested (stage.Waiting s e) = stage.Waiting (anew s) e
+rested st = st
+
+-- the open has ended that the command of this stage waits for, and that can be answered
+abbrev pub IsAnswerable : Stage → HasEnded → Site → Type 0
+IsAnswerable (stage.Waiting s (Open p)) e c = IsSoundAfter (Some e) c s p
+IsAnswerable _ e c = ⊥
+
+-- it was answered
+abbrev pub ConcludesAt : Stage → HasEnded → Site → Snapshot → Logged → Logged → Type 0
+ConcludesAt (stage.Waiting s (Open p)) e before after old new = Concludes p e (anew s) before after old new
+ConcludesAt _ e before after old new = ⊥
+
 -- The command sleeps on, or wakes.
 pub data WakesBy (until now : ℕ) (s : Running) (st : Stage) (old new : Logged) : Type 0 where
   sleeps_still : now < until → st ≡ stage.Waiting (anew s) (Moment until) → new ≡ old → WakesBy until now s st old new

@@ -1,21 +1,23 @@
-ghost use Rattle.std.specs.Prelude.{◌≡◌, ◌-◌, ◌<◌, ◌^◌, [], ◌∷◌, IfOk, OnErr};
+ghost use Rattle.std.specs.Prelude.{◌≡◌, ◌-◌, ◌<◌, ◌^◌, [], ◌∷◌, Some, IfOk, OnOk, OnErr};
 ghost use Rattle.nb_defs.specs.Records.{IsIn, In};
 ghost use Rattle.nb_record.specs.Logged.{Logged};
 ghost use Rattle.nb_record.specs.View.{in_of};
-ghost use Rattle.nb_client.specs.Serving.{Concludes, WaitsOrEnds, IsSoundAfter, WakesBy};
-ghost use Rattle.nb_client.specs.Soundness.{IsPendingWell, IsSound, snapshot_at};
+ghost use Rattle.nb_client.specs.Serving.{Concludes, ConcludesAt, IsAnswerable, WaitsOrEnds, IsSoundAfter, WakesBy};
+ghost use Rattle.nb_client.specs.Soundness.{IsPendingWell, IsSound, awaited_at, snapshot_at};
 ghost use Rattle.nb_open.specs.Exchanges.{IsLeaseMessage};
-ghost use Rattle.nb_client.specs.Turning.{GoesOnBy, IsServed};
+ghost use Rattle.nb_client.specs.Turning.{GoesOnBy, IsServed, IsTurnOf};
 ghost use Rattle.nb_client.specs.declared.pending.Expected.TheVariants as expected;
 ghost use Rattle.nb_client.specs.declared.stage.Stage.TheVariants as stage;
 
 use crate::site::{Site, lent_log};
-use crate::{Expected, KeptPending, Stage};
+use crate::stage::turn_of;
+use crate::{Expected, KeptPending, Stage, Turn};
 use nb_network::KeptEnd;
 use nb_record::{InRec, Log, NoMemory};
 use nb_runner::RunningScript;
 use nb_teller::put_result;
 use nb_terms::Plain;
+use std::mem;
 
 impl Site {
     /// A record is used while the script's command waits: for the end of an open, or a time.
@@ -68,6 +70,68 @@ impl Site {
                 Err(NoMemory)
             }
         }
+    }
+
+    /// A record is used while the command of this stage waits for the end of the open of this number. The stage stays in its
+    /// place while that lives.
+    #[inline(always)]
+    pub(crate) fn wait_in(
+        &mut self,
+        stage: &mut Stage,
+        number: u16,
+        entry: &InRec<'_>,
+        log: &mut Log,
+    ) -> Result<Turn, NoMemory>
+        requires valid { IsIn (in_of entry.now) }
+        requires served { IsServed (in_of entry.now) }
+        requires few { self.old.used < 2 ^ 32 - 1 }
+        requires awaits { awaited_at stage.old ≡ Some number }
+        requires sound { IsSound self.old.used self.old.world self.old.opens stage.old }
+        ensures goes { OnOk result (GoesOnBy (in_of entry.now ∷ []) (snapshot_at self.old stage.old) (snapshot_at self.new stage.new)
+            log.old log.new) }
+        ensures turn { IfOk result (λ t. IsTurnOf t stage.new) }
+        ensures nothing { OnErr result (log.new ≡ log.old) }
+    {
+        let place = log.place();
+        match self.serve(entry, Some(number), log)? {
+            None => {
+                stage.rest();
+                Ok(Turn::Waiting)
+            }
+            Some(ended) => match self.answer_in(stage, ended, log) {
+                Ok(turn) => Ok(turn),
+                Err(NoMemory) => {
+                    log.go_back(place);
+                    Err(NoMemory)
+                }
+            },
+        }
+    }
+
+    /// What the command of this stage waits for has ended.
+    #[inline(never)]
+    fn answer_in(
+        &mut self,
+        stage: &mut Stage,
+        ended: KeptEnd,
+        log: &mut Log,
+    ) -> Result<Turn, NoMemory>
+        requires ready { IsAnswerable stage.old ended self.old }
+        ensures concludes { OnOk result (ConcludesAt stage.old ended self.old (snapshot_at self.new stage.new) log.old log.new) }
+        ensures turn { IfOk result (λ t. IsTurnOf t stage.new) }
+        ensures nothing { OnErr result (log.new ≡ log.old) }
+    {
+        let Stage::Waiting(mut script, expected) = mem::replace(stage, Stage::Stopped) else {
+            unreachable!()
+        };
+        let Expected::Open(pending) = expected else {
+            unreachable!()
+        };
+        script.begin_step();
+        let next = self.conclude_apart(script, pending, ended, log)?;
+        let turn = turn_of(&next);
+        *stage = next;
+        Ok(turn)
     }
 
     /// The command waits on, or what it waits for has ended.

@@ -1,11 +1,11 @@
-ghost use Rattle.std.specs.Prelude.{◌≡◌, ◌<◌, ◌-◌, ◌^◌, [], ◌∷◌, IfOk, OnOk, OnErr};
+ghost use Rattle.std.specs.Prelude.{◌≡◌, ◌<◌, ◌-◌, ◌^◌, [], ◌∷◌, Some, IfOk, OnOk, OnErr};
 ghost use Rattle.nb_defs.specs.Records.{IsIn, IsStart};
 ghost use Rattle.nb_record.specs.View.{in_of, start_of};
 ghost use Rattle.nb_runner.specs.StatusNumber.{status_number};
 ghost use Rattle.nb_client.specs.Progressing.{CanUse, ComesNearer, FinishesBy, IsAtWork, TurnsBy};
 ghost use Rattle.nb_client.specs.Snapshots.{FitsOutput};
-ghost use Rattle.nb_client.specs.Soundness.{IsSound, snapshot_at};
-ghost use Rattle.nb_client.specs.Turning.{GoesOnBy, MovesOn};
+ghost use Rattle.nb_client.specs.Soundness.{IsSound, awaited_at, snapshot_at};
+ghost use Rattle.nb_client.specs.Turning.{GoesOnBy, IsServed, MovesOn};
 ghost use Rattle.nb_traced.specs.Holdings.{no_holdings};
 ghost use Rattle.nb_client.specs.declared.stage.Stage.TheVariants as stage;
 
@@ -71,6 +71,39 @@ impl Client {
     /// Uses a record: START is the first, and each other one comes while a command waits, or where the last step has yielded.
     /// Where memory runs out nothing is put, and the client is of no use any more.
     pub fn step(&mut self, entry: &InRec<'_>, log: &mut Log) -> Turn
+        requires valid { IsIn (in_of entry.now) }
+        requires fits { CanUse (in_of entry.now) self.old.stage }
+        requires few { self.old.used < 2 ^ 32 - 1 }
+        ensures { TurnsBy result (in_of entry.now ∷ []) self.old self.new log.old log.new }
+    {
+        if let (Some(number), InRec::Frame(_)) = (self.stage.awaited(), entry) {
+            return self.wait_on(number, entry, log);
+        }
+        self.use_apart(entry, log)
+    }
+
+    /// Uses a frame while a command waits for the open of this number.
+    #[inline(always)]
+    fn wait_on(&mut self, number: u16, entry: &InRec<'_>, log: &mut Log) -> Turn
+        requires valid { IsIn (in_of entry.now) }
+        requires served { IsServed (in_of entry.now) }
+        requires awaits { awaited_at self.old.stage ≡ Some number }
+        requires few { self.old.used < 2 ^ 32 - 1 }
+        ensures { TurnsBy result (in_of entry.now ∷ []) self.old self.new log.old log.new }
+    {
+        match self.site.wait_in(&mut self.stage, number, entry, log) {
+            Ok(turn) => turn,
+            Err(NoMemory) => {
+                self.stage = Stage::Stopped;
+                self.lost = true;
+                Turn::Over(Status::NoMemory)
+            }
+        }
+    }
+
+    /// Uses any record. It stands apart from the frames that come while a command waits.
+    #[inline(never)]
+    fn use_apart(&mut self, entry: &InRec<'_>, log: &mut Log) -> Turn
         requires valid { IsIn (in_of entry.now) }
         requires fits { CanUse (in_of entry.now) self.old.stage }
         requires few { self.old.used < 2 ^ 32 - 1 }

@@ -1,4 +1,6 @@
-ghost use Rattle.nb_client.specs.Soundness.{WasStarted};
+ghost use Rattle.std.specs.Prelude.{◌≡◌};
+ghost use Rattle.nb_client.specs.Serving.{rested};
+ghost use Rattle.nb_client.specs.Soundness.{WasStarted, awaited_at};
 ghost use Rattle.nb_client.specs.Turning.{IsTurnOf};
 
 use crate::{Expected, KeptNext, Turn};
@@ -44,5 +46,28 @@ pub(crate) fn turn_of(stage: &Stage) -> Turn
         Stage::HandedOff => Turn::Over(Status::HandedOff),
         Stage::Stopped => Turn::Over(Status::Unfinished),
         Stage::Ready => unreachable!(),
+    }
+}
+
+impl Stage {
+    /// The number of the open that a command waits for, if one does.
+    #[inline(always)]
+    pub(crate) fn awaited(&self) -> Option<u16>
+        ensures { result ≡ awaited_at self.now }
+    {
+        match self {
+            Stage::Waiting(_, Expected::Open(pending)) => Some(pending.get().number),
+            _ => None,
+        }
+    }
+
+    /// A step ends in which a command has waited on.
+    #[inline(always)]
+    pub(crate) fn rest(&mut self)
+        ensures { self.new ≡ rested self.old }
+    {
+        if let Stage::Waiting(script, _) = self {
+            script.begin_step();
+        }
     }
 }

@@ -1,5 +1,3 @@
-ghost use Rattle.std.specs.Prelude.{◌≤◌, length, IfSome};
-
 use nb_record::{Feed, Front, InRec};
 use std::alloc::Global;
 use std::fmt;
@@ -18,77 +16,158 @@ impl Display for Place {
     }
 }
 
-/// The end of what was read, and where it stands: it says which record was refused. It rests on a clause of the
-/// top call: it reads only once every whole record that was read before is used.
+/// The bytes of a record's length field.
+const LENGTH: usize = 4;
+
+/// How many bytes of a record are kept: they say whether it is in the grammar.
+const KEPT: usize = 8;
+
+/// How many are kept of the first record, which is START: all that stands before its script.
+const KEPT_OF_FIRST: usize = 128;
+
+/// The most records that end in a piece of 65,536 bytes: the one that it goes on with, and others of five bytes at least.
+const MOST_RECORDS: usize = 65_536 / 5 + 2;
+
+/// What stands in the place of bytes that aren't kept.
+const FILLING: [u8; 512] = [0; 512];
+
+/// The first bytes of a record, with zeros after those of a shorter one.
+type Head = [u8; KEPT];
+
+/// The beginnings of the records that were read last, and where they stand: it says which record was refused. It rests on
+/// a clause of the top call: it reads only once every whole record that was read before is used.
 #[derive(Drop)]
 pub struct Trail {
-    bytes: Vec<u8>,
+    /// What the input begins with.
+    start: Vec<u8>,
+    /// The records that have come wholly since the last piece began to come.
+    heads: Vec<Head>,
+    /// How many bytes these have.
+    passed: u64,
+    /// Where the first of these stands, or else the record at hand.
     place: Place,
+    /// The record at hand, and how many bytes of it have come.
+    begun: Head,
+    come: usize,
 }
 
-/// The length of the record that stands at the start, with its own four bytes, where all of it is there.
-fn whole(bytes: &[u8]) -> Option<usize>
-    ensures { IfSome result (λ len. len ≤ length bytes.now) }
-{
-    let head = bytes.first_chunk::<4>()?;
-    let len = usize::try_from(u32::from_be_bytes(*head))
-        .ok()?
-        .checked_add(4)?;
-    (len <= bytes.len()).then_some(len)
-}
-
-/// What is left after the whole records at the start, and how many those are.
-fn behind_whole(bytes: &[u8]) -> (&[u8], u64) {
-    let mut rest = bytes;
-    let mut records: u64 = 0;
-    for _ in 0..bytes.len() {
-        let Some(len) = whole(rest) else {
-            break;
-        };
-        rest = &rest[len..];
-        records = records.saturating_add(1);
+/// The bytes of the record that begins so, its length field among them.
+fn total(head: &Head) -> usize {
+    let [a, b, c, d, ..] = *head;
+    match usize::try_from(u32::from_be_bytes([a, b, c, d])) {
+        Ok(len) => len.saturating_add(LENGTH),
+        Err(_) => usize::MAX,
     }
-    (rest, records)
 }
 
 impl Trail {
     /// A trail of an input of which nothing was read. It takes the memory that it needs.
     pub fn new(alloc: Global) -> Option<Trail> {
-        match Vec::with_capacity(alloc, ROOM) {
-            Ok(bytes) => Some(Trail {
-                bytes,
-                place: Place { number: 1, at: 0 },
-            }),
-            Err(_) => None,
-        }
+        Some(Trail {
+            start: Vec::with_capacity(alloc, KEPT_OF_FIRST).ok()?,
+            heads: Vec::with_capacity(alloc, MOST_RECORDS).ok()?,
+            passed: 0,
+            place: Place { number: 1, at: 0 },
+            begun: [0; KEPT],
+            come: 0,
+        })
     }
 
     /// These bytes were read next: the whole records before them were used.
     pub fn note(&mut self, piece: &[u8]) {
-        let (rest, records) = behind_whole(self.bytes.as_slice());
-        let used = self.bytes.len().saturating_sub(rest.len());
-        self.place.number = self.place.number.saturating_add(records);
-        self.place.at = self.place.at.saturating_add(used as u64);
-        self.bytes.copy_within(used.., 0);
-        self.bytes.truncate(self.bytes.len().saturating_sub(used));
-        // The room suffices for the start of a record and a piece.
-        let _ = self.bytes.extend_from_slice(piece);
+        self.keep_start(piece);
+        self.forget_used();
+        let mut rest = piece;
+        for _ in 0..piece.len() {
+            rest = match self.pass_whole(rest) {
+                Some(after) => after,
+                None => self.pass_part(rest),
+            };
+            if rest.is_empty() {
+                return;
+            }
+        }
+    }
+
+    /// Keeps what the input begins with.
+    fn keep_start(&mut self, piece: &[u8]) {
+        let room = KEPT_OF_FIRST.saturating_sub(self.start.len());
+        let _ = self
+            .start
+            .extend_from_slice(&piece[..piece.len().min(room)]);
+    }
+
+    /// The whole records are gone.
+    fn forget_used(&mut self) {
+        self.place.number = self.place.number.saturating_add(self.heads.len() as u64);
+        self.place.at = self.place.at.saturating_add(self.passed);
+        self.passed = 0;
+        self.heads.clear();
+    }
+
+    /// Passes the record that stands at the start, if it is all there and none is at hand.
+    #[inline(always)]
+    fn pass_whole<'a>(&mut self, bytes: &'a [u8]) -> Option<&'a [u8]> {
+        let head = bytes.first_chunk::<8>()?;
+        let len = total(head);
+        if self.come > 0 || len < KEPT || bytes.len() < len {
+            return None;
+        }
+        self.end_record(*head, len);
+        Some(&bytes[len..])
+    }
+
+    /// Passes bytes of the record at hand: those of its length field, others that are kept, or the rest.
+    #[inline(never)]
+    fn pass_part<'a>(&mut self, bytes: &'a [u8]) -> &'a [u8] {
+        let until = match self.come {
+            0..LENGTH => LENGTH,
+            LENGTH..KEPT => total(&self.begun).min(KEPT),
+            _ => total(&self.begun),
+        };
+        let (part, rest) = bytes.split_at(until.saturating_sub(self.come).min(bytes.len()));
+        for (place, byte) in part.iter().enumerate().take(KEPT) {
+            if let Some(to) = self.begun.get_mut(self.come.saturating_add(place)) {
+                *to = *byte;
+            }
+        }
+        self.come = self.come.saturating_add(part.len());
+        self.end_if_whole();
+        rest
+    }
+
+    /// The record at hand ends, if all of it has come.
+    fn end_if_whole(&mut self) {
+        let len = total(&self.begun);
+        if self.come >= LENGTH && self.come >= len {
+            self.end_record(self.begun, len);
+            self.begun = [0; KEPT];
+            self.come = 0;
+        }
+    }
+
+    /// A record of so many bytes has come. There is room for those of a piece.
+    #[inline(always)]
+    fn end_record(&mut self, head: Head, len: usize) {
+        let _ = self.heads.push(head);
+        self.passed = self.passed.saturating_add(len as u64);
     }
 
     /// The record that was refused: the first that isn't whole, isn't in the grammar, or is no START where
     /// one must be, or one where none may be.
     pub fn refused(&self, alloc: Global) -> Option<Place> {
         let mut feed = Feed::new(alloc).ok()?;
-        feed.push(self.bytes.as_slice());
         let mut place = self.place;
-        for _ in 0..self.bytes.len() {
-            let Front::Whole(entry, len) = feed.front() else {
-                break;
+        for head in self.heads.as_slice() {
+            let len = total(head);
+            let kept = if place.number == 1 {
+                self.start.as_slice()
+            } else {
+                head
             };
-            if matches!(entry, InRec::Start(_)) != (place.number == 1) {
+            if !is_used(&mut feed, &kept[..kept.len().min(len)], len, place.number) {
                 break;
             }
-            feed.pass(len);
             place.number = place.number.saturating_add(1);
             place.at = place.at.saturating_add(len as u64);
         }
@@ -96,5 +175,28 @@ impl Trail {
     }
 }
 
-/// The most that a trail holds: the start of a record of 131,076 bytes, and a piece of 65,536.
-const ROOM: usize = 196_612;
+/// Whether a run may use the record of this length that begins so, as the one of this number. What isn't kept of it says
+/// nothing of that.
+fn is_used(feed: &mut Feed, kept: &[u8], len: usize, number: u64) -> bool {
+    feed.push(kept);
+    fill(feed, len.saturating_sub(kept.len()));
+    let (is_start, len) = match feed.front() {
+        Front::Whole(entry, len) => (matches!(entry, InRec::Start(_)), len),
+        _ => return false,
+    };
+    feed.pass(len);
+    is_start == (number == 1)
+}
+
+/// Pushes so many bytes.
+fn fill(feed: &mut Feed, count: usize) {
+    let mut left = count;
+    for _ in 0..count {
+        if left == 0 {
+            return;
+        }
+        let n = left.min(FILLING.len());
+        feed.push(&FILLING[..n]);
+        left = left.saturating_sub(n);
+    }
+}

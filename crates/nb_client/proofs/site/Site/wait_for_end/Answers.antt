@@ -1,8 +1,7 @@
-use Rattle.std.proofs.Common.{◌≡◌, ◌≤◌, ℕ, List, length, sym, ap, subst, arith}
-use Rattle.std.proofs.lemmas.List.{length-append}
-use Rattle.nb_record.specs.Logged.{Logged, Puts}
+use Rattle.std.proofs.Common.{◌≡◌, ◌≤◌, length, ap, arith}
 use Rattle.nb_record.specs.declared.log.LogPlace.{LogPlace}
 use Rattle.nb_client.specs.declared.pending.Pending.{Pending}
+use Rattle.nb_client.proofs.Puts.{at_most, moved_puts}
 use Rattle.nb_client.proofs.Served.{takes_some}
 use Rattle.nb_client.proofs.Waits.{sound_after, waited_goes}
 use Rattle.nb_client.proofs.site.Site.wait_for_end.Goals as goal
@@ -18,12 +17,6 @@ returns-in-Ok-clause-goes c =
     let number : c.get.result.now.number ≡ c.args.pending.number = ap (λ (p : Pending). p.number) c.get.ensures in
     let v = rw number at c.in_ok-ended.ensures.serves in
     waited_goes c.args.script c.args.pending c.in_ok-ended.ended _ c.requires.valid c.requires.served c.requires.sound v c.in-Ok.ensures.answers
-
-moved_puts : {old between new : Logged} {added : List ℕ} → new ≡ between → Puts old between added → Puts old new added
-moved_puts {old} {between} {new} {added} same p = subst (λ (l : Logged). Puts old l added) (sym same) p
-
-at_most : {old new : Logged} {added : List ℕ} → Puts old new added → length old.bytes ≤ length new.bytes
-at_most {old} {new} {added} p = omega (arith, ap length p.appended, length-append old.bytes p.part)
 
 -- what was put stands after the place
 pub go_back-requires : goal.go_back-requires
