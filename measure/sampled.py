@@ -26,9 +26,12 @@ from shared.records import Received, Record, spell  # noqa: E402
 DESCRIPTION = """\
 Gives the built program a recorded boot by HTTP through a pipe, a megabyte at a time, and asks the system after
 each one, once it is used, for the peak of the program's memory so far (VmHWM of proc(5)). It prints by how much
-that was ever over the part of the image that had come: as it is the peak, nothing between two looks is missed."""
+that was ever over the part of the image that had come: as it is the peak, nothing between two looks is missed.
+The program's and the C library's code are part of that; what the program itself took then (RssAnon), without what
+is mapped from files, is printed too, as it was at each look."""
 
 PEAK = re.compile(r"^VmHWM:\s+(\d+) kB$", re.M)
+OWN = re.compile(r"^RssAnon:\s+(\d+) kB$", re.M)
 # A run of a pipe's reader that hangs is ended.
 PATIENCE = 60.0
 BETWEEN_LOOKS = 0.0005
@@ -44,10 +47,12 @@ class Piece(NamedTuple):
 
 
 class Sample(NamedTuple):
-    """How many bytes of the stream had come, and the peak of the memory until then, in bytes."""
+    """How many bytes of the stream had come, the peak of the memory until then, and what of it the program itself had
+    taken at that moment, which isn't mapped from files, in bytes."""
 
     come: int
     peak: int
+    own: int
 
 
 class Sampled(NamedTuple):
@@ -59,6 +64,10 @@ class Sampled(NamedTuple):
     def most_over(self) -> int:
         """The most that the peak was ever over the bytes that had come until then."""
         return max(sample.peak - sample.come for sample in self.samples)
+
+    def most_own_over(self) -> int:
+        """The most that the program itself had taken over the bytes that had come until then."""
+        return max(sample.own - sample.come for sample in self.samples)
 
 
 def parts(records: Iterable[Record], length: int) -> Iterator[Piece]:
@@ -97,6 +106,13 @@ def _wait_for_use(process: subprocess.Popen[bytes], stream: BinaryIO) -> bool:
     raise Refused("the program doesn't read on")
 
 
+def _bytes(field: re.Pattern[str], status: str) -> int:
+    found = field.search(status)
+    if found is None:
+        raise Refused("the system doesn't say what memory a process has")
+    return int(found[1]) * 1024
+
+
 def sample(program: Path, pieces: Iterable[Piece], folder: Path) -> Sampled:
     """Runs the program over these pieces, and looks at its memory after each but those with which it ends."""
     pipe = folder / "in.fifo"
@@ -110,8 +126,8 @@ def sample(program: Path, pieces: Iterable[Piece], folder: Path) -> Sampled:
                 view = view[stream.write(view) :]
             if not _wait_for_use(process, stream):
                 break
-            peak = PEAK.search(Path(f"/proc/{process.pid}/status").read_text())
-            samples.append(Sample(piece.come, int(peak[1]) * 1024))
+            status = Path(f"/proc/{process.pid}/status").read_text()
+            samples.append(Sample(piece.come, _bytes(PEAK, status), _bytes(OWN, status)))
     return Sampled(process.wait(), samples)
 
 
@@ -132,7 +148,8 @@ def measure_samples(words: list[str]) -> None:
         sampled = sample(asked.program, parts(web_transfer(asked.megabytes * MEGABYTE), MEGABYTE), Path(name))
     print(
         f"{len(sampled.samples)} looks, status {sampled.status}: the peak was at most "
-        f"{sampled.most_over()} bytes over what had come of the stream"
+        f"{sampled.most_over()} bytes over what had come of the stream, and what the program itself had taken "
+        f"{sampled.most_own_over()}"
     )
 
 

@@ -40,6 +40,8 @@ MOST_MEMORY = LONGEST * 5 // 4 + 8 * MEGABYTE
 # the image of a fetch by HTTP, and what the program takes beside what has come of it, at each moment
 WEB_IMAGE = 72 * MEGABYTE
 MOST_BESIDE = 4 * MEGABYTE
+# the same, without what is mapped from files
+MOST_OWN = 1_500_000
 
 
 @unittest.skipUnless(is_built(), "the program isn't built")
@@ -82,6 +84,7 @@ class Limits(Case):
         self.assertEqual(sampled.status, 0)
         self.assertGreaterEqual(len(sampled.samples), WEB_IMAGE // MEGABYTE)
         self.assertLessEqual(sampled.most_over(), MOST_BESIDE)
+        self.assertLessEqual(sampled.most_own_over(), MOST_OWN)
 
     def test_200_mb_of_noise_in_256_mib(self) -> None:
         """Frames that bring nothing, while a command waits; they take no memory."""
