@@ -1,5 +1,7 @@
 pub mod ImageLemmas
+pub mod BlockLemmas
 pub mod PageLemmas
+pub mod RequestLemmas
 pub mod AnswerLemmas
 pub mod FateLemmas
 pub mod TransitLemmas

@@ -1,17 +1,18 @@
 -- What is read of an output record is what it shows.
-use Rattle.std.proofs.Common.{◌≡◌, ℕ, ◌+◌, ◌-◌, ◌<◌, ◌≤◌, ◌^◌, ◌==◌, ◌++◌, Bool, true, false, List, [], ◌∷◌, length, take, drop, slice_index, nat_eq, Option, Some, None, codes, if◌then◌else◌, refl, sym, ap, ◌∙◌, subst, arith}
+use Rattle.std.proofs.Common.{◌≡◌, ℕ, ◌+◌, ◌-◌, ◌<◌, ◌≤◌, ◌^◌, ◌==◌, ◌++◌, Bool, true, false, List, [], ◌∷◌, length, take, drop, slice_index, nat_eq, Option, Some, None, IsSomeAnd, codes, if◌then◌else◌, append_assoc, refl, sym, ap, ◌∙◌, subst, arith}
 use Rattle.std.specs.Int.{w16, w32, to_be_bytes, from_be_bytes}
 use Rattle.std.specs.List.{flat_map, starts_with}
 use Rattle.std.specs.Option.{option_map}
 use Rattle.std.proofs.lemmas.Bool.{true≢false, le-ltb}
 use Rattle.std.proofs.lemmas.List.{length-append, length-drop, take_all, take_at, drop_at}
-use Rattle.std.proofs.lemmas.Nat.{from_be_bytes-to_be_bytes_4}
+use Rattle.std.proofs.lemmas.Nat.{from_be_bytes-to_be_bytes_4, be_bytes_4}
 use Rattle.nb_terms.specs.declared.cause.Cause.{Cause}
 use Rattle.nb_defs.specs.Records.{Out, step, sent, text, command, script, opened, tried, advanced, ended, graph, part, done, out_text, record_text, cause_text, event_text, word_text, flag_of}
 use Rattle.nb_defs.specs.Records as defs
 use Rattle.nb_lab.specs.declared.image.Image.{Image}
 use Rattle.nb_lab.specs.Shows.{open_for, result, seen, numbered, image_named, image_at_url, image_of}
-use Rattle.nb_lab.specs.Readings.{seen_by, image_by, begins_with_zero}
+use Rattle.nb_lab.specs.Readings.{seen_by, image_by, begins_with_zero, BeginsWithRecord}
+use Rattle.nb_wire.proofs.BytesLaws.{IsBytes, IsBytes-front, Splits, splits_of}
 
 -- an output record's type and body, of which this is read
 pub record IsRead (o : Out) : Type 0 where
@@ -116,6 +117,43 @@ module _ (records bytes : List ℕ) (kind : ℕ) (body rest : List ℕ) (f : IsF
 
   pub front_rest : (at : ℕ) → at ≡ 4 + (length body + 1) → drop at records ≡ rest
   front_rest at is = ap (λ (k : ℕ). drop k records) is ∙ f.after
+
+-- a length in four bytes, and so many bytes after it, of which the first is the type
+whole_record : (records head tail rest : List ℕ) (len kind : ℕ) (body : List ℕ) → IsBytes records → Splits 4 records head tail → Splits len tail (kind ∷ body) rest → len ≡ from_be_bytes w32 head → BeginsWithRecord records
+unfolding record_text
+whole_record records head tail rest len kind body fits first second is =
+    let four = IsBytes-front 4 records head tail first fits in
+    let count : len ≡ length body + 1 = omega (arith, second.len) in
+    let number = to_be_bytes w32 (length body + 1) in
+    let back : number ≡ head = be_bytes_4 head (length body + 1) first.len four (sym count ∙ is) in
+    record {
+      kind = kind;
+      body = body;
+      rest = rest;
+      short = omega (arith, count, is, four 0, four 1, four 2, four 3);
+      spelled = first.parts ∙ ap (λ (x : List ℕ). x ++ tail) (sym back) ∙ ap (λ (x : List ℕ). number ++ x) second.parts ∙ sym (append_assoc number (kind ∷ body) rest);
+    }
+
+-- what was read of them is a record that stands first
+pub read_whole : (records before bytes entry body : List ℕ) (at after len kind : ℕ) → IsBytes records → before ≡ records → bytes ≡ records → at ≡ 0 → after ≡ 4 → len ≡ from_be_bytes w32 (take 4 (drop at before)) → after + len ≤ length bytes → entry ≡ take len (drop after bytes) → entry ≡ kind ∷ body → BeginsWithRecord records
+read_whole records before bytes entry body at after len kind fits same_before same start four is long taken cut =
+    let head = take 4 records in
+    let tail = drop 4 records in
+    let rest = drop len tail in
+    let size = ap length same in
+    let tail_len = length-drop 4 records in
+    let first : Splits 4 records head tail = splits_of 4 records head tail refl refl (omega (arith, tail_len, size, long, four)) in
+    let here : kind ∷ body ≡ take len tail =
+    sym cut ∙ taken ∙ ap (λ (k : ℕ). take len (drop k bytes)) four ∙ ap (λ (x : List ℕ). take len (drop 4 x)) same in
+    let second : Splits len tail (kind ∷ body) rest = splits_of len tail (kind ∷ body) rest here refl (omega (arith, length-drop len tail, tail_len, size, long, four)) in
+    let number : len ≡ from_be_bytes w32 head =
+    is ∙ ap (λ (k : ℕ). from_be_bytes w32 (take 4 (drop k before))) start ∙ ap (λ (x : List ℕ). from_be_bytes w32 (take 4 x)) same_before in
+    whole_record records head tail rest len kind body fits first second number
+
+-- what is None has nothing
+pub no_value : {X : Type 0} (r : Option X) (P : X → Type 0) → r ≡ None → IsSomeAnd r P → ⊥
+no_value None P is has = has
+no_value (Some x) P is has = absurd (cc is)
 
 first_of : List ℕ → ℕ
 first_of [] = 0

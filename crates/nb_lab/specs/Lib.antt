@@ -2,6 +2,7 @@ pub mod Hosts
 pub mod Images
 pub mod Pages
 pub mod Files
+pub mod Blocks
 pub mod Streams
 pub mod Answers
 pub mod Requests

@@ -1,5 +1,6 @@
 -- What is read of a record's type and body. That it is what the record shows is what `Shown::read` promises.
-use Rattle.std.specs.Prelude.{ℕ, ◌==◌, Bool, false, nat_lt, List, [], ◌∷◌, length, drop, slice_index, Option, None, if◌then◌else◌}
+use Rattle.std.specs.Prelude.{◌≡◌, ℕ, ◌+◌, ◌<◌, ◌^◌, ◌==◌, Bool, false, nat_lt, List, [], ◌∷◌, ◌++◌, length, drop, slice_index, Option, None, if◌then◌else◌}
+use Rattle.nb_defs.specs.Records.{record_text}
 use Rattle.nb_lab.specs.declared.image.Image.{Image}
 use Rattle.nb_lab.specs.Shows.{Seen, frame, try, open_for, result, other, image_of}
 
@@ -16,3 +17,11 @@ seen_by kind body =
     else (if kind == 0x88 then try
     else (if kind == 0x85 then result (begins_with_zero body)
     else (if kind == 0x87 then open_for (image_by body) else other)))
+
+-- a whole record stands first: its length, its type and its body
+pub record BeginsWithRecord (bytes : List ℕ) : Type 0 where
+  pub kind : ℕ
+  pub body : List ℕ
+  pub rest : List ℕ
+  pub short : length body + 1 < 2 ^ 32
+  pub spelled : bytes ≡ record_text kind body ++ rest

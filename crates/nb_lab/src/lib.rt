@@ -26,6 +26,8 @@ mod transfer;
 
 pub use image::Image;
 pub use lab::{Coming, Lab};
-pub use laws::{frames_come_by_their_numbers, responses_are_sent_in_order};
+pub use laws::{
+    blocks_join_to_the_image, frames_come_by_their_numbers, responses_are_sent_in_order,
+};
 pub use shown::Shown;
 pub use summary::Summary;

@@ -1,9 +1,9 @@
 //! What the output of a run shows of what is counted.
 
-ghost use Rattle.std.specs.Prelude.{◌≡◌, ◌+◌, ◌<◌, ◌^◌, ◌++◌, ℕ, List, length, IsSomeAnd, IfSome};
+ghost use Rattle.std.specs.Prelude.{◌≡◌, ◌+◌, ◌<◌, ◌^◌, ◌++◌, ◌↔◌, ℕ, List, length, IsNone, IsSomeAnd, IfSome};
 ghost use Rattle.nb_defs.specs.Records.{Out, out_text, record_text};
 ghost use Rattle.nb_lab.specs.Shows.{seen, seen_of, image_at_url, image_of};
-ghost use Rattle.nb_lab.specs.Readings.{seen_by, begins_with_zero, image_by};
+ghost use Rattle.nb_lab.specs.Readings.{seen_by, begins_with_zero, image_by, BeginsWithRecord};
 
 use crate::image::Image;
 use nb_wire::View;
@@ -50,6 +50,7 @@ impl<'a> Shown<'a> {
     pub fn read(records: &'a [u8]) -> Option<(Shown<'a>, &'a [u8])>
         ensures first { (o : Out) (rest : List ℕ) → length (out_text o) < 2 ^ 32 → records.now ≡ out_text o ++ rest
             → IsSomeAnd result (λ r. (seen_of r.0 ≡ seen o) × (r.1.now ≡ rest)) }
+        ensures none { IsNone result ↔ (BeginsWithRecord records.now → ⊥) }
         ensures shorter { IfSome result (λ r. length r.1.now < length records.now) }
     {
         Shown::read_record(records)
@@ -58,6 +59,7 @@ impl<'a> Shown<'a> {
     fn read_record(records: &'a [u8]) -> Option<(Shown<'a>, &'a [u8])>
         ensures first { (kind : ℕ) (body rest : List ℕ) → length body + 1 < 2 ^ 32 → records.now ≡ record_text kind body ++ rest
             → IsSomeAnd result (λ r. (seen_of r.0 ≡ seen_by kind body) × (r.1.now ≡ rest)) }
+        ensures none { IsNone result ↔ (BeginsWithRecord records.now → ⊥) }
         ensures shorter { IfSome result (λ r. length r.1.now < length records.now) }
     {
         let mut view = View::new(records);
