@@ -2,24 +2,56 @@
 
 from __future__ import annotations
 
+import os
+import subprocess
 import unittest
+from pathlib import Path
 
+from boot import BUILT, is_built
 from tests import made
+from tests.case import Case
 from tests.replays import can_run, replayed
 
 USAGE = "usage: netboot replay IN OUT | live HOST:PORT | lab N\n"
+MOST_IMAGES = 64
+RUNS = ("first", "again")
+
+
+def lab(images: int, run: str) -> str:
+    """The name of the case of a run in a lab."""
+    return f"lab_{images}_{run}"
+
+
+# words of no form
+INVALID = {
+    "words": ["replay", "a"],
+    "labs": ["lab", "65"],
+    "lab_and_more": ["lab", "2", "x"],
+    "lab_from_zero": ["lab", "01"],
+    "lab_of_none": ["lab", "0"],
+    "lab_and_sign": ["lab", "+1"],
+    "lab_alone": ["lab"],
+    "lab_in_capitals": ["LAB", "2"],
+}
 
 # recordings, and words
 INPUTS = {"hello": made.HELLO_INPUT, "empty": b""}
 WORDS = {
     "missing": ["replay", "/none/in", "/none/out"],
-    "words": ["replay", "a"],
-    "lab": ["lab", "2"],
-    "labs": ["lab", "65"],
+    **INVALID,
+    **{lab(images, run): ["lab", str(images)] for images in range(1, MOST_IMAGES + 1) for run in RUNS},
 }
 
-# what two images in a lab come to, worked by hand in crates/nb_labrun_tests
-SUMMARY = "images 2\nbytes 2977\nrecords 13\nframes 12\ntries 6\nstatus 3\n"
+# What images in a lab come to. Two are worked by hand in crates/nb_labrun_tests. In record 13 a third one is asked for; its
+# frames and tries go on from there. Record 14 is the servers' frame 10, which acknowledges the FIN of a connection that has
+# ended, and is reset. Frame 11, the options, comes twice: each is acknowledged, and only the first is a try. Block 1 is frame
+# 12. Frame 13, block 2, is late, so nothing comes but TICKs: block 1 is acknowledged again 250 and 750 ms after the first
+# time. The third TICK has block 2 sent again as frame 14, which is lost, and the sixth as frame 15, after which frame 13
+# comes: both are acknowledged, the first as a try. Block 3 is frame 16, in record 26, and its acknowledgement is no try.
+SUMMARIES = {
+    2: "images 2\nbytes 2977\nrecords 13\nframes 12\ntries 6\nstatus 3\n",
+    3: "images 3\nbytes 5931\nrecords 26\nframes 22\ntries 12\nstatus 3\n",
+}
 
 
 @unittest.skipUnless(can_run(), "the program isn't built, and the toolchain's rt is missing")
@@ -41,12 +73,55 @@ class Program(unittest.TestCase):
         self.ended("missing", 10, "netboot: cannot attach\n", None)
 
     def test_words(self) -> None:
-        self.ended("words", 2, USAGE, None)
-        self.ended("labs", 2, USAGE, None)
+        for case in INVALID:
+            with self.subTest(case):
+                self.ended(case, 2, USAGE, None)
 
-    def test_lab(self) -> None:
-        ran = replayed()["lab"]
-        self.assertEqual((ran.ending, ran.status, ran.said), ("ended", 3, SUMMARY))
+    def test_labs_by_hand(self) -> None:
+        for images, summary in SUMMARIES.items():
+            ran = replayed()[lab(images, "first")]
+            self.assertEqual((ran.ending, ran.status, ran.said), ("ended", 3, summary))
+
+    def test_each_lab_twice(self) -> None:
+        """Image i has 1000 + 977 i bytes."""
+        for images in range(1, MOST_IMAGES + 1):
+            with self.subTest(images=images):
+                ran, again = (replayed()[lab(images, run)] for run in RUNS)
+                self.assertEqual(ran, again)
+                self.assertEqual((ran.ending, ran.status), ("ended", 3))
+                names, numbers = zip(*(line.split(" ") for line in ran.said.splitlines()))
+                self.assertEqual(names, ("images", "bytes", "records", "frames", "tries", "status"))
+                size = sum(1000 + 977 * i for i in range(images))
+                self.assertEqual((*numbers[:2], numbers[-1]), (str(images), str(size), "3"))
+
+
+@unittest.skipUnless(is_built(), "the program isn't built")
+class Built(Case):
+    def ends(self, *words: str | bytes, output: Path = Path(os.devnull)) -> tuple[int, str]:
+        """The program's status, and the first line that it said."""
+        with output.open("wb") as printed:
+            done = subprocess.run(
+                [BUILT, *words], cwd=self.folder, stdout=printed, stderr=subprocess.PIPE, check=False, timeout=60
+            )
+        return done.returncode, done.stderr.decode().partition("\n")[0] + "\n"
+
+    def test_a_summary_that_cant_be_written(self) -> None:
+        self.assertEqual(self.ends("lab", "2", output=Path("/dev/full")), (8, "netboot: write fault\n"))
+
+    def test_a_word_that_isnt_text(self) -> None:
+        """A file or a peer of such a name can't be opened. Words of no form stay invalid, and nothing is made."""
+        self.put("a.rec", made.HELLO_INPUT)
+        for words in (
+            (b"\xff",), ("lab", b"\xff"), ("lab", b"2\xff"), (b"lab\xff", "2"), ("lab", "2", b"\xff"),
+            ("replay", b"\xff"), ("replay", "", b"\xff"), ("replay", "a.rec", "made", b"\xff"),
+            (b"replay\xff", "a.rec", "made"), ("live", b"\xff"), ("live", "10.0.0.1:80", b"\xff"),
+        ):  # fmt: skip
+            with self.subTest(words):
+                self.assertEqual(self.ends(*words), (2, USAGE))
+        for words in (("replay", b"\xff", "made"), ("replay", "a.rec", b"made\xff"), ("live", b"\xff:80")):
+            with self.subTest(words):
+                self.assertEqual(self.ends(*words), (10, "netboot: cannot attach\n"))
+        self.assertEqual({path.name for path in self.folder.iterdir()}, {"a.rec", "examples", "tools"})
 
 
 if __name__ == "__main__":
