@@ -1,10 +1,11 @@
--- The words `lab N`, and what `parse` reads of N.
-use Rattle.std.proofs.Common.{◌≡◌, ◌≢◌, ℕ, zero, suc, ◌^◌, ◌<◌, ◌≤◌, List, [], ◌∷◌, length, map, get_or, Result, Ok, Err, Option, None, Some, IfSome, codes, decimal, refl, sym, ap, ◌∙◌, arith}
+-- The words `lab N`, and what `parse` reads of N; and the other words of the program.
+use Rattle.std.proofs.Common.{◌≡◌, ◌≢◌, ◌↔◌, inl, inr, ℕ, zero, suc, ◌^◌, ◌<◌, ◌≤◌, List, [], ◌∷◌, length, map, get_or, Result, Ok, Err, Option, None, Some, IfSome, codes, decimal, refl, sym, ap, ◌∙◌, subst, arith}
 use Rattle.std.specs.Result.{OkIff}
 use Rattle.std.specs.Str.Parse.{ParsesUnsigned, IsNumeral, digits_value}
 use Rattle.std.proofs.lemmas.Fmt.{decimal_injective, decimal-digits_value, decimal_is_IsNumeral, decimal_digit, first_decimal}
 use Rattle.std.proofs.lemmas.Str.Parse.{numerals_by_value, tells_digits, without_leading_plus_none}
-use Rattle.nb_labrun.specs.Words.{IsLabNumber, NamesLab}
+use Rattle.nb_boot.specs.Words.{AreWords}
+use Rattle.nb_labrun.specs.Words.{IsLabNumber, NamesLab, AreLabWords, AreProgramWords}
 
 -- no number begins with a byte below the digit one
 pub number-first : (text : List ℕ) (n : ℕ) → IsLabNumber text n → 48 < get_or text 0 0
@@ -53,3 +54,14 @@ pub one_number : (words : List (List ℕ)) (m n : ℕ) → NamesLab words m → 
 one_number words m n a b =
     let texts : a.text ≡ b.text = ap (λ (ws : List (List ℕ)). get_or ws 1 []) (sym a.are ∙ b.are) in
     decimal_injective m n (omega (arith, a.numbered.high)) (omega (arith, b.numbered.high)) (sym a.numbered.spelled ∙ texts ∙ b.numbered.spelled)
+
+-- words for a lab are of no other form
+pub one_form : (words : List (List ℕ)) (n : ℕ) → NamesLab words n → AreWords words → ⊥
+one_form words n named are =
+    let both : AreWords (codes "lab" ∷ named.text ∷ []) = subst AreWords named.are are in
+    let second : 97 ≡ 105 = ap (λ (ds : List ℕ). get_or ds 1 0) both.0 in
+    absurd (omega (arith, second))
+
+-- where words aren't for a lab, those of no other form are invalid
+pub no_form : (words : List (List ℕ)) (P : Type 0) → (AreLabWords words → ⊥) → P ↔ (AreWords words → ⊥) → P ↔ (AreProgramWords words → ⊥)
+no_form words P none bad = (λ p either. elim either [ inl are ↦ bad.0 p are | inr lab ↦ none lab ], λ no. bad.1 (λ are. no (inl are)))

@@ -1,13 +1,16 @@
 ghost use Rattle.std.specs.Prelude.{◌≡◌, ◌↔◌, ◌≤◌, ℕ, map};
 ghost use Rattle.std.specs.String.{string_bytes};
-ghost use Rattle.nb_boot.specs.Complete.{IsBadWords};
-ghost use Rattle.nb_labrun.specs.Words.{AreLabWords, NamesLab};
+ghost use Rattle.nb_boot.specs.Complete.{Completes, IsBadWords};
+ghost use Rattle.nb_boot.specs.Determined.{IsDetermined};
+ghost use Rattle.nb_boot.specs.Shown.{ShowsCourse};
+ghost use Rattle.nb_boot.specs.Words.{AreWords};
+ghost use Rattle.nb_labrun.specs.Words.{AreLabWords, AreProgramWords, NamesLab};
 ghost use Rattle.nb_labrun.specs.Shows.{LabRun, ShowsLab};
 
 use crate::Status;
 use crate::run::{Played, play};
 use crate::words::images;
-use nb_boot::write_all;
+use nb_boot::{netboot, write_all};
 use nb_record::{Failed, Line, NoMemory};
 use std::alloc::Global;
 
@@ -46,5 +49,33 @@ pub fn lab<L: Line>(alloc: Global, words: &[String], line: &mut L) -> Status
     match images(words) {
         Some(n) => run(alloc, n, line),
         None => Status::BadWords,
+    }
+}
+
+/// Runs the program's words (without its name), whichever of its three forms they have. `replay IN OUT` and `live PEER` are what
+/// `netboot` runs, over `line`; for `lab N` a run in a lab is played, as by `lab`, and its summary is written to `printed`.
+pub fn call<L: Line, P: Line>(
+    alloc: Global,
+    words: &[String],
+    line: &mut L,
+    printed: &mut P,
+) -> Status
+    // The words are invalid exactly where the answer is BadWords, and then nothing was attached or written.
+    ensures bad_words { IsBadWords result ↔ (AreProgramWords (map string_bytes words.now) → ⊥) }
+    ensures untouched { IsBadWords result → (line.new ≡ line.old) × (printed.new ≡ printed.old) }
+    // Of `replay` and `live` all that `netboot` promises holds.
+    ensures course { AreWords (map string_bytes words.now) → ShowsCourse result (L.outside line.old) (L.outside line.new) }
+    ensures complete { AreWords (map string_bytes words.now) → Completes result (L.outside line.old) (L.outside line.new) }
+    ensures determined { AreWords (map string_bytes words.now) → IsDetermined result (L.outside line.old) (L.outside line.new) }
+    // What `lab N` wrote is the summary of a run in a lab of N images.
+    ensures shows { (n : ℕ) → NamesLab (map string_bytes words.now) n
+        → ShowsLab n result (P.outside printed.old) (P.outside printed.new) }
+    // Each form leaves alone what the others use.
+    ensures apart { (AreWords (map string_bytes words.now) → printed.new ≡ printed.old)
+        × (AreLabWords (map string_bytes words.now) → line.new ≡ line.old) }
+{
+    match images(words) {
+        Some(n) => run(alloc, n, printed),
+        None => netboot(alloc, words, line),
     }
 }
