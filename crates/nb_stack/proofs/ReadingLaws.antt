@@ -1,5 +1,5 @@
 -- What the frame for a client brings, the bytes bring.
-use Rattle.std.proofs.Common.{◌≡◌, ℕ, ◌+◌, ◌≤◌, Bool, true, List, ◌++◌, length, Option, ap, subst, arith}
+use Rattle.std.proofs.Common.{◌≡◌, ℕ, ◌+◌, ◌≤◌, Bool, true, List, ◌++◌, length, Option, Some, append-nil, refl, sym, ap, subst, ◌∙◌, arith}
 use Rattle.std.proofs.lemmas.List.{length-append}
 use Rattle.nb_wire.specs.declared.address.Mac.{Mac}
 use Rattle.nb_ether.specs.Frame.{Frame, IsFrame}
@@ -15,7 +15,8 @@ use Rattle.nb_stack.specs.declared.address.Addr.{Addr}
 use Rattle.nb_stack.specs.Owns.{owns}
 use Rattle.nb_stack.specs.Brings.{Brought, nothing, echo_request, segment, IsFrameFor, IsAddressed, BringsNone, BringsIn, Brings}
 use Rattle.nb_stack.specs.Client.{Client}
-use Rattle.nb_stack.specs.Takes.{Outcome, Takes, TakesAddressed}
+use Rattle.nb_stack.specs.Takes.{Outcome, handed, segment_to, reset_back, Takes, TakesAddressed}
+use Rattle.nb_stack.specs.Bound.{owner_of}
 
 pub brings_of : (up : Bool) (mac : Mac) (address : Option Addr) (bytes : List ℕ) (f : Frame) (message : Brought) → IsFrameFor up mac bytes f → ((g : Frame) → IsFrameFor up mac bytes g → f ≡ g) → BringsIn address f message → Brings up mac address bytes message
 brings_of up mac address bytes f nothing is one brings = λ g for_g.
@@ -31,6 +32,16 @@ takes_of client bytes f seen put put_after after is one takes = record {
   is_outcome = takes.is_outcome;
   is_put = takes.is_put;
   is_after = takes.is_after;
+}
+
+-- a segment for a port that is bound is handed on, and nothing is put
+pub takes_bound : (client : Client) (f : Frame) (p : PacketParts) (s : SegmentParts) (to : ℕ) (put : List ℕ) → BringsIn client.address f (segment f.src p s) → owner_of 6 s.dst_port client.ports ≡ Some to → TakesAddressed client f (handed to p.src p.dst 6 s.src_port p.body) put put client
+takes_bound client f p s to put brings owner = record {
+  message = segment f.src p s;
+  brings = brings;
+  is_outcome = ap (λ (o : Option ℕ). segment_to p s o) (sym owner);
+  is_put = sym (append-nil put) ∙ ap (λ (o : Option ℕ). put ++ reset_back f.src client.mac p s o) (sym owner);
+  is_after = refl;
 }
 
 -- a frame for packets that has none brings nothing

@@ -7,7 +7,7 @@ ghost use Rattle.nb_ipv4.specs.UdpText.{udp_parts};
 ghost use Rattle.nb_ipv4.specs.EchoText.{EchoParts, IsEcho, IsEchoKind, echo_parts};
 ghost use Rattle.nb_tcpseg.specs.SegmentText.{SegmentParts, IsSegment, segment_parts};
 ghost use Rattle.nb_stack.specs.Owns.{owns, everyone};
-ghost use Rattle.nb_stack.specs.Brings.{IsFrameFor, IsAddressed, IsEchoOf, BringsIn, BringsNone, datagram, brought};
+ghost use Rattle.nb_stack.specs.Brings.{IsFrameFor, IsAddressed, IsEchoOf, BringsIn, BringsNone, datagram, segment, brought};
 
 use crate::address::{ALL_HOSTS, Addr, DHCP_CLIENT, EVERYONE, is_own};
 use crate::message::Message;
@@ -72,18 +72,18 @@ fn is_everyone(dst: Mac) -> bool
     dst == EVERYONE
 }
 
-// The UDP packet that the frame has, if the packet is one.
+// The packet of this protocol that the frame has, if it has one.
 #[inline(always)]
-pub(crate) fn udp_packet_in<'a>(frame: EtherFrame<'a>) -> Option<Packet<'a>>
+pub(crate) fn packet_of<'a>(proto: u8, frame: EtherFrame<'a>) -> Option<Packet<'a>>
     ensures kind { IsSome result → frame.entry.kind ≡ 2048 }
     ensures packet { IfSome result (λ p. IsPacket frame.entry.body.now (packet_parts p)) }
-    ensures proto { IfSome result (λ p. p.proto ≡ 17) }
+    ensures proto { IfSome result (λ p. p.proto ≡ proto) }
 {
-    if frame.kind != KIND_IPV4 || frame.body.get(PROTO_AT) != Some(&PROTO_UDP) {
+    if frame.kind != KIND_IPV4 || frame.body.get(PROTO_AT) != Some(&proto) {
         return None;
     }
     let packet = Packet::read(frame.body)?;
-    if packet.proto == PROTO_UDP {
+    if packet.proto == proto {
         Some(packet)
     } else {
         None
@@ -112,6 +112,20 @@ pub(crate) fn datagram_of<'a>(
     } else {
         None
     }
+}
+
+// The segment that a frame brings a client with this address, after the packet that it is in.
+#[inline(always)]
+pub(crate) fn segment_of<'a>(
+    address: Option<Addr>,
+    frame: EtherFrame<'a>,
+) -> Option<(Packet<'a>, Segment<'a>)>
+    ensures { IfSome result (λ found. BringsIn address (frame_of frame.entry)
+        (segment frame.entry.src (packet_parts found.0) (segment_parts found.1))) }
+{
+    let packet = packet_of(PROTO_TCP, frame)?;
+    let segment = segment_for(address, packet)?;
+    Some((packet, segment))
 }
 
 // The message that a frame for a client with this address brings it.
@@ -240,6 +254,7 @@ fn echo_for<'a>(address: Option<Addr>, packet: Packet<'a>) -> Option<Echo<'a>>
     }
 }
 
+#[inline(always)]
 fn segment_for<'a>(address: Option<Addr>, packet: Packet<'a>) -> Option<Segment<'a>>
     ensures sound { let p = packet_parts packet.entry in IfSome result
         (λ s. IsSegment p.src p.dst p.body (segment_parts s) × (owns address p.dst ≡ true)) }

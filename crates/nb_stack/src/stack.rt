@@ -6,10 +6,10 @@ use crate::message::Message;
 use crate::neighbours::{Neighbour, Neighbours};
 use crate::ports::{Port, Ports};
 use crate::put::{Endpoints, put_arp, put_echo, put_header, put_message};
-use crate::reading::{datagram_of, frame_for, message_in, udp_packet_in};
+use crate::reading::{datagram_of, frame_for, message_in, packet_of, segment_of};
 use crate::reset::{is_reset, reset_of};
 use crate::route::{Way, datagram_way, packet_way};
-use crate::taken::{Fate, Taken};
+use crate::taken::{Fate, Taken, whole_segment};
 use nb_ether::{ARP_REPLY, ARP_REQUEST, Arp, EtherFrame};
 use nb_ipv4::{ECHO_REPLY, Echo, PROTO_ICMP, PROTO_TCP, PROTO_UDP, Packet, Udp};
 use nb_tcpseg::Segment;
@@ -139,8 +139,11 @@ impl Stack {
         let Some(read) = self.frame_for(frame) else {
             return Taken::Drop;
         };
-        match udp_packet_in(read) {
-            Some(packet) => self.take_datagram(read, packet),
+        if let Some(packet) = packet_of(PROTO_UDP, read) {
+            return self.take_datagram(read, packet);
+        }
+        match self.bound_segment(read) {
+            Some(taken) => taken,
             None => self.take_any(frame, reply),
         }
     }
@@ -200,6 +203,17 @@ impl Stack {
         ensures none { IfNone result (BringsNone self.now.address (frame_of frame.entry)) }
     {
         datagram_of(self.address, frame, packet)
+    }
+
+    // A segment for a port that is bound goes by itself too; of every other frame None is returned.
+    #[inline(always)]
+    fn bound_segment<'a>(&self, frame: EtherFrame<'a>) -> Option<Taken<'a>>
+        ensures { (put : List ℕ) → IfSome result
+            (λ t. TakesAddressed self.now (frame_of frame.entry) (outcome t) put put self.now) }
+    {
+        let (packet, tcp) = segment_of(self.address, frame)?;
+        let to = self.ports.owner(PROTO_TCP, tcp.dst_port)?;
+        Some(whole_segment(to, packet, tcp.src_port))
     }
 
     // Of every other frame the message is made first.
@@ -463,14 +477,7 @@ impl Stack {
             (segment from (packet_parts packet.entry) (segment_parts tcp.now))) }
     {
         match self.ports.owner(PROTO_TCP, tcp.dst_port) {
-            Some(to) => Taken::To {
-                to,
-                src: packet.src,
-                dst: packet.dst,
-                proto: PROTO_TCP,
-                src_port: tcp.src_port,
-                body: packet.body,
-            },
+            Some(to) => whole_segment(to, packet, tcp.src_port),
             None if is_reset(tcp) => Taken::Drop,
             None => {
                 put_header(self.back(from, &packet), &reset_of(tcp), reply);

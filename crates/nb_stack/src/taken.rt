@@ -1,3 +1,7 @@
+ghost use Rattle.std.specs.Prelude.{◌≡◌};
+ghost use Rattle.nb_stack.specs.Takes.{outcome, handed};
+
+use nb_ipv4::{PROTO_TCP, Packet};
 use nb_wire::Ip4;
 
 /// What became of a frame that was taken.
@@ -35,4 +39,20 @@ pub enum Fate {
     Asked,
     /// The device is down, there is no address, or no gateway for other nets. Nothing was put.
     NoRoute,
+}
+
+// A segment is handed on whole, to who bound its port.
+#[inline(always)]
+pub(crate) fn whole_segment<'a>(to: u64, packet: Packet<'a>, src_port: u16) -> Taken<'a>
+    ensures { outcome result ≡
+        handed to packet.entry.src packet.entry.dst 6 src_port packet.entry.body.now }
+{
+    Taken::To {
+        to,
+        src: packet.src,
+        dst: packet.dst,
+        proto: PROTO_TCP,
+        src_port,
+        body: packet.body,
+    }
 }
