@@ -1,7 +1,7 @@
 -- A segment whose checksum is put into its place, and the sum of the words before its options.
-use Rattle.std.proofs.Common.{◌≡◌, ℕ, ◌+◌, ◌*◌, ◌<◌, ◌^◌, List, ◌∷◌, ◌++◌, length, get_or, take, drop, refl, sym, ap, subst, ◌∙◌, append_assoc, sum, arith}
+use Rattle.std.proofs.Common.{◌≡◌, ℕ, ◌+◌, ◌*◌, ◌<◌, ◌≤◌, ◌^◌, List, [], ◌∷◌, ◌++◌, length, get_or, take, drop, refl, sym, ap, subst, ◌∙◌, append-nil, append_assoc, sum, arith}
 use Rattle.std.specs.Int.{w16, w32, to_be_bytes}
-use Rattle.std.proofs.lemmas.List.{length-append, take-append-le, drop-append-le}
+use Rattle.std.proofs.lemmas.List.{length-append, take_all, take-append-le, drop-append-le}
 use Rattle.nb_wire.specs.Checksum.{words, checksum, HasSum}
 use Rattle.nb_wire.specs.declared.address.Ip4.{Ip4}
 use Rattle.nb_wire.proofs.BytesLaws.{IsBytes}
@@ -17,7 +17,7 @@ unsummed fixed = elements 16 0 fixed ++ 0 ∷ 0 ∷ elements 2 18 fixed
 unsummed_is : (fixed : List ℕ) → length fixed ≡ 20 → unsummed fixed ≡ without_checksum fixed
 unsummed_is fixed len = ap (λ (x : List ℕ). take 16 x ++ 0 ∷ 0 ∷ drop 18 x) (elements-drop 20 0 fixed len)
 
-pseudo_has_sum : (src dst : Ip4) (len n : ℕ) → len < 2 ^ 16 → n ≡ sum (words (to_be_bytes w32 src.0)) + sum (words (to_be_bytes w32 dst.0)) + 6 + len → HasSum (tcp_pseudo_header src dst len) n
+pub pseudo_has_sum : (src dst : Ip4) (len n : ℕ) → len < 2 ^ 16 → n ≡ sum (words (to_be_bytes w32 src.0)) + sum (words (to_be_bytes w32 dst.0)) + 6 + len → HasSum (tcp_pseudo_header src dst len) n
 unfolding tcp_pseudo_header
 pseudo_has_sum src dst len n room is =
     let e : n ≡ sum (words (tcp_pseudo_header src dst len)) = omega (arith, is, room) in
@@ -46,17 +46,32 @@ header_has_sum fixed fits len =
       same = same_of e;
     })
 
-pub covered_has_sum : (src dst : Ip4) (len m n : ℕ) (fixed : List ℕ) → len < 2 ^ 16 → IsBytes fixed → length fixed ≡ 20 → m ≡ sum (words (to_be_bytes w32 src.0)) + sum (words (to_be_bytes w32 dst.0)) + 6 + len → n ≡ m + header_words fixed → HasSum (tcp_pseudo_header src dst len ++ without_checksum fixed) n
-covered_has_sum src dst len m n fixed room fits twenty m_is n_is =
-    let pseudo = pseudo_has_sum src dst len m room m_is in
+pub covered_has_sum : (src dst : Ip4) (len m n : ℕ) (fixed : List ℕ) → HasSum (tcp_pseudo_header src dst len) m → IsBytes fixed → length fixed ≡ 20 → n ≡ m + header_words fixed → HasSum (tcp_pseudo_header src dst len ++ without_checksum fixed) n
+covered_has_sum src dst len m n fixed pseudo fits twenty is =
     let header = header_has_sum fixed fits twenty in
     let front = tcp_pseudo_header src dst len in
     let P : ℕ → Type 0 = λ k. HasSum (front ++ without_checksum fixed) k in
-    subst P (sym n_is) (record {
+    subst P (sym is) (record {
       even = omega (arith, length-append front (without_checksum fixed), pseudo.even, header.even);
       fits = IsBytes-append front (without_checksum fixed) pseudo.fits header.fits;
       same = SameSum-parts front (without_checksum fixed) m (header_words fixed) pseudo.even pseudo.same header.same;
     })
+
+-- a segment that is a header alone, with its checksum
+pub header_whole : (src dst : Ip4) (fixed unsummed : List ℕ) (field : ℕ) → length fixed ≡ 20 → unsummed ≡ take 16 fixed ++ to_be_bytes w16 0 ++ drop 18 fixed → field ≡ checksum (tcp_pseudo_header src dst 20 ++ (unsummed ++ [])) → take 16 fixed ++ to_be_bytes w16 field ++ drop 18 fixed ≡ with_checksum src dst fixed
+unfolding with_checksum
+header_whole src dst fixed unsummed field twenty is field_is =
+    let without : unsummed ++ [] ≡ without_checksum fixed = append-nil unsummed ∙ is ∙ append_assoc (take 16 fixed) (0 ∷ 0 ∷ []) (drop 18 fixed) in
+    let sum_is : field ≡ checksum_of src dst fixed =
+    field_is
+    ∙ ap (λ (x : List ℕ). checksum (tcp_pseudo_header src dst 20 ++ x)) without
+    ∙ ap (λ (n : ℕ). checksum (tcp_pseudo_header src dst n ++ without_checksum fixed)) (sym twenty) in
+    ap (λ (n : ℕ). take 16 fixed ++ to_be_bytes w16 n ++ drop 18 fixed) sum_is
+
+-- a header in as many bytes as it has is all of them
+pub header_alone : (fixed first second : List ℕ) → fixed ≡ take 20 first → 20 ≤ length first → length first + length second ≡ 20 → fixed ≡ first ++ second
+header_alone fixed first [] is least twenty = is ∙ take_all 20 first (omega (arith, twenty)) ∙ sym (append-nil first)
+header_alone fixed first (x ∷ second) is least twenty = absurd (omega (arith, twenty, least))
 
 -- a header with its checksum, and what follows it
 pub segment_whole : (src dst : Ip4) (fixed options second first head : List ℕ) (field len : ℕ) → length fixed ≡ 20 → first ≡ fixed ++ options → head ≡ take 16 fixed ++ to_be_bytes w16 field ++ drop 18 fixed → len ≡ length (first ++ second) → field ≡ checksum ((tcp_pseudo_header src dst len ++ without_checksum fixed) ++ (options ++ second)) → head ++ (options ++ second) ≡ with_checksum src dst (first ++ second)

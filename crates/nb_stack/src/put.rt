@@ -1,6 +1,6 @@
 //! The frames that are put, part after part, into the room that is given.
 
-ghost use Rattle.std.specs.Prelude.{◌≡◌, ℕ, ◌+◌, ◌*◌, ◌%◌, ◌<◌, ◌≤◌, List, ◌++◌, None, length, take, drop, slice_index};
+ghost use Rattle.std.specs.Prelude.{◌≡◌, ℕ, ◌+◌, ◌*◌, ◌%◌, ◌<◌, ◌≤◌, ◌^◌, List, ◌++◌, None, length, take, drop, slice_index};
 ghost use Rattle.std.specs.Int.{w16, to_be_bytes};
 ghost use Rattle.nb_wire.specs.Checksum.{HasSum};
 ghost use Rattle.nb_ipv4.specs.UdpText.{sent_udp, sent_datagram};
@@ -219,9 +219,61 @@ pub(crate) fn put_echo(
     put_packet(ends, PROTO_ICMP, &head, first, second, out)
 }
 
-// Puts the segment that these bytes are but for its checksum. Its header lies in `first`.
-#[inline(never)]
+// Puts the segment that these bytes are but for its checksum. Its header lies in `first`. A header alone,
+// as most acknowledgements are, goes by itself, since sums and copies of a known length cost less.
+#[inline(always)]
 fn put_segment(ends: Endpoints, first: &[u8], second: &[u8], out: &mut Out<'_>)
+    requires whole { 20 ≤ length first.now }
+    requires even { length first.now % 2 ≡ 0 }
+    requires short { length first.now + length second.now ≤ 1480 }
+    requires room { 1522 ≤ out.old.left }
+    ensures put { let segment = with_checksum ends.from ends.to (first.now ++ second.now) in
+        out.new.written ≡ out.old.written ++ packet_between ends 6 segment }
+    ensures size { let segment = with_checksum ends.from ends.to (first.now ++ second.now) in
+        IsFrameSize (length (packet_between ends 6 segment)) }
+{
+    match first.first_chunk::<20>() {
+        Some(fixed) if first.len() + second.len() == 20 => put_short_segment(ends, *fixed, out),
+        _ => put_long_segment(ends, first, second, out),
+    }
+}
+
+#[inline(always)]
+fn put_short_segment(ends: Endpoints, fixed: [u8; 20], out: &mut Out<'_>)
+    requires room { 1522 ≤ out.old.left }
+    ensures put { out.new.written
+        ≡ out.old.written ++ packet_between ends 6 (with_checksum ends.from ends.to fixed) }
+    ensures size { IsFrameSize
+        (length (packet_between ends 6 (with_checksum ends.from ends.to fixed))) }
+{
+    let head = with_sum(ends.from, ends.to, fixed);
+    let heads = frame_heads(ends, PROTO_TCP, SEGMENT_HEAD);
+    put(&with_header(heads, head), out);
+}
+
+// The header of a segment that is nothing else, with its checksum in its place.
+#[inline(always)]
+fn with_sum(src: Ip4, dst: Ip4, fixed: [u8; 20]) -> [u8; 20]
+    ensures { result ≡ with_checksum src dst fixed }
+{
+    let before = pseudo_sum(src, dst, SEGMENT_HEAD);
+    let sum = sum16_after(before, &header_with(&fixed, 0), &[]);
+    header_with(&fixed, sum)
+}
+
+// These heads and a segment's as one array, which is stored at once.
+#[inline(always)]
+fn with_header(heads: [u8; 34], header: [u8; 20]) -> [u8; 54]
+    ensures { result ≡ heads ++ header }
+{
+    let mut both = [0; 54];
+    *both.last_chunk_mut().unwrap() = header;
+    *both.first_chunk_mut().unwrap() = heads;
+    both
+}
+
+#[inline(never)]
+fn put_long_segment(ends: Endpoints, first: &[u8], second: &[u8], out: &mut Out<'_>)
     requires whole { 20 ≤ length first.now }
     requires even { length first.now % 2 ≡ 0 }
     requires short { length first.now + length second.now ≤ 1480 }
@@ -285,8 +337,16 @@ fn segment_sum(src: Ip4, dst: Ip4, len: u16, fixed: &[u8; 20]) -> u32
     let ports = word(a0, a1) + word(b0, b1);
     let numbers = word(c0, c1) + word(d0, d1) + word(e0, e1) + word(f0, f1);
     let others = word(g0, g1) + word(h0, h1) + word(u0, u1);
-    let pseudo = sum_of_address(src) + sum_of_address(dst) + u32::from(PROTO_TCP) + u32::from(len);
-    pseudo + ports + numbers + others
+    pseudo_sum(src, dst, len) + ports + numbers + others
+}
+
+// The sum of the words of the pseudo-header, which the checksum covers before the segment.
+#[inline(always)]
+fn pseudo_sum(src: Ip4, dst: Ip4, len: u16) -> u32
+    ensures sum { HasSum (tcp_pseudo_header src dst len) result }
+    ensures room { result < 2 ^ 20 }
+{
+    sum_of_address(src) + sum_of_address(dst) + u32::from(PROTO_TCP) + u32::from(len)
 }
 
 #[inline(always)]
