@@ -47,7 +47,8 @@ client over the bridge in C, as in a machine without a disk, and by curl. Each p
 1,500 bytes at most, as the client takes them, and the server's congestion control is Linux's usual one. The
 seconds are those from a process's start to its end, the best of several, in turn; a small file's are those
 that a fetch takes in any case. The client fetches only, as curl does, or also hands off what it fetched, which
-the bridge keeps. It needs root, iproute2, curl, gcc and the built program."""
+the bridge keeps, or fetches the small file first, as a boot does whose script the server sends: then the file's
+seconds are those that it adds. It needs root, iproute2, curl, gcc and the built program."""
 
 
 @dataclass(slots=True)
@@ -81,10 +82,12 @@ class Wire:
         self.bridge, card = (_compiled(name, self.folder) for name in ("bridge", "card"))
         _check(self.network.in_client(str(card), "up", self.network.client_device))
 
-    def by_client(self, way: tuple[str, Status], name: str) -> None:
+    def by_client(self, way: tuple[str, Status], *names: str) -> None:
+        """By a script that fetches these one after another, the last one in this way."""
         command, status = way
         parts, script = self.folder / "parts", self.folder / "boot.ipxe"
-        script.write_text(f"#!ipxe\n{ADDRESS}{command} {_uri(name)}\n")
+        before = "".join(f"imgfetch {_uri(name)}\n" for name in names[:-1])
+        script.write_text(f"#!ipxe\n{ADDRESS}{before}{command} {_uri(names[-1])}\n")
         words = [str(self.bridge), "-i", self.network.client_device, "-d", str(parts), str(script)]
         _check(self.network.in_client(*words, str(self.client)), status)
         kernel = parts / "kernel"
@@ -161,6 +164,7 @@ def measure(wire: Wire, times: int) -> list[Runner]:
     curl = [Runner(f"curl, {name}", partial(wire.by_curl, name)) for name in (SMALL, IMAGE)]
     ours = [Runner(f"the client, {name}", partial(wire.by_client, FETCHES, name)) for name in (SMALL, IMAGE)]
     ours.append(Runner(f"the client, {IMAGE}, handed off", partial(wire.by_client, BOOTS, IMAGE)))
+    ours.append(Runner(f"the client, {SMALL}, then {IMAGE}", partial(wire.by_client, FETCHES, SMALL, IMAGE)))
     for _ in range(times):
         with wire.with_address():
             for one in curl:
@@ -171,13 +175,15 @@ def measure(wire: Wire, times: int) -> list[Runner]:
 
 
 def report(runners: list[Runner], size: int) -> None:
-    small, image, our_small, ours, handed_off = runners
+    small, image, our_small, ours, handed_off, second = runners
     for one in runners:
         print(f"{one.name:30} {one.best:7.3f} s, processor {one.processor:6.3f} s")
     for one, before, beside in ((image, small, image), (ours, our_small, image), (handed_off, our_small, image)):
         more = one.best - before.best
         print(f"{one.name:30} {one.best / beside.best:6.2f} times curl's, {size / one.best / MEGABYTE:7.1f} MB/s; "
               f"over the small file {more / (image.best - small.best):6.2f} times, {size / more / MEGABYTE:7.1f} MB/s")
+    after = second.best - our_small.best
+    print(f"{IMAGE} by the client, after {SMALL} from the same server: {after:.3f} s, {after / image.best:.2f} times curl's")
 
 
 def beside_curl(words: list[str]) -> int:
