@@ -1,5 +1,7 @@
 pub mod RoomSteps
 pub mod RoomPlaces
+pub mod RoomRuns
+pub mod SlotCalls
 pub mod RoomLemmas
 pub mod MarkLemmas
 pub mod SlotLemmas

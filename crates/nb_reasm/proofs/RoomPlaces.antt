@@ -1,27 +1,18 @@
--- Places side by side in memory: they are what an allocator gives and takes back, one is taken out and put in, and a run is seen. Assumes `Logic`.
-use Rattle.std.proofs.Common.{◌≡◌, ℕ, zero, suc, ◌+◌, ◌<◌, ◌≤◌, List, [], ◌∷◌, ◌++◌, Option, Some, None, map, length, take, drop, refl, sym, ap, subst, ◌∙◌, arith}
+-- Places side by side in memory: they are what an allocator gives and takes back, and a run is seen. Assumes `Logic`.
+use Rattle.std.proofs.Common.{◌≡◌, ℕ, zero, suc, ◌+◌, ◌≤◌, List, [], ◌∷◌, ◌++◌, Option, Some, None, map, length, take, drop, refl, sym, ap, subst, ◌∙◌, arith}
 use lib.ListN.{set, length-set, replicate, take-append-drop}
 use seplogic.Ra.Ura.{Ura}
 use base.Fraction.{full_share}
 use mir.Syntax.{w8, ty_int, ty_array}
 use mir.Val.{vint}
-use base.Logic.{ent, sep, id⊢, snd∗, via, mono_r}
-use base.Fml.{Lft, Fml, ftrue, fsep, fat, froom}
+use base.Logic.{ent, id⊢, snd∗, via, mono_r}
+use base.Fml.{Lft, froom}
 use types.Logic.{Logic, sem}
-use types.Kit.{‵, ◌⊛◌, ◌$◌, ◌∵◌, !, qed, by, move, keep, use1, use2, split, rewrite, fsplit, frame, done}
+use types.Kit.{‵, ◌⊛◌, ◌$◌, ◌∵◌, !, qed, by, move, keep, use1, split, rewrite, frame, done}
 use denote.Builtin.{u8}
-use denote.Plain.{uint_out, uint_in}
+use denote.Plain.{uint_out}
 use denote.Slice.{elements_shared}
 use Rattle.nb_reasm.specs.Rooms.{place_owns, places_own, place_lent, places_lent, written_at}
-
-abbrev byte : ℕ → ℕ → ℕ → Fml
-byte b o x = fat full_share (ty_int w8) b o (vint w8 x)
-
--- the places but for the i-th
-abbrev pub besides : ℕ → ℕ → List (Option ℕ) → ℕ → Fml
-besides b o [] i = ftrue
-besides b o (c ∷ cs) zero = places_own b (o + 1) cs
-besides b o (c ∷ cs) (suc i) = fsep (place_owns b o c) (besides b (o + 1) cs i)
 
 module _ {M : Type 1} {𝓤 : Ura M} (𝓛 : Logic 𝓤) (b : ℕ) where
   open 𝓛 use {H}
@@ -42,27 +33,6 @@ module _ {M : Type 1} {𝓤 : Ura M} (𝓛 : Logic 𝓤) (b : ℕ) where
       use1 𝓛 (‵ (froom (ty_int w8) b o)) (emptied o c) $ move ! (1 ∷ []) $
       use1 𝓛 (‵ (froom (ty_array (ty_int w8) (length cs)) b (o + 1))) (to_room cs (o + 1)) $ move ! (1 ∷ []) $ by ! (𝓛.laws.room_cons (ty_int w8) (length cs) b o)
 
-  taken : (cs : List (Option ℕ)) (i o : ℕ) → i < length cs → (at : ℕ) → at ≡ i + o → ent 𝓤 (sem 𝓛 (places_own b o cs)) (sep 𝓤 (H.room (ty_int w8) b at) (sem 𝓛 (besides b o cs i)))
-  taken [] i o l at e = absurd (omega arith)
-  taken (c ∷ cs) zero o l at e = qed 𝓛 (‵ (place_owns b o c) ∷ ‵ (places_own b (o + 1) cs) ∷ []) ∵
-      use1 𝓛 (‵ (froom (ty_int w8) b o)) (emptied o c) $ rewrite ! 0 (λ (k : ℕ). ‵ (froom (ty_int w8) b k)) {x = at} (omega arith) refl $ done !
-  taken (c ∷ cs) (suc i) o l at e = qed 𝓛 (‵ (place_owns b o c) ∷ ‵ (places_own b (o + 1) cs) ∷ []) ∵ move ! (1 ∷ []) $
-      use1 𝓛 (‵ (froom (ty_int w8) b at) ⊛ ‵ (besides b (o + 1) cs i)) (taken cs i (o + 1) (omega arith) at (omega arith)) $ split ! $ frame ! $ move ! (1 ∷ 0 ∷ []) $ done !
-
-  given : (cs : List (Option ℕ)) (i o x : ℕ) → i < length cs → (at : ℕ) → at ≡ i + o → ent 𝓤 (sep 𝓤 (sem 𝓛 (byte b at x)) (sem 𝓛 (besides b o cs i))) (sem 𝓛 (places_own b o (set cs i (Some x))))
-  given [] i o x l at e = absurd (omega arith)
-  given (c ∷ cs) zero o x l at e = qed 𝓛 (‵ (byte b at x) ∷ ‵ (places_own b (o + 1) cs) ∷ []) ∵
-      use1 𝓛 (‵ (place_owns b at (Some x))) (uint_in 𝓛 full_share w8 x b at) $ rewrite ! 0 (λ (k : ℕ). ‵ (place_owns b k (Some x))) {x = o} (omega arith) refl $ done !
-  given (c ∷ cs) (suc i) o x l at e = qed 𝓛 (‵ (byte b at x) ∷ ‵ (besides b o (c ∷ cs) (suc i)) ∷ []) ∵ move ! (1 ∷ []) $ fsplit ! $ move ! (2 ∷ 1 ∷ []) $
-      use2 𝓛 (‵ (places_own b (o + 1) (set cs i (Some x)))) (given cs i (o + 1) x (omega arith) at (omega arith)) $ move ! (1 ∷ 0 ∷ []) $ done !
-
-  module _ (o : ℕ) (cs : List (Option ℕ)) (i : ℕ) (l : i < length cs) where
-    pub place_out : ent 𝓤 (sem 𝓛 (places_own b o cs)) (sep 𝓤 (H.room (ty_int w8) b (i + o)) (sem 𝓛 (besides b o cs i)))
-    place_out = taken cs i o l (i + o) refl
-
-    pub place_in : (x : ℕ) → ent 𝓤 (sep 𝓤 (sem 𝓛 (byte b (i + o) x)) (sem 𝓛 (besides b o cs i))) (sem 𝓛 (places_own b o (set cs i (Some x))))
-    place_in x = given cs i o x l (i + o) refl
-
   module _ (κ : Lft) where
     seen_from : (cs : List (Option ℕ)) (i o at : ℕ) → i ≤ length cs → at ≡ i + o → ent 𝓤 (sem 𝓛 (places_lent b o cs κ)) (sem 𝓛 (places_lent b at (drop i cs) κ))
     seen_from cs zero o at le e = let same : o ≡ at = omega arith in subst (λ (k : ℕ). ent 𝓤 (sem 𝓛 (places_lent b o cs κ)) (sem 𝓛 (places_lent b k cs κ))) same (id⊢ 𝓤 _)
@@ -82,9 +52,3 @@ module _ {M : Type 1} {𝓤 : Ura M} (𝓛 : Logic 𝓤) (b : ℕ) where
 pub written_length : (xs : List ℕ) (cs : List (Option ℕ)) (place : ℕ) → length (written_at cs place xs) ≡ length cs
 written_length [] cs place = refl
 written_length (x ∷ xs) cs place = written_length xs (set cs place (Some x)) (place + 1) ∙ length-set cs place (Some x)
-
-pub drop_all : (xs : List ℕ) (i : ℕ) → length xs ≤ i → drop i xs ≡ []
-drop_all [] zero l = refl
-drop_all [] (suc i) l = refl
-drop_all (x ∷ xs) zero l = absurd (omega arith)
-drop_all (x ∷ xs) (suc i) l = drop_all xs i (omega arith)

@@ -4,8 +4,10 @@
 ghost use Rattle.std.specs.Prelude.{◌≡◌, ℕ, List, Option, None, ◌+◌, ◌^◌, ◌<◌, ◌≤◌, length, map, replicate, IfSome, Some};
 ghost use base.Fml.{ftrue};
 ghost use denote.RawPtr.{Ptr};
+ghost use Rattle.std.specs.Mem.Slots.{slots_len, slots_items, SamePlaces, IsFull};
 ghost use Rattle.nb_reasm.specs.Rooms.{room_type, room_owns, room_lent, written_at, run_of, IsWrittenRun};
 
+use core::slots::Slots;
 use std::alloc::Allocator;
 use std::marker::{Model, PhantomData};
 use std::slice;
@@ -38,6 +40,17 @@ impl<A: Allocator> Model for Lease<A> {
     ghost also_shares = { λ _ _ _. ftrue };
 }
 
+/// The slots with the bytes in them.
+fn filled(mut slots: Slots<u8>, bytes: &[u8]) -> Slots<u8>
+    requires { slots_len slots ≡ length bytes.now }
+    ensures items { slots_items result ≡ bytes.now }
+    ensures full { IsFull result }
+    ensures places { SamePlaces slots result }
+{
+    slots.copy_in(0, bytes);
+    slots
+}
+
 impl Room {
     /// So many places, to none of which a byte was written.
     pub(crate) fn new<A: Allocator>(alloc: &A, size: usize) -> Option<(Room, Lease<A>)>
@@ -58,15 +71,10 @@ impl Room {
         requires { place + length bytes.now ≤ length self.old.bytes }
         ensures { (self.new.at ≡ self.old.at) × (self.new.bytes ≡ written_at self.old.bytes place bytes.now) }
     {
-        let from = bytes.as_ptr();
         let len = bytes.len();
         unsafe {
-            let to = self.at.add(place);
-            let mut i = 0;
-            while i < len {
-                to.add(i).write(from.add(i).read());
-                i += 1;
-            }
+            let slots = Slots::from_raw_parts(self.at.add(place), len);
+            let _parts = filled(slots, bytes).into_raw_parts();
         }
     }
 
