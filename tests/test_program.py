@@ -14,13 +14,6 @@ from tests.replays import can_run, replayed
 
 USAGE = "usage: netboot replay IN OUT | live HOST:PORT | lab N\n"
 MOST_IMAGES = 64
-RUNS = ("first", "again")
-
-
-def lab(images: int, run: str) -> str:
-    """The name of the case of a run in a lab."""
-    return f"lab_{images}_{run}"
-
 
 # words of no form
 INVALID = {
@@ -34,14 +27,6 @@ INVALID = {
     "lab_in_capitals": ["LAB", "2"],
 }
 
-# recordings, and words
-INPUTS = {"hello": made.HELLO_INPUT, "empty": b""}
-WORDS = {
-    "missing": ["replay", "/none/in", "/none/out"],
-    **INVALID,
-    **{lab(images, run): ["lab", str(images)] for images in range(1, MOST_IMAGES + 1) for run in RUNS},
-}
-
 # What images in a lab come to. Two are worked by hand in crates/nb_labrun_tests. In record 13 a third one is asked for; its
 # frames and tries go on from there. Record 14 is the servers' frame 10, which acknowledges the FIN of a connection that has
 # ended, and is reset. Frame 11, the options, comes twice: each is acknowledged, and only the first is a try. Block 1 is frame
@@ -51,6 +36,14 @@ WORDS = {
 SUMMARIES = {
     2: "images 2\nbytes 2977\nrecords 13\nframes 12\ntries 6\nstatus 3\n",
     3: "images 3\nbytes 5931\nrecords 26\nframes 22\ntries 12\nstatus 3\n",
+}
+
+# recordings, and words
+INPUTS = {"hello": made.HELLO_INPUT, "empty": b""}
+WORDS = {
+    "missing": ["replay", "/none/in", "/none/out"],
+    **INVALID,
+    **{f"lab_{images}": ["lab", str(images)] for images in SUMMARIES},
 }
 
 
@@ -77,22 +70,10 @@ class Program(unittest.TestCase):
             with self.subTest(case):
                 self.ended(case, 2, USAGE, None)
 
-    def test_labs_by_hand(self) -> None:
+    def test_labs(self) -> None:
         for images, summary in SUMMARIES.items():
-            ran = replayed()[lab(images, "first")]
+            ran = replayed()[f"lab_{images}"]
             self.assertEqual((ran.ending, ran.status, ran.said), ("ended", 3, summary))
-
-    def test_each_lab_twice(self) -> None:
-        """Image i has 1000 + 977 i bytes."""
-        for images in range(1, MOST_IMAGES + 1):
-            with self.subTest(images=images):
-                ran, again = (replayed()[lab(images, run)] for run in RUNS)
-                self.assertEqual(ran, again)
-                self.assertEqual((ran.ending, ran.status), ("ended", 3))
-                names, numbers = zip(*(line.split(" ") for line in ran.said.splitlines()))
-                self.assertEqual(names, ("images", "bytes", "records", "frames", "tries", "status"))
-                size = sum(1000 + 977 * i for i in range(images))
-                self.assertEqual((*numbers[:2], numbers[-1]), (str(images), str(size), "3"))
 
 
 @unittest.skipUnless(is_built(), "the program isn't built")
@@ -104,6 +85,19 @@ class Built(Case):
                 [BUILT, *words], cwd=self.folder, stdout=printed, stderr=subprocess.PIPE, check=False, timeout=60
             )
         return done.returncode, done.stderr.decode().partition("\n")[0] + "\n"
+
+    def test_each_lab_twice(self) -> None:
+        """Image i has 1000 + 977 i bytes."""
+        for images in range(1, MOST_IMAGES + 1):
+            with self.subTest(images=images):
+                words = [BUILT, "lab", str(images)]
+                first, again = (subprocess.run(words, capture_output=True, text=True, check=False) for _ in "12")
+                self.assertEqual((first.returncode, first.stdout, first.stderr), (3, again.stdout, ""))
+                self.assertEqual((again.returncode, again.stderr), (3, ""))
+                names, numbers = zip(*(line.split(" ") for line in first.stdout.splitlines()))
+                self.assertEqual(names, ("images", "bytes", "records", "frames", "tries", "status"))
+                size = sum(1000 + 977 * i for i in range(images))
+                self.assertEqual((*numbers[:2], numbers[-1]), (str(images), str(size), "3"))
 
     def test_a_summary_that_cant_be_written(self) -> None:
         self.assertEqual(self.ends("lab", "2", output=Path("/dev/full")), (8, "netboot: write fault\n"))
