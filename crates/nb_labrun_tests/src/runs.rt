@@ -1,4 +1,4 @@
-use nb_labrun::{Status, lab};
+use nb_labrun::{Status, call, lab};
 use nb_record::{NoMemory, SureLine};
 use std::alloc::Global;
 use std::test::*;
@@ -50,5 +50,34 @@ fn prints_the_same_again(rt: HostRuntime) -> Result<(), Fail> {
     assert_eq!(rt; first.output(), second.output());
     assert!(rt; first.output().starts_with(b"images 64\nbytes 2033632\n"));
     assert!(rt; first.output().ends_with(b"\nstatus 3\n"));
+    Ok(())
+}
+
+/// DONE with the status of a bad record, which stands where there is no START.
+const NO_RECORD: &[u8] = &[0, 0, 0, 2, 0x8d, 6];
+
+/// The status of a call with these words, which writes this to its first line and that to its second.
+fn called(
+    alloc: Global,
+    texts: &[&str],
+    written: &[u8],
+    printed: &[u8],
+) -> Result<Option<Status>, NoMemory> {
+    let words = words_of(alloc, texts)?;
+    let mut line = SureLine::new(alloc, &[], &[], 1000)?;
+    let mut page = SureLine::new(alloc, &[], &[], 1000)?;
+    let status = call(alloc, words.as_slice(), &mut line, &mut page);
+    Ok((line.output() == written && page.output() == printed).then_some(status))
+}
+
+#[test]
+fn runs_each_form(rt: HostRuntime) -> Result<(), Fail> {
+    let alloc = rt.alloc();
+    let lab = called(alloc, &["lab", "1"], &[], ONE)?;
+    assert_eq!(rt; lab, Some(Status::Ended));
+    let replay = called(alloc, &["replay", "in", "out"], NO_RECORD, &[])?;
+    assert_eq!(rt; replay, Some(Status::BadRecord));
+    let none = called(alloc, &["lab", "0"], &[], &[])?;
+    assert_eq!(rt; none, Some(Status::BadWords));
     Ok(())
 }

@@ -16,6 +16,8 @@ pub enum Part {
 pub enum Reason {
     /// The system's own reason.
     System(io::Error),
+    /// Its name isn't UTF-8.
+    NotUtf8,
     /// The output is the input, under this or another name.
     IsInput,
     /// Nothing of a piece was taken.
@@ -45,6 +47,7 @@ impl Display for Reason {
     fn fmt<W: fmt::Write>(&self, f: &mut Formatter<W>) -> fmt::Result {
         match self {
             Reason::System(error) => Display::fmt(error, f),
+            Reason::NotUtf8 => f.write_str("its name is not UTF-8: give it one that is"),
             Reason::IsInput => f.write_str("it is the input itself, which stays as it is"),
             Reason::TookNothing => f.write_str("nothing more is taken"),
             Reason::Unattached => f.write_str("nothing is attached"),

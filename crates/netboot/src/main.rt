@@ -1,7 +1,12 @@
-// The program `netboot`: reads its words, runs the top call over files or a connection, says to standard
-// error why a run could not be made, and ends with the run's status. Begin with `main`; `RealLine` is the
-// trusted edge.
+// The program `netboot`: reads its words, makes the one call over files or a connection and over standard output, says to
+// standard error why a run could not be made, and ends with the run's status. Begin with `main`; `RealLine` is the trusted
+// edge.
 #![tactic(auto)]
+
+ghost use Rattle.std.specs.Prelude.{◌↔◌, map};
+ghost use Rattle.std.specs.String.{string_bytes};
+ghost use Rattle.nb_boot.specs.Complete.{IsBadWords};
+ghost use Rattle.nb_labrun.specs.Words.{AreProgramWords};
 
 mod attached;
 mod fault;
@@ -12,17 +17,18 @@ mod real_line;
 mod trail;
 mod words;
 
+use fault::Part;
 use messages::{HELP, VERSION, explain};
-use nb_boot::{Status, netboot};
-use nb_labrun::lab;
+use nb_boot::Status;
+use nb_labrun::call;
+use nb_record::NoMemory;
 use printer::Printer;
 use real_line::RealLine;
-use std::env::Env;
 use std::fs::Files;
 use std::net::Net;
 use std::process::ExitCode;
 use trail::Place;
-use words::{WordsError, words};
+use words::words;
 
 /// The text that a single word asks for.
 fn asked(words: &[String]) -> Option<&'static str> {
@@ -33,25 +39,29 @@ fn asked(words: &[String]) -> Option<&'static str> {
     }
 }
 
-/// Whether the words are for a lab.
-fn are_for_lab(words: &[String]) -> bool {
-    matches!(words, [word, ..] if word.as_str() == "lab")
+/// The part of a line that the word at a place, from 0, is the name of.
+fn named_part(place: usize) -> Part {
+    if place == 2 {
+        Part::Output
+    } else {
+        Part::Input
+    }
 }
 
-/// Runs the client in a lab, and says how that went.
-fn run_lab<R: Print + Eprint + AllocGlobal>(rt: &R, words: &[String]) -> Status {
-    let mut line = Printer::new(rt);
-    let status = lab(rt.alloc(), words, &mut line);
-    explain(rt, status, words, line.fault(), None);
-    status
-}
-
-/// Runs the top call, and says how that went.
-fn run<R: Files + Net + Eprint + AllocGlobal>(rt: &R, words: &[String]) -> Status {
-    let mut line = RealLine::new(rt);
-    let status = netboot(rt.alloc(), words, &mut line);
+/// Makes the one call with these words, and says how that went. Nothing can be attached where the name of a part isn't UTF-8.
+fn run<R: Files + Net + Print + Eprint + AllocGlobal>(
+    rt: &R,
+    words: &[String],
+    not_utf8: Option<Part>,
+) -> Status
+    ensures { IsBadWords result ↔ (AreProgramWords (map string_bytes words.now) → ⊥) }
+{
+    let mut line = RealLine::new(rt, not_utf8);
+    let mut printed = Printer::new(rt);
+    let status = call(rt.alloc(), words, &mut line, &mut printed);
     line.drain();
-    explain(rt, status, words, line.fault(), refused(status, &line));
+    let fault = line.fault().or(printed.fault());
+    explain(rt, status, words, fault, refused(status, &line));
     status
 }
 
@@ -63,34 +73,25 @@ fn refused<R: Files + Net + AllocGlobal>(status: Status, line: &RealLine<'_, R>)
     line.refused()
 }
 
-/// Says why the words can't be used.
-fn refuse<R: Eprint>(rt: &R, error: WordsError) -> Status {
-    match error {
-        WordsError::NoMemory => {
-            let _ = rt.eprintln("netboot: no memory");
-            Status::NoMemory
-        }
-        WordsError::NotUtf8(number) => {
-            let _ = rt.eprintln("netboot: cannot attach");
-            let _ = eprintln!(rt; "word {number} is not UTF-8: give the file a name that is");
-            Status::AttachFault
-        }
+/// Prints a text, and says how that went.
+fn print<R: Print>(rt: &R, text: &str) -> ExitCode {
+    match rt.println(text) {
+        Ok(()) => ExitCode::SUCCESS,
+        Err(_) => ExitCode::from(Status::WriteFault.number()),
     }
 }
 
 fn main(rt: HostRuntime) -> ExitCode {
     let words = match words(&rt) {
         Ok(words) => words,
-        Err(error) => return ExitCode::from(refuse(&rt, error).number()),
-    };
-    match asked(words.as_slice()) {
-        Some(text) => match rt.println(text) {
-            Ok(()) => ExitCode::SUCCESS,
-            Err(_) => ExitCode::from(Status::WriteFault.number()),
-        },
-        None if are_for_lab(words.as_slice()) => {
-            ExitCode::from(run_lab(&rt, words.as_slice()).number())
+        Err(NoMemory) => {
+            explain(&rt, Status::NoMemory, &[], None, None);
+            return ExitCode::from(Status::NoMemory.number());
         }
-        None => ExitCode::from(run(&rt, words.as_slice()).number()),
+    };
+    let texts = words.texts.as_slice();
+    match asked(texts) {
+        Some(text) => print(&rt, text),
+        None => ExitCode::from(run(&rt, texts, words.not_utf8.map(named_part)).number()),
     }
 }

@@ -1,7 +1,7 @@
 ghost use Rattle.std.specs.Prelude.{◌≡◌, ◌+◌, ◌-◌, ◌^◌, ◌<◌, ◌≤◌, length, min, None, IfOk};
 
 use crate::attached::{Attached, connect, open};
-use crate::fault::Fault;
+use crate::fault::{Fault, Part, Reason};
 use crate::trail::{Place, Trail};
 use nb_record::{Failed, Line, Target};
 use std::fs::Files;
@@ -12,6 +12,8 @@ use std::net::Net;
 #[derive(Drop)]
 pub struct RealLine<'r, R: Files + Net> {
     rt: &'r R,
+    /// The part whose name isn't UTF-8, where one isn't: then nothing can be attached.
+    not_utf8: Option<Part>,
     attached: Attached<R::File, R::Stream>,
     trail: Option<Trail>,
     fault: Option<Fault>,
@@ -35,16 +37,31 @@ fn note(trail: &mut Option<Trail>, piece: &[u8]) {
 }
 
 impl<'r, R: Files + Net + AllocGlobal> RealLine<'r, R> {
-    /// A line that nothing is attached to.
-    pub fn new(rt: &'r R) -> RealLine<'r, R> {
+    /// A line that nothing is attached to. `not_utf8` is a part whose name isn't UTF-8.
+    pub fn new(rt: &'r R, not_utf8: Option<Part>) -> RealLine<'r, R> {
         RealLine {
             rt,
+            not_utf8,
             attached: Attached::Nothing,
             trail: Trail::new(rt.alloc()),
             fault: None,
             attach_faults: 0,
             read_faults: 0,
             write_faults: 0,
+        }
+    }
+
+    /// Opens or connects what a target names.
+    fn open(&self, target: &Target<'_>) -> Result<Attached<R::File, R::Stream>, Fault> {
+        if let Some(part) = self.not_utf8 {
+            return Err(Fault {
+                part,
+                reason: Reason::NotUtf8,
+            });
+        }
+        match target {
+            Target::Files { input, output } => open(self.rt, input, output),
+            Target::Peer(peer) => connect(self.rt, peer),
         }
     }
 
@@ -71,11 +88,7 @@ impl<R: Files + Net + AllocGlobal> Line for RealLine<'_, R> {
     ghost outside = { λ l. record { left = None; taken = None; reads = None; attach_faults = l.attach_faults; read_faults = l.read_faults; write_faults = l.write_faults } };
 
     fn attach(&mut self, target: &Target<'_>) -> Result<(), Failed> {
-        let attached = match target {
-            Target::Files { input, output } => open(self.rt, input, output),
-            Target::Peer(peer) => connect(self.rt, peer),
-        };
-        match attached {
+        match self.open(target) {
             Ok(attached) => {
                 self.attached = attached;
                 Ok(())
