@@ -8,6 +8,7 @@ use arrayvec::ArrayVec;
 use nb_dhcpmsg::{DhcpMsg, has_tag, joined_value, options_within};
 use nb_wire::{Ip4, Mac, Out};
 use std::alloc::{AllocError, Global};
+use std::process::Abort;
 use std::test::Fail;
 
 /// The fields before those for names (RFC 2131, section 2) of an offer in dhcp.pcap, one of Wireshark's sample
@@ -53,19 +54,24 @@ fn read(bytes: &[u8]) -> Result<DhcpMsg<'_>, Fail>
     }
 }
 
+/// The captured offer's fields.
+fn is_captured(rt: &impl Abort, message: &DhcpMsg<'_>) {
+    assert_eq!(rt; (message.op, message.xid, message.kind), (2, 0x3d1d, 2));
+    let hosts = (message.yiaddr, message.chaddr, message.address(54));
+    let mac = Mac([0, 11, 130, 1, 252, 66]);
+    assert_eq!(rt; hosts, (Ip4(0xc0a8_000a), mac, Some(Ip4(0xc0a8_0001))));
+    assert_eq!(rt; message.file(), b"boot".as_slice());
+}
+
 #[test]
 fn a_captured_offer(rt: HostRuntime) -> Result<(), Fail> {
     let bytes = message_of(CAPTURED, CAPTURED_OPTIONS, [b"boot\0more", b""]);
     let message = read(bytes.as_slice())?;
-    assert_eq!(rt; (message.op, message.xid, message.kind), (2, 0x3d1d, 2));
-    assert_eq!(rt; message.yiaddr, Ip4(0xc0a8_000a));
-    assert_eq!(rt; message.chaddr, Mac([0, 11, 130, 1, 252, 66]));
-    assert_eq!(rt; message.address(54), Some(Ip4(0xc0a8_0001)));
-    assert_eq!(rt; message.file(), b"boot".as_slice());
+    is_captured(&rt, &message);
     let mut room = [0; 300];
     let mut out = Out::new(&mut room);
-    assert!(rt; message.write(&mut out).is_ok());
-    assert_eq!(rt; out.written(), bytes.as_slice());
+    let is_written = message.write(&mut out).is_ok();
+    assert!(rt; is_written && out.written() == bytes.as_slice());
     Ok(())
 }
 
@@ -90,16 +96,27 @@ fn is_within(alloc: Global, value: &[u8], tag: u8) -> Result<bool, AllocError> {
     Ok(has_tag(options.as_slice(), tag))
 }
 
+/// The value of a tag, or of a tag within 175, is this.
+fn has_value(
+    rt: &impl Abort,
+    message: &DhcpMsg<'_>,
+    tag: u8,
+    inner: Option<u8>,
+    wanted: &[u8],
+) -> Result<(), Fail> {
+    let value = value_of(message, tag, inner).ok_or("no value")?;
+    assert_eq!(rt; value.as_slice(), wanted, "{tag}");
+    Ok(())
+}
+
 // The overload stands last, without an end mark after it.
 #[test]
 fn an_overloaded_acknowledgement(rt: HostRuntime) -> Result<(), Fail> {
     let names = [b"\xe0\x03fff\xff".as_slice(), b"\xe0\x03sss\xff"];
     let bytes = message_of(OVERLOADED, OVERLOADED_OPTIONS, names);
     let message = read(bytes.as_slice())?;
-    for (tag, inner, wanted) in [(224, None, b"mmmfffsss".as_slice()), (175, Some(190), b"u")] {
-        let value = value_of(&message, tag, inner).ok_or("no value")?;
-        assert_eq!(rt; value.as_slice(), wanted, "{tag}");
-    }
+    has_value(&rt, &message, 224, None, b"mmmfffsss")?;
+    has_value(&rt, &message, 175, Some(190), b"u")?;
     let joined = collected(rt.alloc(), &message, 224)?;
     assert_eq!(rt; joined.as_slice(), b"mmmfffsss".as_slice());
     assert!(rt; is_within(rt.alloc(), b"\xbe\x01u\x00\xbf\x00\xbf\x02x", 191)?);

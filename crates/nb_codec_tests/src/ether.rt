@@ -49,10 +49,11 @@ fn captured_arp(rt: HostRuntime) {
     ];
     for (number, (bytes, dst, arp)) in rows.iter().enumerate() {
         let frame = EtherFrame::read(bytes).expect(&rt, "a frame");
-        assert_eq!(rt; frame.dst, *dst, "row {number}");
-        assert_eq!(rt; frame.src, arp.sha, "row {number}");
-        assert_eq!(rt; frame.kind, KIND_ARP, "row {number}");
-        assert_eq!(rt; Arp::read(frame.body), Some(*arp), "row {number}");
+        assert_eq!(rt;
+            (frame.dst, frame.src, frame.kind, Arp::read(frame.body)),
+            (*dst, arp.sha, KIND_ARP, Some(*arp)),
+            "row {number}"
+        );
     }
 }
 

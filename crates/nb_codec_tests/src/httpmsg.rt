@@ -115,8 +115,8 @@ fn chunked_bodies(rt: HostRuntime) -> Result<(), Fail> {
     for (number, (text, state, body)) in rows.iter().enumerate() {
         for piece in [1, 2, 1000] {
             let (last, bytes) = read(rt.alloc(), text, piece)?;
-            assert_eq!(rt; last, *state, "row {number}");
-            assert_eq!(rt; bytes.as_slice(), *body, "row {number}");
+            let found = (last, bytes.as_slice());
+            assert_eq!(rt; found, (*state, *body), "row {number}");
         }
     }
     Ok(())

@@ -1,5 +1,6 @@
 use nb_ipv4::{ECHO_REPLY, ECHO_REQUEST, Echo, PROTO_ICMP, PROTO_UDP, Packet, Udp};
 use nb_wire::{Ip4, Out};
+use std::process::Abort;
 
 /// Packets as two Linux hosts sent them to each other: a DNS query, the TFTP read request of curl, and
 /// the ICMP message that no port is open for the query, which sets a type of service and may be
@@ -41,8 +42,8 @@ fn captured_packets(rt: HostRuntime) {
     ];
     for (bytes, src, dst, proto) in rows {
         let packet = Packet::read(bytes).expect(&rt, "a packet");
-        assert_eq!(rt; (packet.src, packet.dst, packet.proto), (src, dst, proto));
-        assert_eq!(rt; Some(packet.body), bytes.get(20..));
+        let read = (packet.src, packet.dst, packet.proto, Some(packet.body));
+        assert_eq!(rt; read, (src, dst, proto, bytes.get(20..)));
     }
 }
 
@@ -57,12 +58,17 @@ fn captured_datagrams(rt: HostRuntime) {
             (datagram.src_port, datagram.dst_port),
             (src_port, dst_port)
         );
-        assert!(rt; datagram.body.len() <= 56);
-        let mut room = [0; 64];
-        let mut out = Out::new(&mut room);
-        assert!(rt; datagram.write(CLIENT, SERVER, &mut out).is_ok());
-        assert_eq!(rt; out.written(), body);
+        is_written(&rt, &datagram, body);
     }
+}
+
+/// A datagram of at most 56 bytes is written as these.
+fn is_written(rt: &impl Abort, datagram: &Udp<'_>, bytes: &[u8]) {
+    assert!(rt; datagram.body.len() <= 56);
+    let mut room = [0; 64];
+    let mut out = Out::new(&mut room);
+    assert!(rt; datagram.write(CLIENT, SERVER, &mut out).is_ok());
+    assert_eq!(rt; out.written(), bytes);
 }
 
 /// A header that is a common example of the checksum, 0xb861: identification 0, don't-fragment, time
@@ -102,8 +108,8 @@ fn pings(rt: HostRuntime) {
     ];
     for (bytes, kind, ident, seq, len) in rows {
         let echo = Echo::read(bytes).expect(&rt, "an echo");
-        assert_eq!(rt; (echo.kind, echo.ident, echo.seq), (kind, ident, seq));
-        assert_eq!(rt; echo.body.len(), len);
+        let read = (echo.kind, echo.ident, echo.seq, echo.body.len());
+        assert_eq!(rt; read, (kind, ident, seq, len));
     }
 }
 

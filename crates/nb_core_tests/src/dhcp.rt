@@ -3,7 +3,6 @@ use nb_dhcp::Dhcp;
 use nb_terms::{Acts, Cause};
 use nb_wire::{Ip4, Mac};
 use std::process::Abort;
-use std::test::Fail;
 
 const MAC: Mac = Mac([0x52, 0x54, 0, 0, 0, 1]);
 
@@ -78,35 +77,37 @@ const DISCOVER: &[u8] = b"\x35\x01\x01";
 
 const REQUEST: &[u8] = b"\x35\x01\x03\x36\x04\x0a\x00\x00\x01\x32\x04\x0a\x00\x00\x0d";
 
+/// The offer is asked for.
+fn takes_offer(rt: &impl Abort, dhcp: &mut Dhcp, acts: &mut Acts) {
+    sends(rt, acts, DISCOVER, Some(1), "the start");
+    assert_eq!(rt; first_length(acts), 337);
+    assert!(rt; dhcp.ack().is_none());
+    let offered = message(ANSWERED, OFFERED);
+    dhcp.message(3, SERVER, offered.as_slice(), 10, acts);
+    sends(rt, acts, REQUEST, Some(1), "the offer");
+    assert_eq!(rt; first_length(acts), 349);
+}
+
+/// The acknowledgement ends it.
+fn takes_ack(rt: &impl Abort, dhcp: &mut Dhcp, acts: &mut Acts) {
+    let granted = message(ANSWERED, GRANTED);
+    dhcp.message(4, SERVER, granted.as_slice(), 20, acts);
+    sends(rt, acts, b"", None, "the acknowledgement");
+    let over = Cause {
+        code: 0,
+        a: 0,
+        b: 0,
+    };
+    assert_eq!(rt; acts.over, Some(over));
+    assert_eq!(rt; dhcp.ack(), Some(granted.as_slice()));
+    dhcp.time(100_000, acts);
+    assert_eq!(rt; acts.over, None, "after the end");
+}
+
 #[test]
-fn asks_and_is_granted(rt: HostRuntime) -> Result<(), Fail> {
+fn asks_and_is_granted(rt: HostRuntime) {
     let mut acts = Acts::none();
     let mut dhcp = started(&mut acts);
-    sends(&rt, &acts, DISCOVER, Some(1), "the start");
-    assert_eq!(rt; first_length(&acts), 337);
-    assert!(rt; dhcp.ack().is_none());
-    dhcp.message(
-        3,
-        SERVER,
-        message(ANSWERED, OFFERED).as_slice(),
-        10,
-        &mut acts,
-    );
-    sends(&rt, &acts, REQUEST, Some(1), "the offer");
-    assert_eq!(rt; first_length(&acts), 349);
-    let granted = message(ANSWERED, GRANTED);
-    dhcp.message(4, SERVER, granted.as_slice(), 20, &mut acts);
-    sends(&rt, &acts, b"", None, "the acknowledgement");
-    assert_eq!(rt;
-        acts.over,
-        Some(Cause {
-            code: 0,
-            a: 0,
-            b: 0
-        })
-    );
-    assert_eq!(rt; dhcp.ack(), Some(granted.as_slice()));
-    dhcp.time(100_000, &mut acts);
-    assert_eq!(rt; acts.over, None, "after the end");
-    Ok(())
+    takes_offer(&rt, &mut dhcp, &mut acts);
+    takes_ack(&rt, &mut dhcp, &mut acts);
 }

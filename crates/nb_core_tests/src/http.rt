@@ -139,7 +139,17 @@ fn give(http: &mut Http, bytes: &[u8], acts: &mut Acts, body: &mut Vec<u8>) -> R
 
 /// Reads a stream in pieces of this size, and then its end; shows how it ended as the rows do.
 fn ending(alloc: Global, stream: &[u8], piece: usize) -> Result<Vec<u8>, Fail> {
-    let (mut http, _text) = Http::start(alloc, &target(alloc, 80)?)?;
+    let mut http = started(alloc)?;
+    ending_of(alloc, &mut http, stream, piece)
+}
+
+/// A fetch that was asked for.
+fn started(alloc: Global) -> Result<Http, Fail> {
+    let (http, _text) = Http::start(alloc, &target(alloc, 80)?)?;
+    Ok(http)
+}
+
+fn ending_of(alloc: Global, http: &mut Http, stream: &[u8], piece: usize) -> Result<Vec<u8>, Fail> {
     let mut acts = Acts::none();
     let mut body = Vec::new(alloc);
     let mut rest = stream;
@@ -148,13 +158,13 @@ fn ending(alloc: Global, stream: &[u8], piece: usize) -> Result<Vec<u8>, Fail> {
         if bytes.is_empty() || acts.over.is_some() {
             break;
         }
-        let took = give(&mut http, bytes, &mut acts, &mut body)?;
+        let took = give(http, bytes, &mut acts, &mut body)?;
         rest = rest.get(took..).unwrap_or(b"");
     }
     if acts.over.is_none() {
         http.finish(8, &mut acts);
     }
-    shown(alloc, &http, &acts, body.as_slice())
+    shown(alloc, http, &acts, body.as_slice())
 }
 
 fn shown(alloc: Global, http: &Http, acts: &Acts, body: &[u8]) -> Result<Vec<u8>, Fail> {
@@ -203,10 +213,15 @@ const REQUESTS: [(u16, &[u8], usize); 2] = [
     ),
 ];
 
+fn request(alloc: Global, port: u16) -> Result<Text, Fail> {
+    let (_http, asked) = Http::start(alloc, &target(alloc, port)?)?;
+    Ok(asked)
+}
+
 #[test]
 fn requests(rt: HostRuntime) -> Result<(), Fail> {
     for (port, text, length) in REQUESTS {
-        let (_http, asked) = Http::start(rt.alloc(), &target(rt.alloc(), port)?)?;
+        let asked = request(rt.alloc(), port)?;
         assert_eq!(rt; (asked.as_slice(), asked.len()), (text, length));
     }
     Ok(())
@@ -237,7 +252,7 @@ fn goes_on(http: &mut Http, stream: &[u8], acts: &mut Acts) -> bool {
 #[test]
 fn body_that_a_reset_cuts(rt: HostRuntime) -> Result<(), Fail> {
     for (row, stream) in CUT.iter().enumerate() {
-        let (mut http, _text) = Http::start(rt.alloc(), &target(rt.alloc(), 80)?)?;
+        let mut http = started(rt.alloc())?;
         assert!(rt; goes_on(&mut http, stream, &mut Acts::none()), "row {row}");
     }
     Ok(())

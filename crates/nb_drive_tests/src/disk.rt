@@ -235,21 +235,43 @@ fn state(disk: &Disk) -> &'static [u8] {
     if disk.is_busy() { b"busy" } else { b"idle" }
 }
 
-/// What the last of these words comes to, as the rows show it.
-fn shown(alloc: Global, sent: &str) -> Result<Vec<u8>, Fail> {
-    let (mut disk, first) = Disk::start(alloc, session(alloc)?)?;
+/// Gives a disk these words, and returns the text that it puts last, after this one.
+fn give_all(
+    alloc: Global,
+    disk: &mut Disk,
+    sent: &str,
+    first: Text,
+    acts: &mut Acts,
+) -> Result<Option<Text>, Fail> {
     let mut put = Some(first);
-    let mut acts = Acts::none();
     let mut rec = 0u32;
     for word in sent.split_whitespace() {
         rec = rec.wrapping_add(1);
-        put = give(alloc, &mut disk, word, rec, &mut acts)?;
+        put = give(alloc, disk, word, rec, acts)?;
     }
-    let mut text = put_shown(alloc, &put)?;
-    text.extend_from_slice(give_shown(alloc, &acts)?.as_slice())?;
-    text.extend_from_slice(over_shown(alloc, &acts)?.as_slice())?;
-    text.extend_from_slice(state(&disk))?;
+    Ok(put)
+}
+
+/// What a disk has come to that put this text last, as the rows show it.
+fn shown_of(
+    alloc: Global,
+    disk: &Disk,
+    put: &Option<Text>,
+    acts: &Acts,
+) -> Result<Vec<u8>, AllocError> {
+    let mut text = put_shown(alloc, put)?;
+    text.extend_from_slice(give_shown(alloc, acts)?.as_slice())?;
+    text.extend_from_slice(over_shown(alloc, acts)?.as_slice())?;
+    text.extend_from_slice(state(disk))?;
     Ok(text)
+}
+
+/// What the last of these words comes to, as the rows show it.
+fn shown(alloc: Global, sent: &str) -> Result<Vec<u8>, Fail> {
+    let (mut disk, first) = Disk::start(alloc, session(alloc)?)?;
+    let mut acts = Acts::none();
+    let put = give_all(alloc, &mut disk, sent, first, &mut acts)?;
+    Ok(shown_of(alloc, &disk, &put, &acts)?)
 }
 
 fn agrees(rt: &impl Abort, alloc: Global, row: &str) -> Result<(), Fail> {
@@ -267,23 +289,20 @@ fn sessions(rt: HostRuntime) -> Result<(), Fail> {
     Ok(())
 }
 
-/// A disk whose last block is 0 has one block. What is asked beyond it, or twice, is refused; the stream's end ends it.
-#[test]
-fn one_block(rt: HostRuntime) -> Result<(), Fail> {
-    let alloc = rt.alloc();
-    let (mut disk, _) = Disk::start(alloc, session(alloc)?)?;
+/// A disk is refused what is asked beyond its one block, or twice; the stream's end ends it.
+fn has_one_block(rt: &impl Abort, alloc: Global, disk: &mut Disk) -> Result<(), Fail> {
     let mut acts = Acts::none();
-    let _ = give(alloc, &mut disk, "21,2,0,0", 1, &mut acts)?;
-    let _ = give(alloc, &mut disk, "25,3,0,8,0,200,0", 2, &mut acts)?;
-    let capacity = BlockSource::capacity(&disk);
+    let _ = give(alloc, disk, "21,2,0,0", 1, &mut acts)?;
+    let _ = give(alloc, disk, "25,3,0,8,0,200,0", 2, &mut acts)?;
+    let capacity = BlockSource::capacity(disk);
     assert_eq!(rt; capacity, Some(1));
-    assert!(rt; !BlockSource::is_busy(&disk));
+    assert!(rt; !BlockSource::is_busy(disk));
     for (place, refusal) in [
         (1, Some(ReadRefusal::OutOfDisk)),
         (0, None),
         (0, Some(ReadRefusal::Busy)),
     ] {
-        let found = ask(&mut disk, alloc, place).err();
+        let found = ask(disk, alloc, place).err();
         assert_eq!(rt; found, refusal, "at {place}");
     }
     disk.finish(7, &mut acts);
@@ -295,4 +314,11 @@ fn one_block(rt: HostRuntime) -> Result<(), Fail> {
     assert_eq!(rt; acts.over, Some(broken));
     assert!(rt; disk.has_ended() && disk.capacity() == Some(1));
     Ok(())
+}
+
+/// A disk whose last block is 0 has one block.
+#[test]
+fn one_block(rt: HostRuntime) -> Result<(), Fail> {
+    let (mut disk, _) = Disk::start(rt.alloc(), session(rt.alloc())?)?;
+    has_one_block(&rt, rt.alloc(), &mut disk)
 }

@@ -72,11 +72,33 @@ const ROWS: [(usize, &[u8]); 7] = [
     (336, b"iqn.x:i\0h\0iqn.x:t\0"),
 ];
 
+/// The table of one disk.
+fn written(alloc: Global) -> Result<Text, NoMemory> {
+    let said = info(alloc, disk(alloc, b"iqn.x:t", &[])?)?;
+    table(alloc, &said)
+}
+
+/// The initiator's name by a table, where it is one.
+fn initiator(alloc: Global, bytes: &[u8]) -> Result<Option<Text>, NoMemory> {
+    match read_table(bytes) {
+        Some(view) => Ok(Some(view.info(alloc)?.initiator)),
+        None => Ok(None),
+    }
+}
+
+/// The bytes, each of them one more.
+fn changed(alloc: Global, bytes: &[u8]) -> Result<Vec<u8>, NoMemory> {
+    let mut changed = Vec::from_slice(alloc, bytes)?;
+    for byte in changed.iter_mut() {
+        *byte = byte.wrapping_add(1);
+    }
+    Ok(changed)
+}
+
 // It is read back; a table of which a byte is changed, or the last is missing, is none.
 #[test]
 fn one_disk(rt: HostRuntime) -> Result<(), NoMemory> {
-    let said = info(rt.alloc(), disk(rt.alloc(), b"iqn.x:t", &[])?)?;
-    let written = table(rt.alloc(), &said)?;
+    let written = written(rt.alloc())?;
     let bytes = written.as_slice();
     assert_eq!(rt; bytes.len(), 354);
     for (at, wanted) in ROWS {
@@ -85,15 +107,9 @@ fn one_disk(rt: HostRuntime) -> Result<(), NoMemory> {
             "at {at}"
         );
     }
-    let view = read_table(bytes).expect(&rt, "a table");
-    assert_eq!(rt;
-        view.info(rt.alloc())?.initiator.as_slice(),
-        b"iqn.x:i".as_slice()
-    );
-    let mut changed = Vec::from_slice(rt.alloc(), bytes)?;
-    for byte in changed.iter_mut() {
-        *byte = byte.wrapping_add(1);
-    }
+    let read = initiator(rt.alloc(), bytes)?.expect(&rt, "a table");
+    assert_eq!(rt; read.as_slice(), b"iqn.x:i".as_slice());
+    let changed = changed(rt.alloc(), bytes)?;
     assert!(rt; read_table(changed.as_slice()).is_none());
     assert!(rt; read_table(bytes.split_at(bytes.len() / 2).0).is_none());
     Ok(())

@@ -1,5 +1,9 @@
+ghost use Rattle.nb_iscsipdu.specs.PduTexts.{IsPdu, pdu_parts};
+
 use nb_iscsipdu::*;
 use nb_wire::Out;
+use std::alloc::Global;
+use std::process::Abort;
 use std::test::Fail;
 
 /// RFC 7143, section 6.1: names and values are compared with case, and the first text of a name counts.
@@ -22,7 +26,37 @@ fn keys(rt: HostRuntime) -> Result<(), Fail> {
     Ok(())
 }
 
-/// RFC 7143, sections 11.3, 11.12 and 11.18: each request by hand, laid out as the standard does.
+/// RFC 7143, sections 11.12, 11.3 and 11.18: a login's request, a command and a NOP-Out by hand, laid out as the standard does.
+const LOGIN: &[u8] =
+    b"\x43\x87\0\0\0\0\0\x09\x80\x01\x02\x03\0\0\0\0\0\0\0\x01\0\0\0\0\0\0\0\x01\x0a\x0b\x0c\x0d\0\0\0\0\0\0\0\0\0\0\0\0\0\0\0\0A=b\0C=d\0\0\0\0\0";
+
+const COMMAND: &[u8] =
+    b"\x01\xc1\0\0\0\0\0\0\0\x01\0\0\0\0\0\0\0\0\0\x04\0\0\x04\0\0\0\0\x03\0\0\0\x05\x28\0\x01\x02\x03\x04\0\0\x02\0\0\0\0\0\0\0";
+
+const NOP: &[u8] =
+    b"\x40\x80\0\0\0\0\0\0\0\x01\0\0\0\0\0\0\xff\xff\xff\xff\0\0\0\x07\0\0\0\x04\0\0\0\x06\0\0\0\0\0\0\0\0\0\0\0\0\0\0\0\0";
+
+/// A PDU is laid out as these bytes, in a text and in room that is lent, and its data are read from them.
+fn is_laid_out(
+    rt: &impl Abort,
+    alloc: Global,
+    pdu: &Pdu<'_>,
+    bytes: &[u8],
+    what: &str,
+) -> Result<(), Fail>
+    requires { IsPdu (pdu_parts pdu.now) }
+{
+    let text = pdu.text(alloc)?;
+    assert_eq!(rt; text.as_slice(), bytes, "text {what}");
+    let mut room = [0; 64];
+    let mut out = Out::new(&mut room);
+    assert!(rt; pdu.write(&mut out).is_ok(), "room {what}");
+    assert_eq!(rt; out.written(), bytes, "written {what}");
+    let read = Pdu::read(bytes).expect(rt, "a PDU");
+    assert_eq!(rt; read.seg, pdu.seg, "read {what}");
+    Ok(())
+}
+
 #[test]
 fn requests(rt: HostRuntime) -> Result<(), Fail> {
     let login = LoginRequest {
@@ -50,31 +84,9 @@ fn requests(rt: HostRuntime) -> Result<(), Fail> {
         cmd_sn: 4,
         exp_stat_sn: 6,
     };
-    let rows: [(Pdu, &[u8]); 3] = [
-        (
-            login.pdu(),
-            b"\x43\x87\0\0\0\0\0\x09\x80\x01\x02\x03\0\0\0\0\0\0\0\x01\0\0\0\0\0\0\0\x01\x0a\x0b\x0c\x0d\0\0\0\0\0\0\0\0\0\0\0\0\0\0\0\0A=b\0C=d\0\0\0\0\0",
-        ),
-        (
-            read.pdu(),
-            b"\x01\xc1\0\0\0\0\0\0\0\x01\0\0\0\0\0\0\0\0\0\x04\0\0\x04\0\0\0\0\x03\0\0\0\x05\x28\0\x01\x02\x03\x04\0\0\x02\0\0\0\0\0\0\0",
-        ),
-        (
-            nop.pdu(),
-            b"\x40\x80\0\0\0\0\0\0\0\x01\0\0\0\0\0\0\xff\xff\xff\xff\0\0\0\x07\0\0\0\x04\0\0\0\x06\0\0\0\0\0\0\0\0\0\0\0\0\0\0\0\0",
-        ),
-    ];
-    for (row, (pdu, bytes)) in rows.iter().enumerate() {
-        let text = pdu.text(rt.alloc())?;
-        assert_eq!(rt; text.as_slice(), *bytes, "text {row}");
-        let mut room = [0; 64];
-        let mut out = Out::new(&mut room);
-        assert!(rt; pdu.write(&mut out).is_ok(), "room {row}");
-        assert_eq!(rt; out.written(), *bytes, "written {row}");
-        let read = Pdu::read(bytes).expect(&rt, "a PDU");
-        assert_eq!(rt; read.seg, pdu.seg, "read {row}");
-    }
-    Ok(())
+    is_laid_out(&rt, rt.alloc(), &login.pdu(), LOGIN, "login")?;
+    is_laid_out(&rt, rt.alloc(), &read.pdu(), COMMAND, "command")?;
+    is_laid_out(&rt, rt.alloc(), &nop.pdu(), NOP, "NOP-Out")
 }
 
 /// What an answer is, in one letter, and its tag, status and number as far as it has them.
@@ -124,6 +136,59 @@ fn next_piece(rest: &[u8], most: usize) -> (&[u8], &[u8]) {
     rest[..len].split_at(len / 2)
 }
 
+/// Feeds a stream in pieces of this size until no PDU begins with what comes: how many bytes followed each PDU, and how
+/// many bytes of data it had; and how many bytes were left.
+fn fed(
+    rt: &impl Abort,
+    pdus: &mut Pdus,
+    stream: &[u8],
+    piece: usize,
+    seen: &mut Vec<(usize, usize)>,
+) -> Result<usize, Fail> {
+    let mut rest = stream;
+    for _ in 0..250usize {
+        let (first, second) = next_piece(rest, piece);
+        assert!(rt; first.len() <= 112 && second.len() <= 112);
+        let (took, state) = pdus.feed(first, second);
+        rest = rest
+            .get(took as usize..)
+            .expect(rt, "no more than there is");
+        if state == PduState::One {
+            let pdu = pdus.pdu().expect(rt, "a PDU");
+            seen.push((rest.len(), pdu.seg.len()))?;
+        }
+        if state == PduState::Broken {
+            break;
+        }
+    }
+    Ok(rest.len())
+}
+
+/// The stream comes in pieces of this size. Once no PDU begins, nothing more is taken.
+fn comes_in_pieces(
+    rt: &impl Abort,
+    alloc: Global,
+    pdus: &mut Pdus,
+    stream: &[u8],
+    piece: usize,
+) -> Result<(), Fail> {
+    let mut seen = Vec::new(alloc);
+    let left = fed(rt, pdus, stream, piece, &mut seen)?;
+    assert_eq!(rt;
+        seen.as_slice(),
+        [(56, 5), (8, 0)].as_slice(),
+        "pieces of {piece}"
+    );
+    assert_eq!(rt; left, 0, "pieces of {piece}");
+    assert_eq!(rt;
+        pdus.feed(b"more", b""),
+        (0, PduState::Broken),
+        "pieces of {piece}"
+    );
+    assert!(rt; pdus.pdu().is_none(), "pieces of {piece}");
+    Ok(())
+}
+
 /// Two PDUs with data of 5 and 0 bytes, and one that is refused at its eighth byte, in pieces of each length.
 #[test]
 fn streams(rt: HostRuntime) -> Result<(), Fail> {
@@ -134,35 +199,7 @@ fn streams(rt: HostRuntime) -> Result<(), Fail> {
     stream[104 + 4] = 1;
     for piece in 1..113usize {
         let mut pdus = Pdus::new(rt.alloc())?;
-        let mut seen = Vec::new(rt.alloc());
-        let mut rest: &[u8] = &stream;
-        for _ in 0..250usize {
-            let (first, second) = next_piece(rest, piece);
-            assert!(rt; first.len() <= 112 && second.len() <= 112);
-            let (took, state) = pdus.feed(first, second);
-            rest = rest
-                .get(took as usize..)
-                .expect(&rt, "no more than there is");
-            if state == PduState::One {
-                let pdu = pdus.pdu().expect(&rt, "a PDU");
-                seen.push((rest.len(), pdu.seg.len()))?;
-            }
-            if state == PduState::Broken {
-                break;
-            }
-        }
-        assert_eq!(rt;
-            seen.as_slice(),
-            [(56, 5), (8, 0)].as_slice(),
-            "pieces of {piece}"
-        );
-        assert_eq!(rt; rest.len(), 0, "pieces of {piece}");
-        assert_eq!(rt;
-            pdus.feed(b"more", b""),
-            (0, PduState::Broken),
-            "pieces of {piece}"
-        );
-        assert!(rt; pdus.pdu().is_none(), "pieces of {piece}");
+        comes_in_pieces(&rt, rt.alloc(), &mut pdus, &stream, piece)?;
     }
     Ok(())
 }

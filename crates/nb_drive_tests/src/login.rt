@@ -233,12 +233,28 @@ fn end(alloc: Global, login: &mut Login, last: &Pdu<'_>) -> Result<Vec<u8>, Fail
 
 /// How a login ends that gets the answers of these letters and then the last one, with all the sessions that it
 /// hands out.
+fn end_of(
+    alloc: Global,
+    login: &mut Login,
+    letters: &str,
+    last: &Pdu<'_>,
+) -> Result<Vec<u8>, Fail> {
+    go(alloc, login, letters)?;
+    let mut text = end(alloc, login, last)?;
+    text.extend_from_slice(session(alloc, login)?.as_slice())?;
+    Ok(text)
+}
+
+/// The same of a login for which this is set.
 fn end_after(alloc: Global, who: &str, letters: &str, last: &Pdu<'_>) -> Result<Vec<u8>, Fail> {
     let (mut login, _) = Login::start(alloc, info(alloc, names(who))?)?;
-    go(alloc, &mut login, letters)?;
-    let mut text = end(alloc, &mut login, last)?;
-    text.extend_from_slice(session(alloc, &mut login)?.as_slice())?;
-    Ok(text)
+    end_of(alloc, &mut login, letters, last)
+}
+
+/// The first request of a login for which this is set.
+fn first_request(alloc: Global, names: Names) -> Result<Text, Fail> {
+    let (_, put) = Login::start(alloc, info(alloc, names)?)?;
+    Ok(put)
 }
 
 #[test]
@@ -253,7 +269,7 @@ fn begins_with_the_names(rt: HostRuntime) -> Result<(), Fail> {
             b"InitiatorName=iqn.x:i\0TargetName=iqn.x:t\0SessionType=Normal\0AuthMethod=CHAP,None\0",
         ),
     ] {
-        let (_, put) = Login::start(rt.alloc(), info(rt.alloc(), names)?)?;
+        let put = first_request(rt.alloc(), names)?;
         let wanted = request(rt.alloc(), 0x81, 0, keys)?;
         assert!(rt; put.as_slice() == wanted.as_slice(), "{names:?}");
     }
@@ -275,15 +291,19 @@ const ZEROS: [Zeros; 5] = [
     ([b"i", b"t", b"u", b"s\0s"], None),
 ];
 
+/// Why a login with these names, an initiator's, a target's, a user and a secret, is refused.
+fn refusal_of(alloc: Global, names: Names) -> Result<Option<LoginRefusal>, AllocError> {
+    let [initiator, target, user, secret] = names;
+    let mut info = info(alloc, [user, secret, b"", b""])?;
+    info.initiator = text(alloc, initiator)?;
+    info.target = text(alloc, target)?;
+    Ok(Login::start(alloc, info).err())
+}
+
 #[test]
 fn refuses_zero_bytes(rt: HostRuntime) -> Result<(), Fail> {
-    let alloc = rt.alloc();
     for (names, expected) in ZEROS {
-        let [initiator, target, user, secret] = names;
-        let mut info = info(alloc, [user, secret, b"", b""])?;
-        info.initiator = text(alloc, initiator)?;
-        info.target = text(alloc, target)?;
-        let refusal = Login::start(alloc, info).err();
+        let refusal = refusal_of(rt.alloc(), names)?;
         let name = expected.map(|(name, _)| LoginRefusal::ZeroByte(name));
         assert_eq!(rt; refusal, name, "{names:?}");
         let code = refusal.map(|refusal| refusal.cause().code);

@@ -145,26 +145,40 @@ struct Drive {
 
 /// A drive that was asked for.
 fn opened(alloc: Global, setting: Setting) -> Result<Drive, Fail> {
-    let mut tape = Tape {
-        closed: Vec::new(alloc),
-        sent: Vec::new(alloc),
+    let mut drive = Drive {
+        graph: Graph::new(alloc, 3)?,
+        tape: Tape {
+            closed: Vec::new(alloc),
+            sent: Vec::new(alloc),
+        },
     };
-    let mut graph = Graph::new(alloc, 3)?;
+    make(alloc, &mut drive.graph, &mut drive.tape)?;
+    begin(alloc, &mut drive, setting)?;
+    Ok(drive)
+}
+
+/// The three objects are made, and joined.
+fn make(alloc: Global, graph: &mut Graph<Rack>, tape: &mut Tape) -> Result<(), Fail> {
     let user = Taker {
         blocks: Vec::new(alloc),
         answers: Vec::new(alloc),
     };
-    graph.make(Rack::Taker(user), &mut tape).ok().ok_or("full")?;
+    graph.make(Rack::Taker(user), tape).ok().ok_or("full")?;
     let unit = Rack::unit(alloc)?;
-    graph.make(unit, &mut tape).ok().ok_or("full")?;
+    graph.make(unit, tape).ok().ok_or("full")?;
     let session = Rack::session(alloc)?;
-    graph.make(session, &mut tape).ok().ok_or("full")?;
-    join(&mut graph, &mut tape, USER, UNIT)?;
-    join(&mut graph, &mut tape, UNIT, SESSION)?;
+    graph.make(session, tape).ok().ok_or("full")?;
+    join(graph, tape, USER, UNIT)?;
+    join(graph, tape, UNIT, SESSION)
+}
+
+/// The user asks for the drive.
+fn begin(alloc: Global, drive: &mut Drive, setting: Setting) -> Result<(), Fail> {
     let bytes = asking(alloc, setting)?;
     let begin = message(BEGIN, 0, 0, bytes.as_slice());
-    let _ = graph.down(Port { obj: USER, slot: 0 }, &begin, 0, &mut tape);
-    Ok(Drive { graph, tape })
+    let user = Port { obj: USER, slot: 0 };
+    let _ = drive.graph.down(user, &begin, 0, &mut drive.tape);
+    Ok(())
 }
 
 impl Drive {
@@ -295,6 +309,18 @@ impl Play {
         let sent = self.drive.tape.sent.as_slice().get(16..);
         sent == Some(self.wanted.as_slice()) && self.drive.kept().0 == self.expected.as_slice()
     }
+
+    /// The lines of a record come in turn.
+    fn lines(&mut self, alloc: Global, record: &str, size: usize) -> Result<(), Fail> {
+        for line in record.lines() {
+            self.line(alloc, line, size)?;
+        }
+        if self.agrees() {
+            Ok(())
+        } else {
+            Err(Fail::new("another session"))
+        }
+    }
 }
 
 /// Plays a recorded session, whose stream comes in pieces of this size.
@@ -305,14 +331,8 @@ fn played(alloc: Global, record: &str, setting: Setting, size: usize) -> Result<
         expected: Vec::new(alloc),
         lba: 0,
     };
-    for line in record.lines() {
-        play.line(alloc, line, size)?;
-    }
-    if !play.agrees() {
-        return Err(Fail::new("another session"));
-    }
-    let Play { drive, .. } = play;
-    Ok(drive)
+    play.lines(alloc, record, size)?;
+    Ok(play.drive)
 }
 
 /// A session was read to its end: so many answers brought the size and this kind of CHAP; a read that may not be asked

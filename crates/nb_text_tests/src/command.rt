@@ -9,6 +9,7 @@ use nb_terms::Cause;
 use nb_uri::UriTarget;
 use nb_wire::{Ip4, Word};
 use std::alloc::Global;
+use std::process::Abort;
 use std::test::Fail;
 
 /// A line, and what it comes to on what those before it left: a word for it, and its own words or numbers. A line feed
@@ -173,30 +174,37 @@ fn outcome(alloc: Global, state: &mut State, line: &str) -> Result<Vec<u8>, Fail
     }
 }
 
-#[test]
-fn line_by_line(rt: HostRuntime) -> Result<(), Fail> {
-    let alloc = rt.alloc();
-    let mut table = Table::new(alloc);
+/// The `mac` of `net0`.
+fn put_mac(alloc: Global, table: &mut Table) -> Result<(), Fail> {
     table.register(alloc, b"net0", 0)?;
-    table.put(
-        alloc,
-        b"net0",
-        &Key::Free(b"mac"),
-        Kind::Hex,
-        b"\x52\x54\x00\x00\x00\x01",
-    )?;
-    let images = Images::new(alloc);
-    let mut state = State {
-        table,
-        images,
-        up: false,
-    };
-    for row in ROWS.lines() {
+    let mac = b"\x52\x54\x00\x00\x00\x01";
+    table.put(alloc, b"net0", &Key::Free(b"mac"), Kind::Hex, mac)?;
+    Ok(())
+}
+
+fn blank(alloc: Global, up: bool) -> State {
+    State {
+        table: Table::new(alloc),
+        images: Images::new(alloc),
+        up,
+    }
+}
+
+/// Each line comes to what its row has, on what those before it left.
+fn agree(rt: &impl Abort, alloc: Global, state: &mut State, rows: &str) -> Result<(), Fail> {
+    for row in rows.lines() {
         let (line, expected) = row.split_once('|').ok_or("no outcome")?;
-        let found = outcome(alloc, &mut state, line)?;
+        let found = outcome(alloc, state, line)?;
         assert_eq!(rt; found.as_slice(), expected.as_bytes(), "{row}");
     }
     Ok(())
+}
+
+#[test]
+fn line_by_line(rt: HostRuntime) -> Result<(), Fail> {
+    let mut state = blank(rt.alloc(), false);
+    put_mac(rt.alloc(), &mut state.table)?;
+    agree(&rt, rt.alloc(), &mut state, ROWS)
 }
 
 fn shown_file(alloc: Global, asking: &Asking) -> Result<Vec<u8>, Fail> {
@@ -236,31 +244,32 @@ fn file(alloc: Global, state: &mut State, own: Option<&[u8]>, uri: &str) -> Resu
     }
 }
 
-#[test]
-fn files_by_the_base(rt: HostRuntime) -> Result<(), Fail> {
-    let alloc = rt.alloc();
-    let mut table = Table::new(alloc);
-    assert_eq!(rt; refuses_address(b"next-server", &table), None);
-    assert_eq!(rt;
-        put_address(alloc, b"next-server", Ip4(0x0a00_0001), &mut table),
-        Ok(())
-    );
-    let images = Images::new(alloc);
-    let mut state = State {
-        table,
-        images,
-        up: true,
-    };
-    for row in FILES.lines() {
+/// Each URI names what its row has, in a script of this base.
+fn agree_on_files(
+    rt: &impl Abort,
+    alloc: Global,
+    state: &mut State,
+    own: Option<&[u8]>,
+    rows: &str,
+) -> Result<(), Fail> {
+    for row in rows.lines() {
         let (uri, expected) = row.split_once('|').ok_or("no file")?;
-        let found = file(alloc, &mut state, None, uri)?;
-        assert_eq!(rt; found.as_slice(), expected.as_bytes(), "{row}");
-    }
-    let base = b"tftp://10.0.0.2/d/boot.ipxe".as_slice();
-    for row in CHAINED.lines() {
-        let (uri, expected) = row.split_once('|').ok_or("no file")?;
-        let found = file(alloc, &mut state, Some(base), uri)?;
+        let found = file(alloc, state, own, uri)?;
         assert_eq!(rt; found.as_slice(), expected.as_bytes(), "{row}");
     }
     Ok(())
+}
+
+#[test]
+fn files_by_the_base(rt: HostRuntime) -> Result<(), Fail> {
+    let alloc = rt.alloc();
+    let mut state = blank(alloc, true);
+    assert_eq!(rt; refuses_address(b"next-server", &state.table), None);
+    assert_eq!(rt;
+        put_address(alloc, b"next-server", Ip4(0x0a00_0001), &mut state.table),
+        Ok(())
+    );
+    agree_on_files(&rt, alloc, &mut state, None, FILES)?;
+    let base = b"tftp://10.0.0.2/d/boot.ipxe".as_slice();
+    agree_on_files(&rt, alloc, &mut state, Some(base), CHAINED)
 }

@@ -5,6 +5,7 @@ use nb_expand::{expand, expand_words, integer, parse, print, text_of_name};
 use nb_settings::{Key, Kind, Name, SetError, Table};
 use nb_wire::Word;
 use std::alloc::{AllocError, Global};
+use std::process::Abort;
 use std::test::Fail;
 
 /// RFC 4648, section 10; RFC 9562, section 4; RFC 3986, section 2.5.
@@ -27,25 +28,33 @@ fn values(rt: HostRuntime) -> Result<(), Fail> {
         ),
         (Kind::Uristring, b"A\xe3\x82\xa2", "A%E3%82%A2"),
     ] {
-        let shown = print(rt.alloc(), kind, bytes)?;
-        assert_eq!(rt; shown.as_slice(), text.as_bytes(), "{kind:?}");
+        is_printed(&rt, rt.alloc(), kind, bytes, text.as_bytes())?;
         let read = parse(rt.alloc(), kind, text.as_bytes())?;
         assert_eq!(rt; read.as_slice(), bytes, "{kind:?}");
     }
     Ok(())
 }
 
+/// A value of these bytes is printed so.
+fn is_printed(
+    rt: &impl Abort,
+    alloc: Global,
+    kind: Kind,
+    bytes: &[u8],
+    text: &[u8],
+) -> Result<(), Fail> {
+    let shown = print(alloc, kind, bytes)?;
+    assert_eq!(rt; shown.as_slice(), text, "{kind:?}");
+    Ok(())
+}
+
 /// A server's TFTP name of option 66 ends in a zero byte.
 #[test]
 fn a_text_that_ends_in_zeros(rt: HostRuntime) -> Result<(), Fail> {
-    for (kind, text) in [
-        (Kind::Str, b"\0tftp".as_slice()),
-        (Kind::Uristring, b"%00tftp"),
-        (Kind::Hexraw, b"00746674700000"),
-    ] {
-        let shown = print(rt.alloc(), kind, b"\0tftp\0\0")?;
-        assert_eq!(rt; shown.as_slice(), text, "{kind:?}");
-    }
+    let bytes = b"\0tftp\0\0";
+    is_printed(&rt, rt.alloc(), Kind::Str, bytes, b"\0tftp")?;
+    is_printed(&rt, rt.alloc(), Kind::Uristring, bytes, b"%00tftp")?;
+    is_printed(&rt, rt.alloc(), Kind::Hexraw, bytes, b"00746674700000")?;
     assert_eq!(rt; integer(Kind::Int8, b"\x01\xff"), Some(-1));
     Ok(())
 }

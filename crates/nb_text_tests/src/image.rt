@@ -10,6 +10,15 @@ fn body(alloc: Global, bytes: &[u8]) -> Result<Body, PushError> {
     Ok(body)
 }
 
+/// The kind of a body of these bytes, and that of the image that has it.
+fn kinds(alloc: Global, bytes: &[u8]) -> Result<(ImageKind, ImageKind), Fail> {
+    let body = body(alloc, bytes)?;
+    let kind = body.kind();
+    let mut images = Images::new(alloc);
+    let i = images.add(alloc, b"image", body, b"", b"tftp://10.0.0.1/image")?;
+    Ok((kind, images.kind(i)))
+}
+
 /// The first bytes of files of each kind: of a script, of a Linux kernel (its setup header as the boot
 /// protocol of Linux for x86 has it), of an ELF file and of an EFI program.
 #[test]
@@ -30,52 +39,76 @@ fn kinds_by_content(rt: HostRuntime) -> Result<(), Fail> {
         (b"", ImageKind::Other),
     ];
     for (number, (bytes, kind)) in rows.iter().enumerate() {
-        let mut images = Images::new(rt.alloc());
-        let body = body(rt.alloc(), bytes)?;
-        assert_eq!(rt; body.kind(), *kind, "body {number}");
-        let i = images.add(rt.alloc(), b"image", body, b"", b"tftp://10.0.0.1/image")?;
-        assert_eq!(rt; images.kind(i), *kind, "row {number}");
+        assert_eq!(rt; kinds(rt.alloc(), bytes)?, (*kind, *kind), "row {number}");
     }
     Ok(())
 }
 
-#[test]
-fn body_in_pages(rt: HostRuntime) -> Result<(), Fail> {
-    let mut body = Body::new(rt.alloc());
+/// 17 times 4,096 bytes, and three.
+fn long_body(alloc: Global) -> Result<Body, PushError> {
+    let mut body = Body::new(alloc);
     for _ in 0..17 {
         body.push(&[7; 4096])?;
     }
     body.push(b"end")?;
+    Ok(body)
+}
+
+/// How long a page of a body is.
+fn page_len(body: &Body, page: usize) -> Option<usize> {
+    body.page(page).map(|page| page.len())
+}
+
+#[test]
+fn body_in_pages(rt: HostRuntime) -> Result<(), Fail> {
+    let body = long_body(rt.alloc())?;
     assert_eq!(rt; body.len(), 69_635);
-    assert_eq!(rt; body.page(0).map(|page| page.len()), Some(65_536));
-    assert_eq!(rt; body.page(1).map(|page| page.len()), Some(4099));
-    assert!(rt; body.page(2).is_none());
+    for (page, len) in [(0, Some(65_536)), (1, Some(4099)), (2, None)] {
+        assert_eq!(rt; page_len(&body, page), len, "page {page}");
+    }
     assert_eq!(rt; body.text(rt.alloc())?.len(), 69_635);
     Ok(())
 }
 
-/// Bytes of more than two pages at once, after some of a page: each stands in its place.
+/// Bytes of more than two pages at once, after some of a page.
+fn body_of_pieces(alloc: Global) -> Result<Body, Fail> {
+    let long = vec![in alloc; 9; 140_000]?;
+    let mut body = Body::new(alloc);
+    for bytes in [b"some", long.as_slice(), b"!"] {
+        body.push(bytes)?;
+    }
+    Ok(body)
+}
+
+/// Bytes of that body by their places.
+const PLACES: [(usize, Option<u8>); 8] = [
+    (0, Some(b's')),
+    (3, Some(b'e')),
+    (4, Some(9)),
+    (65_535, Some(9)),
+    (65_536, Some(9)),
+    (140_003, Some(9)),
+    (140_004, Some(b'!')),
+    (140_005, None),
+];
+
 #[test]
 fn bytes_over_pages(rt: HostRuntime) -> Result<(), Fail> {
-    let mut body = body(rt.alloc(), b"some")?;
-    let long = vec![in rt.alloc(); 9; 140_000]?;
-    body.push(long.as_slice())?;
-    body.push(b"!")?;
-    let rows = [
-        (0, Some(b's')),
-        (3, Some(b'e')),
-        (4, Some(9)),
-        (65_535, Some(9)),
-        (65_536, Some(9)),
-        (140_003, Some(9)),
-        (140_004, Some(b'!')),
-        (140_005, None),
-    ];
-    for (at, byte) in rows {
-        assert_eq!(rt; body.byte(at), byte, "byte {at}");
+    let body = body_of_pieces(rt.alloc())?;
+    for (at, byte) in PLACES.iter() {
+        assert_eq!(rt; body.byte(*at), *byte, "byte {at}");
     }
-    assert_eq!(rt; body.page(2).map(|page| page.len()), Some(8_933));
+    assert_eq!(rt; page_len(&body, 2), Some(8_933));
     Ok(())
+}
+
+/// The kind of a body whose first line begins with the words of a script, these blanks and this end.
+fn kind_of_line(alloc: Global, blanks: &[u8], end: &[u8]) -> Result<ImageKind, PushError> {
+    let mut line = Body::new(alloc);
+    for bytes in [b"#!ipxe", blanks, end] {
+        line.push(bytes)?;
+    }
+    Ok(line.kind())
 }
 
 /// A first line that is longer than a page, and what may follow its blanks.
@@ -91,10 +124,8 @@ fn long_first_lines(rt: HostRuntime) -> Result<(), Fail> {
         (b"x\n", ImageKind::Other),
     ];
     for (number, (end, kind)) in rows.iter().enumerate() {
-        let mut line = body(rt.alloc(), b"#!ipxe")?;
-        line.push(blanks.as_slice())?;
-        line.push(end)?;
-        assert_eq!(rt; line.kind(), *kind, "row {number}");
+        let found = kind_of_line(rt.alloc(), blanks.as_slice(), end)?;
+        assert_eq!(rt; found, *kind, "row {number}");
     }
     Ok(())
 }
@@ -129,10 +160,7 @@ fn three(alloc: Global) -> Result<Images, Fail> {
 }
 
 /// An image of the same name takes its place, and the selection stays with its image.
-#[test]
-fn list_and_selection(rt: HostRuntime) -> Result<(), Fail> {
-    let alloc = rt.alloc();
-    let mut images = three(alloc)?;
+fn newer_takes_its_place(rt: &impl Abort, alloc: Global, images: &mut Images) -> Result<(), Fail> {
     let place = images.add(
         alloc,
         b"vmlinuz",
@@ -141,7 +169,7 @@ fn list_and_selection(rt: HostRuntime) -> Result<(), Fail> {
         b"tftp://10.0.0.2/k",
     )?;
     assert_eq!(rt; place, 1);
-    assert!(rt; has_names(&images, &[b"initrd.img", b"vmlinuz", b"modules.cpio"]));
+    assert!(rt; has_names(images, &[b"initrd.img", b"vmlinuz", b"modules.cpio"]));
     assert_eq!(rt; images.find(b"nosuch"), None);
     if let Some(i) = images.find(b"modules.cpio") {
         images.select(i);
@@ -152,13 +180,25 @@ fn list_and_selection(rt: HostRuntime) -> Result<(), Fail> {
         assert_eq!(rt; images.args(i), b"root=/dev/sda1".as_slice());
         assert_eq!(rt; images.take_out(i).page(0), Some(b"newer".as_slice()));
     }
-    assert!(rt; has_names(&images, &[b"initrd.img", b"modules.cpio"]));
+    Ok(())
+}
+
+/// The selection ends with its image.
+fn selection_ends(rt: &impl Abort, images: &mut Images) {
+    assert!(rt; has_names(images, &[b"initrd.img", b"modules.cpio"]));
     assert_eq!(rt; images.selected(), Some(1));
     if let Some(i) = images.find(b"modules.cpio") {
         images.free(i);
     }
     assert_eq!(rt; images.selected(), None);
     assert!(rt; images.handoff().is_none());
+}
+
+#[test]
+fn list_and_selection(rt: HostRuntime) -> Result<(), Fail> {
+    let mut images = three(rt.alloc())?;
+    newer_takes_its_place(&rt, rt.alloc(), &mut images)?;
+    selection_ends(&rt, &mut images);
     Ok(())
 }
 
@@ -224,6 +264,28 @@ fn parts_in_order(rt: HostRuntime) -> Result<(), Fail> {
     Ok(())
 }
 
+/// A part of so many bytes has this piece, or none of that number.
+fn has_piece(
+    rt: &impl Abort,
+    bytes: PartBytes<'_>,
+    len: usize,
+    p: usize,
+    expected: Option<(usize, usize)>,
+) {
+    let part = Part {
+        kind: PartKind::Kernel,
+        index: 0,
+        bytes,
+    };
+    let count = if len < 65_537 { 1 } else { 2 };
+    let piece = part.piece(p).map(|piece| (piece.offset, piece.bytes.len()));
+    assert_eq!(rt;
+        (part.piece_count(), piece),
+        (count, expected),
+        "piece {p} of {len} bytes"
+    );
+}
+
 /// Where the pieces of a part begin, and how many bytes they have, of a text and of a body alike.
 #[test]
 fn pieces_of_a_part(rt: HostRuntime) -> Result<(), Fail> {
@@ -239,18 +301,9 @@ fn pieces_of_a_part(rt: HostRuntime) -> Result<(), Fail> {
     ];
     for (len, p, expected) in rows {
         let text = &bytes[..len.min(65_537)];
+        has_piece(&rt, PartBytes::Text(text), len, p, expected);
         let body = body(rt.alloc(), text)?;
-        for bytes in [PartBytes::Text(text), PartBytes::Pages(&body)] {
-            let part = Part {
-                kind: PartKind::Kernel,
-                index: 0,
-                bytes,
-            };
-            let count = if len < 65_537 { 1 } else { 2 };
-            assert_eq!(rt; part.piece_count(), count, "the pieces of {len} bytes");
-            let piece = part.piece(p).map(|piece| (piece.offset, piece.bytes.len()));
-            assert_eq!(rt; piece, expected, "piece {p} of {len} bytes");
-        }
+        has_piece(&rt, PartBytes::Pages(&body), len, p, expected);
     }
     Ok(())
 }

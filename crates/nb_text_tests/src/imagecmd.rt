@@ -9,6 +9,7 @@ use nb_imagecmd::{
 use nb_terms::Cause;
 use nb_wire::{Text, Word};
 use std::alloc::Global;
+use std::process::Abort;
 use std::test::Fail;
 
 /// A command, what it comes to, and the list that it leaves: each image with its arguments, and a star where it
@@ -232,18 +233,27 @@ fn row(alloc: Global, images: &mut Images, line: &str, depth: usize) -> Result<V
     Ok(text)
 }
 
+/// Each command comes to what its row has, and leaves those images.
+fn agree(
+    rt: &impl Abort,
+    alloc: Global,
+    images: &mut Images,
+    rows: &str,
+    depth: usize,
+) -> Result<(), Fail> {
+    for expected in rows.lines() {
+        let (line, outcome) = expected.split_once('|').ok_or("no outcome")?;
+        let found = row(alloc, images, line, depth)?;
+        assert_eq!(rt; found.as_slice(), outcome.as_bytes(), "{expected}");
+    }
+    Ok(())
+}
+
 #[test]
 fn image_commands(rt: HostRuntime) -> Result<(), Fail> {
     let alloc = rt.alloc();
-    for (rows, depth) in [(ROWS, 7), (EIGHTH, 8)] {
-        let mut images = Images::new(alloc);
-        for expected in rows.lines() {
-            let (line, outcome) = expected.split_once('|').ok_or("no outcome")?;
-            let found = row(alloc, &mut images, line, depth)?;
-            assert_eq!(rt; found.as_slice(), outcome.as_bytes(), "{expected}");
-        }
-    }
-    Ok(())
+    agree(&rt, alloc, &mut Images::new(alloc), ROWS, 7)?;
+    agree(&rt, alloc, &mut Images::new(alloc), EIGHTH, 8)
 }
 
 #[test]
@@ -263,10 +273,27 @@ fn words_that_are_refused(rt: HostRuntime) -> Result<(), Fail> {
     Ok(())
 }
 
+/// A line: these words, this many letters, and a URI where they are a name.
+fn long_line(alloc: Global, start: &str, len: usize) -> Result<String, Fail> {
+    let mut line = String::from_str(alloc, start)?;
+    for _ in 0..len {
+        line.push('a')?;
+    }
+    if len < 257 && start.ends_with("name ") {
+        line.push_str(" tftp://a/b")?;
+    }
+    Ok(line)
+}
+
+/// Whether a line isn't refused for what is too long in it.
+fn fits(alloc: Global, line: &str) -> Result<bool, Fail> {
+    let found = row(alloc, &mut Images::new(alloc), line, 1)?;
+    Ok(found.as_slice() != b"fails 5 7|".as_slice())
+}
+
 /// A name of an image has at most 255 bytes, and a path 1,024, as asked for.
 #[test]
 fn long_names_and_paths(rt: HostRuntime) -> Result<(), Fail> {
-    let alloc = rt.alloc();
     let rows = [
         ("imgfetch --name ", 255, true),
         ("imgfetch --name ", 256, false),
@@ -276,23 +303,37 @@ fn long_names_and_paths(rt: HostRuntime) -> Result<(), Fail> {
         ("imgfetch --name n tftp://a/", 1025, false),
         ("imgfetch --name n http://a/", 1025, true),
     ];
-    for (start, len, fits) in rows {
-        let mut line = String::from_str(alloc, start)?;
-        for _ in 0..len {
-            line.push('a')?;
-        }
-        if len < 257 && start.ends_with("name ") {
-            line.push_str(" tftp://a/b")?;
-        }
-        let mut images = Images::new(alloc);
-        let found = row(alloc, &mut images, line.as_str(), 1)?;
-        assert_eq!(rt;
-            found.as_slice() != b"fails 5 7|".as_slice(),
-            fits,
-            "{start}{len}"
-        );
+    for (start, len, expected) in rows {
+        let line = long_line(rt.alloc(), start, len)?;
+        assert_eq!(rt; fits(rt.alloc(), line.as_str())?, expected, "{start}{len}");
     }
     Ok(())
+}
+
+/// Puts 32 images, and the eighth of them again.
+fn fill(alloc: Global, images: &mut Images) -> Result<(), Fail> {
+    for number in 0..32u8 {
+        images.add(alloc, &[number], Body::new(alloc), b"", b"")?;
+    }
+    images.add(alloc, b"\x07", body(alloc, b"x")?, b"", b"")?;
+    Ok(())
+}
+
+/// A script that is asked for by this name arrives.
+fn script_arrives(
+    alloc: Global,
+    images: &mut Images,
+    name: &[u8],
+) -> Result<Result<Arrival, ImageFailure>, Fail> {
+    let asking = Asking {
+        target: nb_uri::resolve(alloc, None, b"tftp://a/b")?,
+        name: Text::from_vec(Vec::from_slice(alloc, name)?),
+        args: Text::from_vec(Vec::new(alloc)),
+        after: After::Run { replace: false },
+        moves: 0,
+    };
+    let script = body(alloc, b"#!ipxe\n")?;
+    Ok(arrive(alloc, images, &asking, script, b"u", 1))
 }
 
 /// A list of 32 images takes no other name, also not for as long as a script needs to leave it.
@@ -300,35 +341,10 @@ fn long_names_and_paths(rt: HostRuntime) -> Result<(), Fail> {
 fn no_33rd_image(rt: HostRuntime) -> Result<(), Fail> {
     let alloc = rt.alloc();
     let mut images = Images::new(alloc);
-    for number in 0..32u8 {
-        images.add(alloc, &[number], Body::new(alloc), b"", b"")?;
-    }
-    images.add(alloc, b"\x07", body(alloc, b"x")?, b"", b"")?;
-    let mut asking = Asking {
-        target: nb_uri::resolve(alloc, None, b"tftp://a/b")?,
-        name: Text::from_vec(Vec::from_slice(alloc, b"b")?),
-        args: Text::from_vec(Vec::new(alloc)),
-        after: After::Run { replace: false },
-        moves: 0,
-    };
-    let refused = arrive(
-        alloc,
-        &mut images,
-        &asking,
-        body(alloc, b"#!ipxe\n")?,
-        b"u",
-        1,
-    );
+    fill(alloc, &mut images)?;
+    let refused = script_arrives(alloc, &mut images, b"b")?;
     assert!(rt; matches!(refused, Err(ImageFailure::ManyImages)));
-    asking.name = Text::from_vec(Vec::from_slice(alloc, b"\x07")?);
-    let runs = arrive(
-        alloc,
-        &mut images,
-        &asking,
-        body(alloc, b"#!ipxe\n")?,
-        b"u",
-        1,
-    );
+    let runs = script_arrives(alloc, &mut images, b"\x07")?;
     assert!(rt; matches!(runs, Ok(Arrival::Run { .. })));
     assert_eq!(rt; images.len(), 31);
     Ok(())

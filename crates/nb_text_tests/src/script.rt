@@ -1,6 +1,6 @@
-use nb_script::{Join, Script, ScriptError, ScriptLine};
+use nb_script::{Item, Join, Script, ScriptError, ScriptLine};
 use nb_wire::Text;
-use std::alloc::Global;
+use std::alloc::{AllocError, Global};
 use std::process::Abort;
 use std::test::Fail;
 
@@ -107,16 +107,22 @@ fn joined(join: Join) -> &'static str {
     }
 }
 
+fn put_item(text: &mut Vec<u8>, item: &Item) -> Result<(), AllocError> {
+    text.extend_from_slice(joined(item.join).as_bytes())?;
+    for word in item.words.as_slice() {
+        text.push(b'[')?;
+        text.extend_from_slice(word.as_slice())?;
+        text.push(b']')?;
+    }
+    Ok(())
+}
+
 /// The commands of a line, of which no more than 4,096 bytes are looked at.
 fn commands(alloc: Global, line: &[u8]) -> Result<Vec<u8>, Fail> {
     let mut text = Vec::new(alloc);
-    for item in &Script::list(alloc, &line[..line.len().min(4096)])? {
-        text.extend_from_slice(joined(item.join).as_bytes())?;
-        for word in item.words.as_slice() {
-            text.push(b'[')?;
-            text.extend_from_slice(word.as_slice())?;
-            text.push(b']')?;
-        }
+    let items = Script::list(alloc, &line[..line.len().min(4096)])?;
+    for item in &items {
+        put_item(&mut text, item)?;
     }
     Ok(text)
 }

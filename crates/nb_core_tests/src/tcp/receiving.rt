@@ -57,24 +57,33 @@ fn closes(rt: &impl Abort, conn: &mut Conn, acts: &mut Acts) {
     assert_eq!(rt; all_sent(acts), (None, None));
 }
 
-// Half-closed by the peer: its end is reached after a hole, and ours is still sent.
+/// The segments come in turn.
+fn takes_all(rt: &impl Abort, conn: &mut Conn, acts: &mut Acts) -> Result<(), Fail> {
+    for (row, (place, flags, body, answer, to, bytes, is_end)) in SEGMENTS.iter().enumerate() {
+        let segment = (*place, *flags, *body);
+        takes(rt, conn, row as u32, segment, *answer, acts)?;
+        assert_eq!(rt;
+            (acts.advance, acts.ready, conn.at_end()),
+            (*to, to.is_some(), *is_end),
+            "row {row}"
+        );
+        let held = delivered(conn, acts.advance);
+        assert_eq!(rt; held.as_slice(), *bytes, "row {row}");
+    }
+    Ok(())
+}
+
+/// Half-closed by the peer: its end is reached after a hole, and ours is still sent.
+fn is_half_closed(rt: &impl Abort, conn: &mut Conn, acts: &mut Acts) -> Result<(), Fail> {
+    takes_all(rt, conn, acts)?;
+    sends_text(rt, conn, acts)?;
+    closes(rt, conn, acts);
+    Ok(())
+}
+
 #[test]
 fn half_closed(rt: HostRuntime) -> Result<(), Fail> {
     let mut acts = Acts::none();
     let mut conn = established(rt.alloc(), ISN, IRS, &mut acts)?;
-    for (row, (place, flags, body, answer, to, bytes, is_end)) in SEGMENTS.iter().enumerate() {
-        let segment = (*place, *flags, *body);
-        takes(&rt, &mut conn, row as u32, segment, *answer, &mut acts)?;
-        assert_eq!(rt;
-            (acts.advance, acts.ready),
-            (*to, to.is_some()),
-            "row {row}"
-        );
-        assert_eq!(rt; conn.at_end(), *is_end, "row {row}");
-        let held = delivered(&mut conn, acts.advance);
-        assert_eq!(rt; held.as_slice(), *bytes, "row {row}");
-    }
-    sends_text(&rt, &mut conn, &mut acts)?;
-    closes(&rt, &mut conn, &mut acts);
-    Ok(())
+    is_half_closed(&rt, &mut conn, &mut acts)
 }

@@ -64,16 +64,20 @@ fn gives_up(rt: &impl Abort, conn: &mut Conn, acts: &mut Acts) -> Result<(), Fai
     Ok(())
 }
 
-// Text without an answer: six tries of the same bytes.
+/// Text without an answer: six tries of the same bytes.
+fn tries_again(rt: &impl Abort, conn: &mut Conn, acts: &mut Acts) -> Result<(), Fail> {
+    conn.send(b"GET", 0, acts)?;
+    give_segment(conn, 2, &data(0, b"x"), 100, acts)?;
+    let _ = delivered(conn, acts.advance);
+    for (now, tried) in TRIES.iter() {
+        passes(rt, conn, *now, *tried, acts);
+    }
+    gives_up(rt, conn, acts)
+}
+
 #[test]
 fn tries_again_and_gives_up(rt: HostRuntime) -> Result<(), Fail> {
     let mut acts = Acts::none();
     let mut conn = established(rt.alloc(), ISN, IRS, &mut acts)?;
-    conn.send(b"GET", 0, &mut acts)?;
-    give_segment(&mut conn, 2, &data(0, b"x"), 100, &mut acts)?;
-    let _ = delivered(&mut conn, acts.advance);
-    for (now, tried) in TRIES {
-        passes(&rt, &mut conn, now, tried, &mut acts);
-    }
-    gives_up(&rt, &mut conn, &mut acts)
+    tries_again(&rt, &mut conn, &mut acts)
 }

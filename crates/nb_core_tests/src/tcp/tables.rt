@@ -5,9 +5,8 @@ use crate::tcp::{
     give_segment, one,
 };
 use nb_tcp::Conn;
-use nb_tcpseg::{ACK, FIN, PSH, RST, SYN};
+use nb_tcpseg::{ACK, FIN, PSH, RST, SYN, Segment};
 use nb_terms::Acts;
-use std::alloc::Global;
 use std::process::Abort;
 use std::test::Fail;
 
@@ -33,12 +32,11 @@ const SEGMENTS: [(u32, u32, u8, &[u8], Option<u32>, bool); 16] = [
     (2, 0, FIN + ACK, b"", Some(3), false),
 ];
 
-/// A connection whose first three bytes were delivered.
-fn with_three_bytes(alloc: Global, acts: &mut Acts) -> Result<Conn, Fail> {
-    let mut conn = established(alloc, ISN, IRS, acts)?;
-    give_segment(&mut conn, 6, &data(0, b"abc"), 0, acts)?;
-    let _ = delivered(&mut conn, acts.advance);
-    Ok(conn)
+/// The first three bytes of the peer's stream are delivered.
+fn takes_three_bytes(conn: &mut Conn, acts: &mut Acts) -> Result<(), Fail> {
+    give_segment(conn, 6, &data(0, b"abc"), 0, acts)?;
+    let _ = delivered(conn, acts.advance);
+    Ok(())
 }
 
 /// The acknowledgement up to a place, where there is one.
@@ -49,25 +47,39 @@ fn answer_to(place: Option<u32>) -> (Option<Sent<'static>>, Option<Sent<'static>
     }
 }
 
+/// What comes to a connection whose first three bytes were delivered, as a row has it, is answered so.
+fn answers_segment(
+    rt: &impl Abort,
+    conn: &mut Conn,
+    row: usize,
+    segment: &Segment<'_>,
+    answer: Option<u32>,
+    is_reset: bool,
+) -> Result<(), Fail> {
+    let mut acts = Acts::none();
+    takes_three_bytes(conn, &mut acts)?;
+    give_segment(conn, 7, segment, 0, &mut acts)?;
+    assert_eq!(rt;
+        all_sent(&acts),
+        answer_to(answer),
+        "the answer to row {row}"
+    );
+    let over = if is_reset { cause(1, 7, 65_535) } else { None };
+    assert_eq!(rt;
+        (acts.over, acts.advance),
+        (over, None),
+        "the end at row {row}"
+    );
+    Ok(())
+}
+
 #[test]
 fn one_segment_to_an_established_connection(rt: HostRuntime) -> Result<(), Fail> {
     for (row, (place, ack, flags, body, answer, is_reset)) in SEGMENTS.iter().enumerate() {
-        let mut acts = Acts::none();
-        let mut conn = with_three_bytes(rt.alloc(), &mut acts)?;
         let seq = (IRS + 1).wrapping_add(*place);
         let segment = from_peer(seq, (ISN + 1).wrapping_add(*ack), *flags, body);
-        give_segment(&mut conn, 7, &segment, 0, &mut acts)?;
-        assert_eq!(rt;
-            all_sent(&acts),
-            answer_to(*answer),
-            "the answer to row {row}"
-        );
-        let over = if *is_reset { cause(1, 7, 65_535) } else { None };
-        assert_eq!(rt;
-            (acts.over, acts.advance),
-            (over, None),
-            "the end at row {row}"
-        );
+        let mut conn = established(rt.alloc(), ISN, IRS, &mut Acts::none())?;
+        answers_segment(&rt, &mut conn, row, &segment, *answer, *is_reset)?;
     }
     Ok(())
 }
@@ -85,21 +97,32 @@ const ANSWERS: [(u32, u8, &[u8], Option<(u32, u32, u8, u16)>); 8] = [
     (1, ACK, b"", None),
 ];
 
+/// What comes to a connection that has sent its SYN, as a row has it, is answered so. A refusal alone ends it.
+fn answers_to_syn(
+    rt: &impl Abort,
+    conn: &mut Conn,
+    row: usize,
+    segment: &Segment<'_>,
+    answer: Option<(u32, u32, u8, u16)>,
+) -> Result<(), Fail> {
+    let mut acts = Acts::none();
+    give_segment(conn, 3, segment, 0, &mut acts)?;
+    let sent = match answer {
+        Some((seq, ack, flags, window)) => one(seq, ack, flags, window),
+        None => (None, None),
+    };
+    assert_eq!(rt; all_sent(&acts), sent, "the answer to row {row}");
+    let over = if row == 1 { cause(1, 3, 65_535) } else { None };
+    assert_eq!(rt; acts.over, over, "the end at row {row}");
+    Ok(())
+}
+
 #[test]
 fn one_answer_to_the_syn(rt: HostRuntime) -> Result<(), Fail> {
     for (row, (ack, flags, body, answer)) in ANSWERS.iter().enumerate() {
-        let mut acts = Acts::none();
-        let mut conn = asking(rt.alloc(), ISN, &mut acts)?;
         let segment = from_peer(9, ISN.wrapping_add(*ack), *flags, body);
-        give_segment(&mut conn, 3, &segment, 0, &mut acts)?;
-        let sent = match *answer {
-            Some((seq, ack, flags, window)) => one(seq, ack, flags, window),
-            None => (None, None),
-        };
-        assert_eq!(rt; all_sent(&acts), sent, "the answer to row {row}");
-        // a refusal alone ends it
-        let over = if row == 1 { cause(1, 3, 65_535) } else { None };
-        assert_eq!(rt; acts.over, over, "the end at row {row}");
+        let mut conn = asking(rt.alloc(), ISN, &mut Acts::none())?;
+        answers_to_syn(&rt, &mut conn, row, &segment, *answer)?;
     }
     Ok(())
 }

@@ -1,5 +1,6 @@
 use nb_record::{BadRecord, Failed, Feed, Front, InRec, MemLine};
 use nb_wire::Ip4;
+use std::process::Abort;
 use std::test::*;
 
 /// START with all addresses 0 and the script `#!ipxe`, `echo hello`, `exit`, each with a line feed.
@@ -118,23 +119,25 @@ const BROKEN: [(&[u8], u64, u8); 23] = [
     (&[0, 0, 0, 1, 4, 0, 0, 0, 1, 4, 1], 10, 1),
 ];
 
+/// No record is possible any more with the last of these bytes, and with none before it.
+fn breaks_at_last(rt: &impl Abort, feed: &mut Feed, number: usize, bytes: &[u8], bad: BadRecord) {
+    for byte in bytes {
+        pass_front(feed);
+        assert!(rt; is_partial(feed), "row {number}");
+        feed.push(&[*byte]);
+    }
+    match feed.front() {
+        Front::Broken(found) => assert_eq!(rt; found, bad, "row {number}"),
+        _ => panic!(rt; "no record begins so"),
+    }
+}
+
 #[test]
 fn broken_bytes(rt: HostRuntime) -> Result<(), Fail> {
     for (number, (bytes, at, why)) in BROKEN.iter().enumerate() {
         let mut feed = Feed::new(rt.alloc())?;
-        for byte in *bytes {
-            pass_front(&mut feed);
-            assert!(rt; is_partial(&feed), "row {number}");
-            feed.push(&[*byte]);
-        }
-        match feed.front() {
-            Front::Broken(bad) => assert_eq!(rt;
-                bad,
-                BadRecord { at: *at, why: *why },
-                "row {number}"
-            ),
-            _ => panic!(rt; "no record begins so"),
-        }
+        let bad = BadRecord { at: *at, why: *why };
+        breaks_at_last(&rt, &mut feed, number, bytes, bad);
     }
     Ok(())
 }
