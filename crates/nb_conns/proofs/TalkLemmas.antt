@@ -12,7 +12,7 @@ use Rattle.nb_reasm.specs.declared.held.Held.{Held}
 use Rattle.nb_reasm.specs.HeldWindows.{window}
 use Rattle.nb_streams.specs.Flows.{TcpCall, segment_came, time_came, text_came, held_after}
 use Rattle.nb_streams.specs.Segments.{Arrival}
-use Rattle.nb_tcpseg.specs.SegmentText.{SegmentParts, IsSegment, segment_parts}
+use Rattle.nb_tcpseg.specs.SegmentText.{SegmentParts, IsLaidOut, segment_parts}
 use Rattle.nb_tcpseg.specs.declared.segment.Segment.{Segment}
 use Rattle.nb_tcp.specs.declared.link.Link.{Link}
 use Rattle.nb_tcp.specs.declared.conn.Conn.{Conn}
@@ -118,10 +118,9 @@ segment_at k slot m now fx s acts old r l ends new here effects all took e _ hom
 segment_at {N} {L} k slot m now fx s acts old r l ends new here effects all took e _ home (while_talking _ a start calls None t) =
     let after = with_segment_call calls m.rec s now acts in
     let is = took a start calls t in
-    let from : comes_from a slot m ≡ true = ap (λ z. comes_from z slot m) (sym t.asked) ∙ here.0 in
-    let segment : IsSegment a.peer a.own m.bytes s = subst (λ (z : ConnAsk). IsSegment z.peer z.own m.bytes s) t.asked here.1 in (
+    let from : comes_from a slot m ≡ true = ap (λ z. comes_from z slot m) (sym t.asked) ∙ here.0 in (
       talked_on a start (with_lending after (lent_out l)) (lent_out l) acts.over,
-      takes_segment a start calls slot m now fx s acts (lent_out l) from segment is.lent_so (subst (λ z. ConnEffects k m acts (ups_for m.rec (lent_out l) z) (closes_for acts.over) (in_list (lent_out l)) fx) is.to_end effects) all,
+      takes_segment a start calls slot m now fx s acts (lent_out l) from here.1 is.lent_so (subst (λ z. ConnEffects k m acts (ups_for m.rec (lent_out l) z) (closes_for acts.over) (in_list (lent_out l)) fx) is.to_end effects) all,
       at_then new r a start (with_lending after (lent_out l)) (lent_out l) acts.over e is.stands (λ alive. record { asked = is.asked; stands = is.stands; goes_on = is.over ∙ alive; none_waits = is.none_waits; lends = is.lends }),
     )
 
@@ -132,22 +131,22 @@ pub segment_on : {N L : Type 0} (k : Carrier L) (slot : ℕ) (m : Said) (now : �
 segment_on k slot m now fx s acts old r l ends new here effects all took e = λ d home at. segment_at k slot m now fx s acts old r l ends new here effects all took e d home at
 
 -- bytes that are no segment
-none_at : {N L : Type 0} (k : Carrier L) (slot : ℕ) (m : Said) (now : ℕ) (fx : Fx N L) (r : Connected) → ((s : SegmentParts) → IsSegment r.ask.peer r.ask.own m.bytes s → ⊥) → SaysNothing fx → fx.closes.items ≡ [] → TookAll m fx
+none_at : {N L : Type 0} (k : Carrier L) (slot : ℕ) (m : Said) (now : ℕ) (fx : Fx N L) (r : Connected) → ((s : SegmentParts) → IsLaidOut m.bytes s → ⊥) → SaysNothing fx → fx.closes.items ≡ [] → TookAll m fx
     → (d : Dialogue) → IsConnAt (Running r) d → (f : Dialogue) × Converses k d (up slot m now true fx) f × IsConnAt (Running r) f
 none_at k slot m now fx r none says shut all _ (while_talking _ a start calls out t) = (
   talking a start calls out,
-  takes_none a start calls out slot m now fx (λ s is. none s (subst (λ (z : ConnAsk). IsSegment z.peer z.own m.bytes s) (sym t.asked) is)) says shut all,
+  takes_none a start calls out slot m now fx none says shut all,
   while_talking r a start calls out t,
 )
 
-pub none_on : {N L : Type 0} (k : Carrier L) (slot : ℕ) (m : Said) (now : ℕ) (fx : Fx N L) (r : Connected) → ((s : SegmentParts) → IsSegment r.ask.peer r.ask.own m.bytes s → ⊥) → SaysNothing fx → fx.closes.items ≡ [] → TookAll m fx → CarriesOn k (Running r) (Running r) (up slot m now true fx)
+pub none_on : {N L : Type 0} (k : Carrier L) (slot : ℕ) (m : Said) (now : ℕ) (fx : Fx N L) (r : Connected) → ((s : SegmentParts) → IsLaidOut m.bytes s → ⊥) → SaysNothing fx → fx.closes.items ≡ [] → TookAll m fx → CarriesOn k (Running r) (Running r) (up slot m now true fx)
 none_on k slot m now fx r none says shut all = λ d at. none_at k slot m now fx r none says shut all d at
 
-pub none_goes : {N L : Type 0} (k : Carrier L) (slot : ℕ) (m : Said) (now : ℕ) (fx : Fx N L) (w : ConnStage) (r : Connected) → w ≡ Running r → (bytes : List ℕ) → m.bytes ≡ bytes → {found : Option Segment} → ((s : SegmentParts) → IsSegment r.ask.peer r.ask.own bytes s → IsSomeAnd found (λ x. segment_parts x ≡ s)) → found ≡ None → SaysNothing fx × (fx.closes.items ≡ []) → fx.took ≡ min (length bytes) 4294967295
+pub none_goes : {N L : Type 0} (k : Carrier L) (slot : ℕ) (m : Said) (now : ℕ) (fx : Fx N L) (w : ConnStage) (r : Connected) → w ≡ Running r → (bytes : List ℕ) → m.bytes ≡ bytes → {found : Option Segment} → ((s : SegmentParts) → IsLaidOut bytes s → IsSomeAnd found (λ x. segment_parts x ≡ s)) → found ≡ None → SaysNothing fx × (fx.closes.items ≡ []) → fx.took ≡ min (length bytes) 4294967295
     → CarriesOn k w w (up slot m now true fx)
 none_goes k slot m now fx w r is bytes b {found} complete none blank took =
     subst (λ (z : ConnStage). CarriesOn k z z (up slot m now true fx)) (sym is)
-    (none_on k slot m now fx r (λ s has. refused found none s (complete s (subst (λ z. IsSegment r.ask.peer r.ask.own z s) b has))) blank.0 blank.1 (took ∙ ap (λ (z : List ℕ). min (length z) 4294967295) (sym b)))
+    (none_on k slot m now fx r (λ s has. refused found none s (complete s (subst (λ z. IsLaidOut z s) b has))) blank.0 blank.1 (took ∙ ap (λ (z : List ℕ). min (length z) 4294967295) (sym b)))
   where
     refused : (o : Option Segment) → o ≡ None → (s : SegmentParts) → IsSomeAnd o (λ x. segment_parts x ≡ s) → ⊥
     refused None e s h = h

@@ -10,7 +10,7 @@ use Rattle.nb_reasm.specs.HeldWindows.{window}
 use Rattle.nb_streams.specs.Segments.{Arrival}
 use Rattle.nb_streams.specs.Streams.{has_ended}
 use Rattle.nb_streams.specs.Flows.{segment_came, time_came, text_came, held_after}
-use Rattle.nb_tcpseg.specs.SegmentText.{SegmentParts, IsSegment}
+use Rattle.nb_tcpseg.specs.SegmentText.{SegmentParts, IsLaidOut}
 use Rattle.nb_tcp.specs.declared.conn.Conn.{Conn}
 use Rattle.nb_tcp.specs.declared.link.Link.{Link}
 use Rattle.nb_tcp.specs.Arriving.{sets_flag}
@@ -164,12 +164,12 @@ pub data Converses {N L : Type 0} (k : Carrier L) : Dialogue → NodeEntry N L �
       → ConnEffects k m (starting_acts (link_of a)) [] [] [] fx → Converses k unopened (down m now true fx) (talking a now [] None)
   -- a segment of the peer, while nothing is lent: what waits then goes up, and then the end, where that has come
   takes_segment : (a : ConnAsk) (start : ℕ) (calls : List ConnEntry) (slot : ℕ) (m : Said) (now : ℕ) (fx : Fx N L) (s : SegmentParts) (acts : Acts) (out : Option Lent)
-      → comes_from a slot m ≡ true → IsSegment a.peer a.own m.bytes s → LendsSo (with_segment_call calls m.rec s now acts) acts.ready out
+      → comes_from a slot m ≡ true → IsLaidOut m.bytes s → LendsSo (with_segment_call calls m.rec s now acts) acts.ready out
       → ConnEffects k m acts (ups_for m.rec out (comes_to_end a calls (with_segment_call calls m.rec s now acts))) (closes_for acts.over) (in_list out) fx → TookAll m fx
       → Converses k (talking a start calls None) (up slot m now true fx) (talked_on a start (with_lending (with_segment_call calls m.rec s now acts) out) out acts.over)
   -- bytes of the peer that are no segment
   takes_none : (a : ConnAsk) (start : ℕ) (calls : List ConnEntry) (out : Option Lent) (slot : ℕ) (m : Said) (now : ℕ) (fx : Fx N L)
-      → ((s : SegmentParts) → IsSegment a.peer a.own m.bytes s → ⊥) → SaysNothing fx → fx.closes.items ≡ [] → TookAll m fx → Converses k (talking a start calls out) (up slot m now true fx) (talking a start calls out)
+      → ((s : SegmentParts) → IsLaidOut m.bytes s → ⊥) → SaysNothing fx → fx.closes.items ≡ [] → TookAll m fx → Converses k (talking a start calls out) (up slot m now true fx) (talking a start calls out)
   -- text to send
   takes_text : (a : ConnAsk) (start : ℕ) (calls : List ConnEntry) (out : Option Lent) (m : Said) (now : ℕ) (fx : Fx N L) (acts : Acts) → m.tag ≡ stream_tag_number Send
       → ConnEffects k m acts [] (closes_for acts.over) [] fx
@@ -262,7 +262,7 @@ stage_is_waiting Over = false
 -- a message from the peer is this segment
 abbrev pub TakesHere : ConnStage → ℕ → Said → SegmentParts → Type 0
 TakesHere Waiting slot m s = ⊥
-TakesHere (Running r) slot m s = (comes_from r.ask slot m ≡ true) × IsSegment r.ask.peer r.ask.own m.bytes s
+TakesHere (Running r) slot m s = (comes_from r.ask slot m ≡ true) × IsLaidOut m.bytes s
 TakesHere Over slot m s = ⊥
 
 -- the core stands for one call more

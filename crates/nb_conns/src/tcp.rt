@@ -5,7 +5,7 @@ ghost use Rattle.std.specs.Result.{is_ok};
 ghost use Rattle.std.specs.Option.{is_some};
 ghost use Rattle.nb_graph.specs.Trace.{Said, said, NodeEntry, up, down, closed, time, regain, IsSettled, LacksLoad, in_list, silence};
 ghost use Rattle.nb_graph.specs.Effects.{IsNothing};
-ghost use Rattle.nb_tcpseg.specs.SegmentText.{segment_parts, IsSegment};
+ghost use Rattle.nb_tcpseg.specs.SegmentText.{segment_parts, IsLaidOut};
 ghost use Rattle.nb_conns.specs.declared.stage.ConnStage.TheVariants as stage;
 ghost use Rattle.nb_conns.specs.ConnEffects.{ConnEffects, ConnWithin, SaysNothing, ups_for, closes_for, boxed};
 ghost use Rattle.nb_conns.specs.Dialogues.{TcpStands, CarriesOn, CarriesOnHome, IsUnopened, TakesHere, TakesBack, comes_from, lent_out, stage_takes, stage_asks, stage_is_over, stage_is_waiting};
@@ -108,7 +108,7 @@ impl Tcp {
         }
     }
 
-    /// These bytes come from the peer, as a segment or not.
+    /// These bytes come from the peer, as a segment or not. The network below has checked their sum.
     #[inline(always)]
     fn receive<N, L: CarriesConn>(
         &mut self,
@@ -124,10 +124,10 @@ impl Tcp {
         ensures within { (len : ℕ) → ConnWithin len fx.new }
         ensures took { fx.new.took ≡ fx.old.took }
     {
-        let ConnStage::Running(running) = &self.stage else {
+        let ConnStage::Running(_) = &self.stage else {
             return Ok(());
         };
-        match Segment::read(running.ask.peer, running.ask.own, bytes) {
+        match Segment::parse(bytes) {
             Some(segment) => self.take_segment(rec, &segment, now, fx),
             None => Ok(()),
         }

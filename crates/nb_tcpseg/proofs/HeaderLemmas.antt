@@ -1,5 +1,5 @@
 -- A segment's fields stand at their places, and bytes whose fields are right are a segment.
-use Rattle.std.proofs.Common.{◌≡◌, ℕ, ◌+◌, ◌*◌, ◌/◌, ◌≤◌, List, [], ◌∷◌, ◌++◌, length, get_or, take, drop, Option, refl, sym, ap, subst, ◌∙◌, append_assoc, arith}
+use Rattle.std.proofs.Common.{◌≡◌, ℕ, ◌+◌, ◌*◌, ◌/◌, ◌^◌, ◌≤◌, ◌<◌, List, [], ◌∷◌, ◌++◌, length, get_or, take, drop, Option, refl, sym, ap, subst, ◌∙◌, append_assoc, arith}
 use Rattle.std.specs.Int.{w16, w32, to_be_bytes, from_be_bytes}
 use Rattle.std.proofs.lemmas.List.{take_at, drop_at, take-append-drop, length-append, length-take}
 use Rattle.std.proofs.lemmas.Nat.{from_be_bytes-to_be_bytes_4}
@@ -9,7 +9,7 @@ use Rattle.nb_ipv4.proofs.NumberLaws.{be16_bytes, be32_bytes, elements-drop}
 use Rattle.nb_ipv4.proofs.PacketLaws.{take_take}
 use Rattle.nb_tcpseg.specs.Options.{OptionsSay}
 use Rattle.nb_tcpseg.proofs.OptionLemmas.{says_one}
-use Rattle.nb_tcpseg.specs.SegmentText.{SegmentParts, IsSegment, IsIntact, tcp_header}
+use Rattle.nb_tcpseg.specs.SegmentText.{SegmentParts, IsLaidOut, IsSegment, IsIntact, tcp_header}
 
 pub length-tcp_header : (s : SegmentParts) (offset sum urgent : ℕ) → length (tcp_header s offset sum urgent) ≡ 20
 unfolding tcp_header
@@ -22,7 +22,7 @@ abbrev pub word_at : List ℕ → ℕ → ℕ → ℕ → ℕ → ℕ
 word_at fixed a b c d = from_be_bytes w32 (get_or fixed a 0 ∷ get_or fixed b 0 ∷ get_or fixed c 0 ∷ get_or fixed d 0 ∷ [])
 
 -- where the fields stand in the first twenty bytes, and where the options and the body do
-pub record IsSegmentPlaced (src dst : Ip4) (fixed bytes : List ℕ) (s : SegmentParts) : Type 0 where
+pub record IsSegmentPlaced (fixed bytes : List ℕ) (s : SegmentParts) : Type 0 where
   pub len : ℕ
   pub len_is : len ≡ 4 * (get_or fixed 12 0 / 16)
   pub least : 20 ≤ len
@@ -35,11 +35,11 @@ pub record IsSegmentPlaced (src dst : Ip4) (fixed bytes : List ℕ) (s : Segment
   pub window : s.window ≡ number_at fixed 14 15
   pub mss : OptionsSay (drop 20 (take len bytes)) s.mss
   pub body : s.body ≡ drop len bytes
-  pub intact : IsIntact src dst bytes
+  pub short : length bytes < 2 ^ 16
 
-pub segment_placed : (src dst : Ip4) (fixed bytes : List ℕ) (s : SegmentParts) → fixed ≡ take 20 bytes → IsSegment src dst bytes s → IsSegmentPlaced src dst fixed bytes s
+pub segment_placed : (fixed bytes : List ℕ) (s : SegmentParts) → fixed ≡ take 20 bytes → IsLaidOut bytes s → IsSegmentPlaced fixed bytes s
 unfolding tcp_header
-segment_placed src dst fixed bytes s front is =
+segment_placed fixed bytes s front is =
     let head : List ℕ = tcp_header s is.offset is.sum is.urgent in
     let text : List ℕ = head ++ (is.options ++ s.body) in
     let e : fixed ≡ take 20 text = front ∙ ap (λ (b : List ℕ). take 20 b) is.spelled in
@@ -63,15 +63,15 @@ segment_placed src dst fixed bytes s front is =
       window = omega (arith, at 14, at 15, is.fits);
       mss = subst (λ (o : List ℕ). OptionsSay o s.mss) (sym options_are) is.mss;
       body = sym (ap (λ (b : List ℕ). drop len b) apart ∙ drop_at (head ++ is.options) s.body len header_len);
-      intact = is.intact;
+      short = is.short;
     }
 
 abbrev pub made : ℕ → ℕ → ℕ → ℕ → ℕ → ℕ → Option ℕ → List ℕ → SegmentParts
 made src_port dst_port seq ack flags window mss body = record { src_port = src_port; dst_port = dst_port; seq = seq; ack = ack; flags = flags; window = window; mss = mss; body = body }
 
 -- what was read at these places is that segment
-pub segment_found : (src dst : Ip4) (fixed bytes body : List ℕ) (s : SegmentParts) (src_port dst_port seq ack window len : ℕ) (mss : Option ℕ) → IsSegmentPlaced src dst fixed bytes s → src_port ≡ number_at fixed 0 1 → dst_port ≡ number_at fixed 2 3 → seq ≡ word_at fixed 4 5 6 7 → ack ≡ word_at fixed 8 9 10 11 → window ≡ number_at fixed 14 15 → mss ≡ s.mss → len ≡ 4 * (get_or fixed 12 0 / 16) → body ≡ drop len bytes → made src_port dst_port seq ack (get_or fixed 13 0) window mss body ≡ s
-segment_found src dst fixed bytes body s src_port dst_port seq ack window len mss placed src_is dst_is seq_is ack_is window_is mss_is len_is body_is =
+pub segment_found : (fixed bytes body : List ℕ) (s : SegmentParts) (src_port dst_port seq ack window len : ℕ) (mss : Option ℕ) → IsSegmentPlaced fixed bytes s → src_port ≡ number_at fixed 0 1 → dst_port ≡ number_at fixed 2 3 → seq ≡ word_at fixed 4 5 6 7 → ack ≡ word_at fixed 8 9 10 11 → window ≡ number_at fixed 14 15 → mss ≡ s.mss → len ≡ 4 * (get_or fixed 12 0 / 16) → body ≡ drop len bytes → made src_port dst_port seq ack (get_or fixed 13 0) window mss body ≡ s
+segment_found fixed bytes body s src_port dst_port seq ack window len mss placed src_is dst_is seq_is ack_is window_is mss_is len_is body_is =
     let lens : len ≡ placed.len = len_is ∙ sym placed.len_is in
     let flags = get_or fixed 13 0 in
     ap (λ (x : ℕ). made x dst_port seq ack flags window mss body) (src_is ∙ sym placed.src_port)
@@ -83,15 +83,29 @@ segment_found src dst fixed bytes body s src_port dst_port seq ack window len ms
     ∙ ap (λ (x : Option ℕ). made s.src_port s.dst_port s.seq s.ack s.flags s.window x body) mss_is
     ∙ ap (λ (x : List ℕ). made s.src_port s.dst_port s.seq s.ack s.flags s.window s.mss x) (body_is ∙ ap (λ (n : ℕ). drop n bytes) lens ∙ sym placed.body)
 
--- bytes are at most one segment
-pub segment_one : (src dst : Ip4) (bytes : List ℕ) (s t : SegmentParts) → IsSegment src dst bytes s → IsSegment src dst bytes t → s ≡ t
-segment_one src dst bytes s t first second =
-    let a = segment_placed src dst (take 20 bytes) bytes s refl first in
-    let b = segment_placed src dst (take 20 bytes) bytes t refl second in
+-- a segment is laid out as one
+pub laid_out : (src dst : Ip4) (bytes : List ℕ) (s : SegmentParts) → IsSegment src dst bytes s → IsLaidOut bytes s
+laid_out src dst bytes s is =
+    record { offset = is.offset; sum = is.sum; urgent = is.urgent; options = is.options; fits = is.fits; sum_fits = is.sum_fits; urgent_fits = is.urgent_fits; words = is.words; spelled = is.spelled; mss = is.mss; short = is.intact.0 }
+
+-- and one whose checksum is right is a segment
+pub laid_intact : (src dst : Ip4) (bytes : List ℕ) (s : SegmentParts) → IsLaidOut bytes s → IsIntact src dst bytes → IsSegment src dst bytes s
+laid_intact src dst bytes s is intact =
+    record { offset = is.offset; sum = is.sum; urgent = is.urgent; options = is.options; fits = is.fits; sum_fits = is.sum_fits; urgent_fits = is.urgent_fits; words = is.words; spelled = is.spelled; mss = is.mss; intact = intact }
+
+-- bytes are laid out as at most one
+pub laid_one : (bytes : List ℕ) (s t : SegmentParts) → IsLaidOut bytes s → IsLaidOut bytes t → s ≡ t
+laid_one bytes s t first second =
+    let a = segment_placed (take 20 bytes) bytes s refl first in
+    let b = segment_placed (take 20 bytes) bytes t refl second in
     let lens : b.len ≡ a.len = b.len_is ∙ sym a.len_is in
     let mss : s.mss ≡ t.mss = says_one _ s.mss t.mss a.mss (subst (λ (n : ℕ). OptionsSay (drop 20 (take n bytes)) t.mss) lens b.mss) in
     ap (λ (x : ℕ). made s.src_port s.dst_port s.seq s.ack x s.window s.mss s.body) a.flags
-    ∙ segment_found src dst (take 20 bytes) bytes s.body t s.src_port s.dst_port s.seq s.ack s.window a.len s.mss b a.src_port a.dst_port a.seq a.ack a.window mss a.len_is a.body
+    ∙ segment_found (take 20 bytes) bytes s.body t s.src_port s.dst_port s.seq s.ack s.window a.len s.mss b a.src_port a.dst_port a.seq a.ack a.window mss a.len_is a.body
+
+-- so are at most one segment
+pub segment_one : (src dst : Ip4) (bytes : List ℕ) (s t : SegmentParts) → IsSegment src dst bytes s → IsSegment src dst bytes t → s ≡ t
+segment_one src dst bytes s t first second = laid_one bytes s t (laid_out src dst bytes s first) (laid_out src dst bytes t second)
 
 -- the twenty bytes, by their pieces
 abbrev pub header_form : List ℕ → List ℕ → List ℕ → List ℕ → ℕ → ℕ → List ℕ → List ℕ → List ℕ → List ℕ
@@ -117,9 +131,9 @@ header_spelled fixed s fits len src_is dst_is seq_is ack_is flags_is window_is =
     ∙ ap (λ (x : List ℕ). header_form (two 0 1) (two 2 3) seq4 ack4 (at 12) (at 13) (two 14 15) (two 16 17) x) (be16_bytes _ (at 18) (at 19) (fits 18) (fits 19) refl)
     ∙ elements-drop 20 0 fixed len
 
--- bytes of which these are the first twenty, the options and the body are the segment with these fields
-pub segment_made : (src dst : Ip4) (fixed rest bytes options body : List ℕ) (mss : Option ℕ) (src_port dst_port seq ack window len : ℕ) → IsBytes bytes → Splits 20 bytes fixed rest → fixed ≡ take 20 bytes → src_port ≡ number_at fixed 0 1 → dst_port ≡ number_at fixed 2 3 → seq ≡ word_at fixed 4 5 6 7 → ack ≡ word_at fixed 8 9 10 11 → window ≡ number_at fixed 14 15 → len ≡ 4 * (get_or fixed 12 0 / 16) → 20 ≤ len → len ≤ length bytes → options ≡ drop 20 (take len bytes) → body ≡ drop len bytes → OptionsSay options mss → IsIntact src dst bytes → IsSegment src dst bytes (made src_port dst_port seq ack (get_or fixed 13 0) window mss body)
-segment_made src dst fixed rest bytes options body mss src_port dst_port seq ack window len fits front fixed_is src_is dst_is seq_is ack_is window_is len_is least enough options_are body_is says intact =
+-- bytes of which these are the first twenty, the options and the body are laid out as the segment with these fields
+pub segment_made : (fixed rest bytes options body : List ℕ) (mss : Option ℕ) (src_port dst_port seq ack window len : ℕ) → IsBytes bytes → Splits 20 bytes fixed rest → fixed ≡ take 20 bytes → src_port ≡ number_at fixed 0 1 → dst_port ≡ number_at fixed 2 3 → seq ≡ word_at fixed 4 5 6 7 → ack ≡ word_at fixed 8 9 10 11 → window ≡ number_at fixed 14 15 → len ≡ 4 * (get_or fixed 12 0 / 16) → 20 ≤ len → len ≤ length bytes → options ≡ drop 20 (take len bytes) → body ≡ drop len bytes → OptionsSay options mss → length bytes < 2 ^ 16 → IsLaidOut bytes (made src_port dst_port seq ack (get_or fixed 13 0) window mss body)
+segment_made fixed rest bytes options body mss src_port dst_port seq ack window len fits front fixed_is src_is dst_is seq_is ack_is window_is len_is least enough options_are body_is says short =
     let s = made src_port dst_port seq ack (get_or fixed 13 0) window mss body in
     let fixed_fits : IsBytes fixed = IsBytes-front 20 bytes fixed rest front fits in
     let head : tcp_header s (get_or fixed 12 0) (number_at fixed 16 17) (number_at fixed 18 19) ≡ fixed = header_spelled fixed s fixed_fits front.len src_is dst_is seq_is ack_is refl window_is in
@@ -137,5 +151,5 @@ segment_made src dst fixed rest bytes options body mss src_port dst_port seq ack
       words = omega (arith, ap length header, length-append fixed options, length-take len bytes, front.len, len_is, enough);
       spelled = whole ∙ append_assoc fixed options body ∙ ap (λ (x : List ℕ). x ++ (options ++ body)) (sym head);
       mss = says;
-      intact = intact;
+      short = short;
     }

@@ -37,7 +37,21 @@ IsIntact src dst bytes = (length bytes < 2 ^ 16) × (checksum (tcp_pseudo_header
 abbrev pub Fits : SegmentParts → Type 0
 Fits s = (s.src_port < 2 ^ 16) × (s.dst_port < 2 ^ 16) × (s.seq < 2 ^ 32) × (s.ack < 2 ^ 32) × (s.window < 2 ^ 16)
 
--- these bytes are the segment; the data offset counts words of four bytes in the high half of its byte
+-- these bytes are laid out as the segment, whatever their checksum says; the data offset counts words of four bytes in the high half of its byte
+pub record IsLaidOut (bytes : List ℕ) (s : SegmentParts) : Type 0 where
+  pub offset : ℕ
+  pub sum : ℕ
+  pub urgent : ℕ
+  pub options : List ℕ
+  pub fits : Fits s
+  pub sum_fits : sum < 2 ^ 16
+  pub urgent_fits : urgent < 2 ^ 16
+  pub words : 20 + length options ≡ 4 * (offset / 16)
+  pub spelled : bytes ≡ tcp_header s offset sum urgent ++ (options ++ s.body)
+  pub mss : OptionsSay options s.mss
+  pub short : length bytes < 2 ^ 16
+
+-- these bytes are the segment: they are laid out so, and their checksum is right
 pub record IsSegment (src dst : Ip4) (bytes : List ℕ) (s : SegmentParts) : Type 0 where
   pub offset : ℕ
   pub sum : ℕ

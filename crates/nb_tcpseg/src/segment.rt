@@ -27,6 +27,9 @@ pub const ACK: u8 = 16;
 /// The bytes of a header without options.
 const FIXED_LEN: usize = 20;
 
+/// The most bytes of a segment: the pseudo-header has their number in 16 bits.
+const MOST_LEN: usize = 65_535;
+
 /// The least data offset: five words, in the high half of the byte.
 const LEAST_OFFSET: u8 = 0x50;
 
@@ -52,13 +55,27 @@ pub struct Segment<'a> {
 }
 
 impl<'a> Segment<'a> {
-    ghost use Rattle.nb_tcpseg.specs.SegmentText.{SegmentParts, IsSegment, segment_parts, segment_text, tcp_header, mss_option, sent_segment, Fits};
+    ghost use Rattle.nb_tcpseg.specs.SegmentText.{SegmentParts, IsLaidOut, IsSegment, segment_parts, segment_text, tcp_header, mss_option, sent_segment, Fits};
 
     /// The segment between these addresses that the bytes are, if they are one.
     #[inline(always)]
     pub fn read(src: Ip4, dst: Ip4, bytes: &'a [u8]) -> Option<Segment<'a>>
         ensures sound { IfSome result (λ s. IsSegment src dst bytes.now (segment_parts s)) }
         ensures complete { (s : SegmentParts) → IsSegment src dst bytes.now s
+            → IsSomeAnd result (λ found. segment_parts found ≡ s) }
+    {
+        let segment = Segment::parse(bytes)?;
+        if !is_intact(src, dst, bytes) {
+            return None;
+        }
+        Some(segment)
+    }
+
+    /// The segment that the bytes are laid out as, whatever their checksum says: for bytes that a layer below has summed.
+    #[inline(always)]
+    pub fn parse(bytes: &'a [u8]) -> Option<Segment<'a>>
+        ensures sound { IfSome result (λ s. IsLaidOut bytes.now (segment_parts s)) }
+        ensures complete { (s : SegmentParts) → IsLaidOut bytes.now s
             → IsSomeAnd result (λ found. segment_parts found ≡ s) }
     {
         let (fixed, _) = bytes.split_first_chunk::<20>()?;
@@ -82,7 +99,7 @@ impl<'a> Segment<'a> {
             ..
         ] = *fixed;
         let header_len = header_len(offset)?;
-        if bytes.len() < header_len || !is_intact(src, dst, bytes) {
+        if bytes.len() < header_len || bytes.len() > MOST_LEN {
             return None;
         }
         let (header, body) = bytes.split_at(header_len);
