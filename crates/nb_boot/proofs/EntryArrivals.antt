@@ -25,7 +25,7 @@ use Rattle.nb_traced.specs.Outputs.{Arrived}
 use Rattle.nb_network.specs.Takes.{ArrivesAt, at_all, at_connection, at_echo, at_none, at_port, arrival, BeginsWithEntry}
 use Rattle.nb_client.specs.Progressing.{BringsTo, ShutsStanding, StandsFirst}
 use Rattle.nb_boot.specs.Entries.{way_of, segment_arrival, arrival_at}
-use Rattle.nb_streams.specs.Talking.{by_time}
+use Rattle.nb_talks.specs.Talking.{by_time}
 use Rattle.nb_boot.specs.Stepped.{EntersWith, ShutsLive}
 use Rattle.nb_boot.proofs.EntryFrames.{StepComes, none_arrives, enters_none, frame_comes, lives_there, none_some, one_open}
 

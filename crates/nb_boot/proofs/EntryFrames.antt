@@ -33,7 +33,7 @@ use Rattle.nb_openlaws.proofs.Networks.{back_of}
 use Rattle.nb_lawful.proofs.Solitude.{Solitude}
 use Rattle.nb_openlaws.proofs.UsedEvents.{IsUsed, BringsNone, live_one, no_call}
 use Rattle.nb_traced.specs.Entries.{EntryArrival, came_to}
-use Rattle.nb_streams.specs.Talking.{Came, by_segment}
+use Rattle.nb_talks.specs.Talking.{Came, by_segment}
 use Rattle.nb_webs.specs.Webs.{NoTask}
 use Rattle.nb_laws.specs.Webs.{came_at, comes_to_port, ComesToNone}
 use Rattle.nb_traced.specs.Outputs.{Arrived}

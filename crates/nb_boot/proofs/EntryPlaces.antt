@@ -15,7 +15,7 @@ use Rattle.nb_laws.specs.Frames.{IsPut, IsDue, by_call, by_stream, by_opening, s
 use Rattle.nb_laws.specs.Webs.{takes_segment, segment_in, came_at, ComesToNone}
 use Rattle.nb_machine.specs.Connections.{arrived_segment}
 use Rattle.nb_streams.specs.Segments.{Arrival}
-use Rattle.nb_streams.specs.Talking.{Came, by_segment, by_time, by_task}
+use Rattle.nb_talks.specs.Talking.{Came, by_segment, by_time, by_task}
 use Rattle.nb_webs.specs.Webs.{NoTask}
 use Rattle.nb_laws.specs.Endings.{is_off}
 use Rattle.nb_laws.specs.Frames as frames

@@ -6,7 +6,7 @@ use Rattle.nb_defs.specs.Records.{Out, step, sent, tried}
 use Rattle.nb_stack.specs.Brings.{Brought}
 use Rattle.nb_stack.specs.Takes.{reply_of}
 use Rattle.nb_tftp.specs.History.{Call, came, ticked}
-use Rattle.nb_streams.specs.Talking.{Came, by_segment, by_time, by_task}
+use Rattle.nb_talks.specs.Talking.{Came, by_segment, by_time, by_task}
 use Rattle.nb_webs.specs.Webs.{NoTask}
 use Rattle.nb_laws.specs.Events.{Event, starts, hears, waits, stops, puts, outputs, EachEvent}
 use Rattle.nb_laws.specs.Histories.{client}

@@ -9,8 +9,8 @@ use Rattle.nb_stack.specs.Client.{Client}
 use Rattle.nb_tcpseg.specs.SegmentText.{SegmentParts}
 use Rattle.nb_streams.specs.Segments.{Incoming, Arrival}
 use Rattle.nb_streams.specs.Sending.{Outgoing, syn}
-use Rattle.nb_streams.specs.Talking.{Came, by_segment, by_time, Talker, Talk, talk_after}
-use Rattle.nb_streams.specs.TalkPromises.{Sends, Put, PutsSo, close_put}
+use Rattle.nb_talks.specs.Talking.{Came, by_segment, by_time, Talker, Talk, talk_after}
+use Rattle.nb_talks.specs.TalkPromises.{Sends, Put, PutsSo, close_put}
 use Rattle.nb_tcp.specs.declared.link.Link.{Link}
 use Rattle.nb_tcp.specs.Arriving.{sets_flag}
 use Rattle.nb_tcp.specs.Messages.{outgoing_message}

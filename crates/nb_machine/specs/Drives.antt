@@ -2,7 +2,7 @@
 use Rattle.std.specs.Prelude.{ℕ, ◌-◌, Bool, List, [], ◌∷◌, length, slice_get, Option, Some, None}
 use Rattle.nb_login.specs.declared.info.LoginInfo.{LoginInfo}
 use Rattle.nb_streams.specs.Streams.{front}
-use Rattle.nb_streams.specs.Talking.{Came, by_task, Talk, talk_held}
+use Rattle.nb_talks.specs.Talking.{Came, by_task, Talk, talk_held}
 use Rattle.nb_sans.specs.Sessions.{ReadTask, session_talker, session_capacity, session_chap, TaskAnswer, tasks_taken, task_answers}
 use Rattle.nb_machine.specs.Lives.{OpenInput, message, tcp_segment, time, task, close, Live}
 use Rattle.nb_machine.specs.Connections.{came_on, Talking, connection_of, talk_of, KeepsTalk}

@@ -3,7 +3,7 @@ use Rattle.std.specs.Prelude.{ℕ, List, [], Option, None, Result, Ok, Err}
 use Rattle.nb_responses.specs.Chunks.{Response}
 use Rattle.nb_responses.specs.Requests.{request_text}
 use Rattle.nb_readings.specs.Ends.{text_of}
-use Rattle.nb_streams.specs.Talking.{Talker}
+use Rattle.nb_talks.specs.Talking.{Talker}
 use Rattle.nb_webs.specs.Webs.{NoTask, web, response_come}
 use Rattle.nb_uri.specs.declared.target.UriTarget.{UriTarget}
 use Rattle.nb_uri.specs.declared.target.UriTarget.TheVariants.{Tftp, Http, Iscsi}

@@ -24,7 +24,7 @@ use Rattle.nb_machine.specs.Lives.{OpenInput, message, time, OpenKind, tftp, htt
 use Rattle.nb_machine.specs.Connections.{Connection, connection_of, came_on, talk_of, KeepsAt, EachExchange, Talking}
 use Rattle.nb_machine.specs.Drives.{session_talking}
 use Rattle.nb_machine.specs.Webs.{web_at, web_talking}
-use Rattle.nb_streams.specs.Talking.{Talk, Talker, talk_after}
+use Rattle.nb_talks.specs.Talking.{Talk, Talker, talk_after}
 use Rattle.nb_readings.specs.Ends.{text_of}
 use Rattle.nb_webs.specs.Webs.{NoTask, response_come}
 use Rattle.nb_machine.specs.States.{bare}

@@ -15,7 +15,7 @@ use Rattle.nb_machine.specs.Transfers.{transfer_records, transfer_end, end_recor
 use Rattle.nb_machine.specs.Cores.{core_records, core_end}
 use Rattle.nb_machine.specs.CommandRecords.{no_route}
 use Rattle.nb_machine.specs.Connections.{Connection, segment_records, loses_way, talk_end, put_records}
-use Rattle.nb_streams.specs.TalkPromises.{Sends, Put}
+use Rattle.nb_talks.specs.TalkPromises.{Sends, Put}
 use Rattle.nb_tcp.specs.Messages.{outgoing_message}
 
 pub bare_route : (c : Client) (m : SendTo) → has_route (bare c) m ≡ has_route c m

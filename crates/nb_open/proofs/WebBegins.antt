@@ -15,8 +15,8 @@ use Rattle.nb_stack.specs.Client.{Client}
 use Rattle.nb_stack.specs.Sends.{put_on, way_of}
 use Rattle.nb_streams.specs.Flows.{text_came}
 use Rattle.nb_streams.specs.Sending.{closing_segment, syn}
-use Rattle.nb_streams.specs.Talking.{Talk, talk_after}
-use Rattle.nb_streams.specs.TalkPromises.{close_put, phase_of}
+use Rattle.nb_talks.specs.Talking.{Talk, talk_after}
+use Rattle.nb_talks.specs.TalkPromises.{close_put, phase_of}
 use Rattle.nb_tcp.specs.Messages.{outgoing_message}
 use Rattle.nb_conns.specs.ConnAsks.{link_of}
 use Rattle.nb_conns.specs.ConnEffects.{segments_say}

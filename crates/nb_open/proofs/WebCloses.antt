@@ -14,7 +14,7 @@ use Rattle.nb_stack.specs.Client.{Client}
 use Rattle.nb_stack.specs.Sends.{put_on, way_of}
 use Rattle.nb_streams.specs.Flows.{TcpCall, conn_phase}
 use Rattle.nb_streams.specs.Sending.{closing_segment}
-use Rattle.nb_streams.specs.TalkPromises.{close_put}
+use Rattle.nb_talks.specs.TalkPromises.{close_put}
 use Rattle.nb_tcp.specs.Messages.{outgoing_message}
 use Rattle.nb_traced.specs.Plain.{without_graph}
 use Rattle.nb_wire.specs.declared.address.Ip4.{Ip4}

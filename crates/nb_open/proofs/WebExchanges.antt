@@ -17,8 +17,8 @@ use Rattle.nb_opens.specs.Notices.{first_close}
 use Rattle.nb_stack.specs.Client.{Client}
 use Rattle.nb_streams.specs.Flows.{conn_phase, text_came}
 use Rattle.nb_streams.specs.Sending.{closing_segment}
-use Rattle.nb_streams.specs.Talking.{Came, Talk}
-use Rattle.nb_streams.specs.TalkPromises.{Put, Sends}
+use Rattle.nb_talks.specs.Talking.{Came, Talk}
+use Rattle.nb_talks.specs.TalkPromises.{Put, Sends}
 use Rattle.nb_tcp.specs.Messages.{outgoing_message}
 use Rattle.nb_machine.specs.CommandRecords.{no_route}
 use Rattle.nb_machine.specs.Connections.{Connection, KeepsAt, PutsAt, came_on, connection_of, loses_way, put_records, segment_records, talk_end, talk_of}

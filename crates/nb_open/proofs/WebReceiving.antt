@@ -28,12 +28,13 @@ use Rattle.nb_streams.specs.Endings.{end_cause, segment_end}
 use Rattle.nb_streams.specs.Flows.{TcpCall, conn_phase}
 use Rattle.nb_streams.specs.Sending.{calls_for}
 use Rattle.nb_streams.specs.Segments.{Arrival as Incoming}
-use Rattle.nb_streams.specs.Talking.{Came, Talk, by_segment}
-use Rattle.nb_streams.specs.TalkPromises.{Put, Sends, closes_by, segment_put}
+use Rattle.nb_talks.specs.Talking.{Came, Talk, by_segment}
+use Rattle.nb_talks.specs.TalkPromises.{Put, Sends, closes_by, segment_put}
 use Rattle.nb_tcp.specs.ConnPromises.{last_try}
 use Rattle.nb_tcp.specs.declared.link.Link.{Link}
 use Rattle.nb_tcp.specs.Messages.{outgoing_message}
 use Rattle.nb_tcpseg.specs.SegmentText.{IsSegment, SegmentParts}
+use Rattle.nb_tcpseg.proofs.HeaderLemmas.{laid_out}
 use Rattle.nb_machine.specs.Connections.{Connection, PutsAt, came_on, connection_of, talk_of}
 use Rattle.nb_machine.specs.Kinds.{fetched_by, moved_by}
 use Rattle.nb_machine.specs.Lives.{Exchange, Live, exchange, http, tcp_segment}
@@ -113,7 +114,7 @@ module _ (who : Speaker) (port : ℕ) (own : Ip4) (c : WebChain) (l : Live) (old
   comes : SegmentComes ask l.since talk.calls c new arr now k.ns
   comes =
       segments ask l.since talk.calls c old new rec now a g (Some (Entered (port_at c.conn.0 1) way.Up)) m n k (record { was = is.chained; is = k.still; hosted = talks.hosted; noded = k.noded; opened = talks.opened; kinds = talks.kinds }) talks.stands from.1 from.0
-      (subst (λ z. IsSegment (host l.server) z a.body.now g) (sym has) (subst (λ z. IsSegment z at a.body.now g) (ap host from.0) segment)) (omega (arith, short))
+      (laid_out a.source at a.body.now g segment) (omega (arith, short))
 
   -- it is what the promise puts
   puts : PutsAt (web_talking l.target) conn talk (tcp_segment rec g now) put

@@ -20,7 +20,7 @@ use Rattle.nb_streams.specs.Endings.{segment_end}
 use Rattle.nb_streams.specs.Flows.{ConnPhase, TcpCall, asking, conn_phase, flowing}
 use Rattle.nb_streams.specs.Segments.{Arrival, Incoming}
 use Rattle.nb_streams.specs.Sending.{Outgoing, calls_for, only_if}
-use Rattle.nb_streams.specs.TalkPromises.{Sends, closes_by, due_sends}
+use Rattle.nb_talks.specs.TalkPromises.{Sends, closes_by, due_sends}
 use Rattle.nb_tcp.specs.declared.link.Link.{Link}
 use Rattle.nb_tcp.specs.Messages.{outgoing_message}
 use Rattle.nb_machine.specs.Connections.{Connection, loses_way, segment_records}

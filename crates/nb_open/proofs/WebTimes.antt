@@ -14,8 +14,8 @@ use Rattle.nb_retry.specs.declared.retry.Due.TheVariants.{Again, Not, Over}
 use Rattle.nb_stack.specs.Client.{Client}
 use Rattle.nb_streams.specs.Endings.{due_end, end_cause, plan_tries}
 use Rattle.nb_streams.specs.Flows.{TcpCall, conn_phase}
-use Rattle.nb_streams.specs.Talking.{by_time}
-use Rattle.nb_streams.specs.TalkPromises.{Put, due_sends, time_put}
+use Rattle.nb_talks.specs.Talking.{by_time}
+use Rattle.nb_talks.specs.TalkPromises.{Put, due_sends, time_put}
 use Rattle.nb_streams.specs.Trying.{timer_after}
 use Rattle.nb_tcp.specs.ConnPromises.{last_try}
 use Rattle.nb_machine.specs.Connections.{Connection, connection_of, talk_of}

@@ -4,7 +4,7 @@ use Rattle.std.proofs.lemmas.List.{map-append}
 use Rattle.std.proofs.lemmas.List.Sums.{fold-append}
 use Rattle.nb_terms.specs.declared.cause.Cause.{Cause}
 use Rattle.nb_streams.specs.Streams.{IsPrefixOf}
-use Rattle.nb_streams.specs.Talking.{OnlyAdds}
+use Rattle.nb_talks.specs.Talking.{OnlyAdds}
 use Rattle.nb_iscsipdu.specs.Streams.{cut}
 use Rattle.nb_login.specs.declared.info.LoginInfo.{LoginInfo}
 use Rattle.nb_login.specs.declared.session.Session.{Session}

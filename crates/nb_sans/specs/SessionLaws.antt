@@ -2,7 +2,7 @@
 use Rattle.std.specs.Prelude.{◌≡◌, ◌≤◌, ◌||◌, ℕ, Bool, true, false, List, [], ◌∷◌, ◌++◌, length, Some, None}
 use Rattle.std.specs.List.{AllByRecursion}
 use Rattle.nb_terms.specs.declared.cause.Cause.{Cause}
-use Rattle.nb_streams.specs.Talking.{Came, OnlyAdds, said, to_say, talk_after}
+use Rattle.nb_talks.specs.Talking.{Came, OnlyAdds, said, to_say, talk_after}
 use Rattle.nb_iscsipdu.specs.PduTexts.{PduParts}
 use Rattle.nb_iscsipdu.specs.Answers.{answer_read}
 use Rattle.nb_iscsipdu.specs.Streams.{cut, is_refused}

@@ -2,7 +2,7 @@
 use Rattle.std.specs.Prelude.{ℕ, ◌*◌, ◌==◌, ◌&&◌, ◌||◌, not, Bool, true, List, [], ◌∷◌, ◌++◌, length, take, drop, map, max, nat_le, nat_lt, Option, Some, None, option_map, if◌then◌else◌}
 use Rattle.std.specs.Option.{option_or, is_some}
 use Rattle.nb_terms.specs.declared.cause.Cause.{Cause}
-use Rattle.nb_streams.specs.Talking.{Talker}
+use Rattle.nb_talks.specs.Talking.{Talker}
 use Rattle.nb_iscsipdu.specs.declared.command.Command.TheVariants.{TestUnitReady}
 use Rattle.nb_iscsipdu.specs.PduTexts.{PduParts, pdu_text}
 use Rattle.nb_iscsipdu.specs.Streams.{Cut, cut, is_refused}

@@ -8,5 +8,3 @@ pub mod TryLaws
 pub mod SendLaws
 pub mod EndLaws
 pub mod OtherSendLaws
-pub mod TalkLaws
-pub mod TalkPromiseLaws

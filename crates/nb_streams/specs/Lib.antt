@@ -5,5 +5,3 @@ pub mod Carrying
 pub mod Sending
 pub mod Trying
 pub mod Endings
-pub mod Talking
-pub mod TalkPromises

@@ -9,8 +9,6 @@ ghost use Rattle.nb_streams.specs.Segments.{Arrival};
 ghost use Rattle.nb_streams.specs.Sending.{MaySend, calls_for, is_reset, text_calls_for, closing_segment, tried_again};
 ghost use Rattle.nb_terms.specs.declared.cause.Cause.{Cause};
 ghost use Rattle.nb_streams.specs.Endings.{ConnEnds, segment_end};
-ghost use Rattle.nb_streams.specs.Talking.{AllIsSaid};
-ghost use Rattle.nb_streams.specs.TalkPromises.{OneAnswer, SendWhatMayBe};
 ghost use Rattle.nb_streams.specs.Trying.{is_answer, TryTimer, timer_since, timer_by};
 ghost use Rattle.nb_streams.specs.Carrying.{AreFrom};
 
@@ -61,15 +59,4 @@ pub fn others_may_be_sent()
 pub fn segment_ends_stand()
     ensures { (isn start : ℕ) (calls : List TcpCall) (m : Arrival) (now : ℕ) (cause : Cause) → segment_end isn (conn_phase isn calls) m ≡ Some cause
         → ConnEnds isn start calls (segment_came m now) cause }
-{}
-
-/// All that is to be said on a connection has been said, in order and once, whatever came; its tasks are of type T.
-pub fn all_is_said<T>()
-    ensures { AllIsSaid T }
-{}
-
-/// What comes to an open on a connection leaves one answer, and all that it sends it may send.
-pub fn talks_keep_to_what_came<T>()
-    ensures one { OneAnswer T }
-    ensures may { SendWhatMayBe T }
 {}

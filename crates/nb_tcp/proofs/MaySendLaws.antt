@@ -11,7 +11,7 @@ use Rattle.nb_streams.specs.Flows.{TcpCall, segment_came, time_came, text_came, 
 use Rattle.nb_streams.specs.Sending.{Outgoing, MaySend, by_asking, by_text, by_probe, by_closing_early, by_closing, by_closing_behind, text_segment, tried_again, calls_for, has_stop, with_first_try, only_if, closing_segment, text_calls_for}
 use Rattle.nb_streams.specs.Trying.{timer_after}
 use Rattle.nb_streams.proofs.StreamLaws.{either}
-use Rattle.nb_streams.proofs.OtherSendLaws.{again_may, closing_may, text_calls_may}
+use Rattle.nb_streams.proofs.OtherSendLaws.{again_may, closing_may, text_may_be_sent}
 use Rattle.nb_streams.proofs.SendLaws.{IsPhase, all_in_order, all_may_be_sent}
 use Rattle.nb_tcp.specs.declared.link.Link.{Link}
 use Rattle.nb_tcp.specs.Messages.{outgoing_message}
@@ -38,16 +38,13 @@ pub sends_may : (l : Link) (start : ℕ) (h : List ConnEntry) (e : ConnEntry) �
     → AllByRecursion (MayBeSent l (tcp_calls h ++ tcp_calls_of e.call)) e.acts.sends.items
 sends_may l start h e keeps not_back not_lent = by_call e.call refl (each_last (AsksAsPromised l start) [] h e keeps.each)
   where
-    order_then : (c : TcpCall) → IsPhase (after_tcp_call l.isn (conn_phase l.isn (tcp_calls h)) c)
-    order_then c = subst IsPhase (phase-append l.isn (tcp_calls h) c) (all_in_order l.isn (tcp_calls h ++ c ∷ []))
-
     by_call : (c : ConnCall) → e.call ≡ c → IsAskedSo l start h e c → AllByRecursion (MayBeSent l (tcp_calls h ++ tcp_calls_of c)) e.acts.sends.items
     by_call (calls_in (segment_came m now)) is k = subst (λ (a : Acts). AllByRecursion (MayBeSent l (tcp_calls h ++ segment_came m now ∷ [])) a.sends.items) (sym k.0)
         (may_all l (tcp_calls h ++ segment_came m now ∷ []) (calls_for l.isn (conn_phase l.isn (tcp_calls h)) m.segment) (all_may_be_sent l.isn (tcp_calls h) m now))
     by_call (calls_in (time_came now)) is k = subst (λ (a : Acts). AllByRecursion (MayBeSent l (tcp_calls h ++ time_came now ∷ [])) a.sends.items) (sym k.0)
         (due_may l (tcp_calls h ++ time_came now ∷ []) (conn_phase l.isn (tcp_calls h)) (is_waiting_after h) (timer_after l.isn start (tcp_calls h)).plan (due_said e.acts) (all_in_order l.isn (tcp_calls h)) (phase-append l.isn (tcp_calls h) (time_came now)))
     by_call (calls_in (text_came bytes now)) is k = subst (λ (a : Acts). AllByRecursion (MayBeSent l (tcp_calls h ++ text_came bytes now ∷ [])) a.sends.items) (sym k.0)
-        (may_all l (tcp_calls h ++ text_came bytes now ∷ []) (text_calls_for (conn_phase l.isn (tcp_calls h)) bytes) (text_calls_may l.isn (tcp_calls h ++ text_came bytes now ∷ []) (conn_phase l.isn (tcp_calls h)) bytes now (order_then (text_came bytes now)) (phase-append l.isn (tcp_calls h) (text_came bytes now))))
+        (may_all l (tcp_calls h ++ text_came bytes now ∷ []) (text_calls_for (conn_phase l.isn (tcp_calls h)) bytes) (text_may_be_sent l.isn (tcp_calls h) bytes now))
     by_call (lends_out bytes) is k = absurd (not_lent bytes is)
     by_call comes_back is k = absurd (not_back is)
     by_call closes_from_above is k = subst (λ (a : Acts). AllByRecursion (MayBeSent l (tcp_calls h ++ [])) a.sends.items) (sym k)

@@ -5,8 +5,8 @@ use Rattle.nb_streams.specs.Segments.{Arrival}
 use Rattle.nb_streams.specs.Flows.{TcpCall, segment_came, time_came, text_came, conn_phase, held_after}
 use Rattle.nb_streams.specs.Sending.{calls_for}
 use Rattle.nb_streams.specs.Endings.{end_cause, segment_end}
-use Rattle.nb_streams.specs.Talking.{Came, by_segment, by_time, by_task, Talker, Talk, receives, talk_after}
-use Rattle.nb_streams.specs.TalkPromises.{Put, closes_by, earlier, PutsSo}
+use Rattle.nb_talks.specs.Talking.{Came, by_segment, by_time, by_task, Talker, Talk, receives, talk_after}
+use Rattle.nb_talks.specs.TalkPromises.{Put, closes_by, earlier, PutsSo}
 use Rattle.nb_responses.specs.Chunks.{Response}
 use Rattle.nb_readings.specs.Readings.{response_read}
 use Rattle.nb_readings.specs.Ends.{verdict_end, is_whole}

@@ -9,8 +9,8 @@ use Rattle.nb_graph.specs.Trace.{NodeEntry, Said, left, said_behind, silence, ti
 use Rattle.nb_graph.specs.Deeds.{Deed, Holds, Offers, Ticks, rest, runs_of}
 use Rattle.nb_streams.specs.Flows.{time_came}
 use Rattle.nb_tcp.specs.ConnHistory.{ConnEntry, calls_in, conn_entry}
-use Rattle.nb_tcpseg.specs.SegmentText.{SegmentParts, IsSegment}
-use Rattle.nb_tcpseg.proofs.HeaderLemmas.{segment_one}
+use Rattle.nb_tcpseg.specs.SegmentText.{SegmentParts, IsLaidOut}
+use Rattle.nb_tcpseg.proofs.HeaderLemmas.{laid_one}
 use Rattle.nb_conns.specs.declared.conn_ask.ConnAsk.{ConnAsk}
 use Rattle.nb_conns.specs.declared.conn_load.Lent.{Lent}
 use Rattle.nb_conns.specs.ConnEffects.{downs_for}
@@ -46,12 +46,12 @@ pub data TimeDid (c : WebCall) (n : ℕ) (ds : List (Deed Obj Load)) (b : ConnAs
   time_does : (acts : Acts) → CallDid c n ds (talked_on b start (calls ++ conn_entry (calls_in (time_came c.now)) acts ∷ []) None acts.over) acts.over (downs_for 0 acts) q 0 stream [] false → TimeDid c n ds b start calls q stream
 
 module _ {c : WebCall} {n : ℕ} {a : List (NodeEntry Obj Load)} {ds : List (Deed Obj Load)} {q : AskParts} {core : Core} {stream given : List ℕ} {b : ConnAsk} {start : ℕ} {calls : List ConnEntry} (reads : ReadsOn core stream given) (going : gathers a ≡ true) (taken : taken_below a ≡ given) where
-  segment_did : (m : Said) (s : SegmentParts) (done : Bool) (fx : Fx Obj Load) (d : Dialogue) → comes_from b 1 m ≡ true → IsSegment b.peer b.own m.bytes s → length m.bytes < 2 ^ 32 → Converses conn_carrier (talking b start calls None) (up 1 m c.now done fx) d
+  segment_did : (m : Said) (s : SegmentParts) (done : Bool) (fx : Fx Obj Load) (d : Dialogue) → comes_from b 1 m ≡ true → IsLaidOut m.bytes s → length m.bytes < 2 ^ 32 → Converses conn_carrier (talking b start calls None) (up 1 m c.now done fx) d
       → Walk c n (view true true true true) (runs_of obj_nature c.conn m done fx ++ Holds (port_at c.conn 1) way.Up (rest m done fx) ∷ []) a (fetching q core stream given) d [] None ds → SegmentDid c n ds b start calls q stream m s
   segment_did m s false fx d comes is short by k = segment_fails (conn_fails (Holds (port_at c.conn 1) way.Up None ∷ []) m fx k)
   segment_did m s true fx _ comes is short (takes_segment _ _ _ _ _ _ _ t acts out came text lends effects all) k =
       let more : List ConnEntry = with_lending (with_segment_call calls m.rec t c.now acts) out in
-      subst (λ z. SegmentDid c n ds b start calls q stream m z) (segment_one b.peer b.own m.bytes t s text is)
+      subst (λ z. SegmentDid c n ds b start calls q stream m z) (laid_one m.bytes t s text is)
       (segment_does acts out lends
       (entry_by b start reads going taken 1 way.Up refl m more acts out (comes_to_end b calls (with_segment_call calls m.rec t c.now acts)) fx effects
       (as_stages (runs_of obj_nature c.conn m true fx ++ Holds (port_at c.conn 1) way.Up None ∷ []) (ap (λ o. runs_of obj_nature c.conn m true fx ++ Holds (port_at c.conn 1) way.Up o ∷ []) (none_left m fx.took short all)) k)))
@@ -59,7 +59,7 @@ module _ {c : WebCall} {n : ℕ} {a : List (NodeEntry Obj Load)} {ds : List (Dee
   segment_did m s true fx d comes is short (ends_short _ _ cut hands) k = absurd (let z = cut in cc)
   segment_did m s true fx d comes is short (rests_still _ _ quiet asks) k = absurd (false≢true (sym (ap not comes) ∙ quiet))
 
-  pub segment_walk : (m : Said) (s : SegmentParts) → comes_from b 1 m ≡ true → IsSegment b.peer b.own m.bytes s → length m.bytes < 2 ^ 32
+  pub segment_walk : (m : Said) (s : SegmentParts) → comes_from b 1 m ≡ true → IsLaidOut m.bytes s → length m.bytes < 2 ^ 32
       → Walk c n (view true true true true) (Offers (port_at c.conn 1) m ∷ []) a (fetching q core stream given) (talking b start calls None) [] None ds → SegmentDid c n ds b start calls q stream m s
   segment_walk m s comes is short k = let w = offer_conn k in segment_did m s w.0 w.1 w.2 comes is short w.3 w.4
 

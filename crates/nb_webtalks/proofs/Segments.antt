@@ -14,12 +14,12 @@ use Rattle.nb_streams.specs.Flows.{TcpCall, ConnPhase, after_tcp_call, conn_phas
 use Rattle.nb_streams.specs.Segments.{Arrival}
 use Rattle.nb_streams.specs.Sending.{calls_for, closing_segment, without_try}
 use Rattle.nb_streams.specs.Streams.{front, grown, has_ended, next}
-use Rattle.nb_streams.specs.TalkPromises.{closes_by, earlier}
+use Rattle.nb_talks.specs.TalkPromises.{closes_by, earlier}
 use Rattle.nb_streams.proofs.FlowLaws.{front_grows}
 use Rattle.nb_tcp.specs.ConnHistory.{ConnEntry, EachConnEntry, calls_in, closes_from_above, conn_entry, delivered, tcp_calls, tcp_calls_of}
 use Rattle.nb_tcp.specs.ConnPromises.{AsksAsPromised, ConnKeeps, segment_asks}
 use Rattle.nb_tcp.proofs.ConnHistoryLemmas.{calls-append, delivered-append, phase-append}
-use Rattle.nb_tcpseg.specs.SegmentText.{IsSegment, SegmentParts}
+use Rattle.nb_tcpseg.specs.SegmentText.{IsLaidOut, SegmentParts}
 use Rattle.nb_conns.specs.declared.conn_ask.ConnAsk.{ConnAsk}
 use Rattle.nb_conns.specs.declared.conn_load.Lent.{Lent}
 use Rattle.nb_conns.specs.ConnAsks.{link_of}
@@ -133,7 +133,7 @@ record Knows (a : ConnAsk) (start : ℕ) (calls : List TcpCall) (m : Arrival) (n
   all : stream_by a calls ++ up_bytes out ≡ stream_by a (with_segment calls m now)
 
 module _ (c : WebChain) (order : IsInOrder c) (g h : Objects Obj) (now : ℕ) (ns : List Notice) (a : ConnAsk) (start : ℕ) (calls : List TcpCall) (s : StandsForTalk a start calls c g) (msg : Said) (sp : SegmentParts)
-    (comes : comes_from a 1 msg ≡ true) (is : IsSegment a.peer a.own msg.bytes sp) (short : length msg.bytes < 2 ^ 32) (st : Started c order g h now (Offers (port_at c.conn.0 1) msg ∷ []) ns s.above s.between s.below) where
+    (comes : comes_from a 1 msg ≡ true) (is : IsLaidOut msg.bytes sp) (short : length msg.bytes < 2 ^ 32) (st : Started c order g h now (Offers (port_at c.conn.0 1) msg ∷ []) ns s.above s.between s.below) where
   abbrev m : Arrival
   m = arriving msg.rec sp
 

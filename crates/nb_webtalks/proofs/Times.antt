@@ -13,7 +13,7 @@ use Rattle.nb_ledger.specs.Flat.{Notice}
 use Rattle.nb_streams.specs.Endings.{due_end}
 use Rattle.nb_streams.specs.Flows.{TcpCall, ConnPhase, conn_phase, held_after, time_came}
 use Rattle.nb_streams.specs.Streams.{has_ended}
-use Rattle.nb_streams.specs.TalkPromises.{due_sends}
+use Rattle.nb_talks.specs.TalkPromises.{due_sends}
 use Rattle.nb_streams.specs.Trying.{due_fired, fired, timer_after}
 use Rattle.nb_tcp.specs.declared.link.Link.{Link}
 use Rattle.nb_tcp.specs.ConnHistory.{ConnEntry, EachConnEntry, calls_in, conn_entry, delivered, due_said, is_waiting_after, tcp_calls}

@@ -14,7 +14,7 @@ use Rattle.nb_nodes.specs.Objects.{rank_of_obj}
 use Rattle.nb_streams.specs.Flows.{TcpCall, conn_phase}
 use Rattle.nb_streams.specs.Sending.{closing_segment, without_try}
 use Rattle.nb_terms.specs.declared.cause.Cause.{Cause}
-use Rattle.nb_tcpseg.specs.SegmentText.{IsSegment, SegmentParts}
+use Rattle.nb_tcpseg.specs.SegmentText.{IsLaidOut, SegmentParts}
 use Rattle.nb_webchains.specs.declared.web_chain.WebChain.{WebChain}
 use Rattle.nb_webchains.specs.WebCalls.{ClosesFetch, DoesWeb, begins_web, receives_web, ticks_web}
 use Rattle.nb_webchains.specs.WebChains.{AreOfWeb, IsOpenWeb, IsReadyWeb, web_ids}
@@ -40,7 +40,7 @@ BeginsCome = (q : AskParts) (c : WebChain) (g h : Objects Obj) (rec now host : �
 -- A segment of the peer comes.
 abbrev pub SegmentsCome : Type 0
 SegmentsCome = (a : ConnAsk) (start : ℕ) (calls : List TcpCall) (c : WebChain) (g h : Objects Obj) (rec now : ℕ) (came : Arrival) (s : SegmentParts) (entry : Option GraphEvent) (before after : Heard) (d : DoesWeb c now (receives_web c rec came) entry g h before after)
-    → AreCalled c g h → StandsForTalk a start calls c g → came.port ≡ a.peer_port → came.source.0 ≡ a.peer.0 → IsSegment a.peer a.own came.body.now s → length came.body.now < 2 ^ 32 → SegmentComes a start calls c h (arriving rec s) now d.ns
+    → AreCalled c g h → StandsForTalk a start calls c g → came.port ≡ a.peer_port → came.source.0 ≡ a.peer.0 → IsLaidOut came.body.now s → length came.body.now < 2 ^ 32 → SegmentComes a start calls c h (arriving rec s) now d.ns
 
 -- A time comes.
 abbrev pub TimesCome : Type 0

@@ -20,7 +20,7 @@ use Rattle.nb_streams.specs.Endings.{due_end, segment_end}
 use Rattle.nb_streams.specs.Flows.{TcpCall, conn_phase, segment_came, text_came, time_came}
 use Rattle.nb_streams.specs.Segments.{Arrival}
 use Rattle.nb_streams.specs.Sending.{calls_for, syn, with_first_try}
-use Rattle.nb_streams.specs.TalkPromises.{Sends, closes_by, due_sends}
+use Rattle.nb_talks.specs.TalkPromises.{Sends, closes_by, due_sends}
 use Rattle.nb_streams.specs.Trying.{due_fired, fired, timer_after}
 use Rattle.nb_retry.specs.declared.retry.Due.{Due}
 use Rattle.nb_responses.specs.Requests.{request_text}

@@ -69,8 +69,39 @@ receives isn d (by_segment m now) = record d { calls = d.calls ++ segment_came m
 receives isn d (by_time now) = record d { calls = d.calls ++ time_came now ∷ [] }
 receives isn d (by_task task now) = record d { tasks = d.tasks ++ (task, length (front (talk_held isn d))) ∷ [] }
 
+-- what a text adds to one that it begins with
+abbrev pub more_of : List ℕ → List ℕ → List ℕ
+more_of before after = drop (length before) after
+
+-- the texts that the next bytes of a stream bring, one for each byte; most of them are empty
+abbrev pub texts_by : {T : Type 0} → Talker T → Bool → List (T × ℕ) → (come later : List ℕ) → List (List ℕ)
+texts_by t ended tasks come [] = []
+texts_by t ended tasks come (b ∷ later) = more_of (t.says come ended tasks) (t.says (come ++ b ∷ []) ended tasks) ∷ texts_by t ended tasks (come ++ b ∷ []) later
+
+-- what has come of the stream, and whether it has ended
+abbrev pub come_of : {T : Type 0} → ℕ → Talk T → List ℕ
+come_of isn d = front (talk_held isn d)
+
+abbrev pub ended_of : {T : Type 0} → ℕ → Talk T → Bool
+ended_of isn d = has_ended (talk_held isn d)
+
+-- The texts that are said as this comes, in turn: each as soon as the byte that calls for it has come, so that a segment with two PDUs that
+-- want answers brings two texts; and last what the end of the stream calls for. A time brings none, a task one.
+abbrev pub texts_for : {T : Type 0} → Talker T → ℕ → Talk T → Came T → List (List ℕ)
+texts_for t isn d (by_segment m now) =
+    let heard = receives isn d (by_segment m now) in
+    texts_by t (ended_of isn d) d.tasks (come_of isn d) (more_of (come_of isn d) (come_of isn heard))
+    ++ more_of (t.says (come_of isn heard) (ended_of isn d) d.tasks) (t.says (come_of isn heard) (ended_of isn heard) d.tasks) ∷ []
+texts_for t isn d (by_time now) = []
+texts_for t isn d (by_task task now) = unsaid t isn (receives isn d (by_task task now)) ∷ []
+
+-- they are given to the connection one after another
+abbrev pub text_calls : List (List ℕ) → ℕ → List TcpCall
+text_calls [] now = []
+text_calls (x ∷ xs) now = text_to_send x now ++ text_calls xs now
+
 abbrev pub talks_on : {T : Type 0} → Talker T → ℕ → Talk T → Came T → Talk T
-talks_on t isn d c = says_on t isn (time_of c) (receives isn d c)
+talks_on t isn d c = let heard = receives isn d c in record heard { calls = heard.calls ++ text_calls (texts_for t isn d c) (time_of c) }
 
 -- a talk that begins, and one to which all this came
 abbrev pub begun_talk : {T : Type 0} → Talker T → ℕ → ℕ → Talk T

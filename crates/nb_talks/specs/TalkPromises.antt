@@ -11,7 +11,7 @@ use Rattle.nb_streams.specs.Flows.{TcpCall, time_came, ConnPhase, conn_phase}
 use Rattle.nb_streams.specs.Sending.{Outgoing, MaySend, without_try, calls_for, text_calls_for, closing_segment, tried_again}
 use Rattle.nb_streams.specs.Trying.{timer_after, fired, due_fired}
 use Rattle.nb_streams.specs.Endings.{segment_end, due_end}
-use Rattle.nb_streams.specs.Talking.{Came, by_segment, by_time, by_task, Talker, Talk, talk_held, unsaid, receives, talks_on}
+use Rattle.nb_talks.specs.Talking.{Came, by_segment, by_time, by_task, Talker, Talk, talk_held, unsaid, text_to_send, texts_for, receives, talks_on}
 
 -- segments, each with its try where it is one
 abbrev pub Sends : Type 0
@@ -31,6 +31,16 @@ abbrev pub said_sends : ConnPhase → List ℕ → Sends
 said_sends p [] = []
 said_sends p (b ∷ bytes) = text_calls_for p (b ∷ bytes)
 
+-- what texts call for that are given one after another after these calls: while one that was sent isn't acknowledged, those after it wait
+abbrev pub texts_sent : ℕ → List TcpCall → List (List ℕ) → ℕ → Sends
+texts_sent isn calls [] now = []
+texts_sent isn calls (x ∷ xs) now = said_sends (conn_phase isn calls) x ++ texts_sent isn (calls ++ text_to_send x now) xs now
+
+-- a connection that a segment ends takes no text any more
+abbrev pub unless_ended : Option Cause → Sends → Sends
+unless_ended None sends = sends
+unless_ended (Some cause) sends = []
+
 -- the talker's end closes a connection that hasn't ended itself
 abbrev pub closes_by : Option Cause → Option Cause → ℕ → ConnPhase → Sends
 closes_by None by_connection isn p = []
@@ -46,7 +56,7 @@ earlier (Some cause) other = Some cause
 abbrev pub talker_end : {T : Type 0} → Talker T → ℕ → ℕ → Talk T → Option Cause
 talker_end t isn rec d = t.ends rec (front (talk_held isn d)) (has_ended (talk_held isn d)) d.tasks
 
--- A segment: the place, where it grew; what it calls for, what is said then, and the close where the talker ends; the end.
+-- A segment: the place, where it grew; what it calls for, what its texts do, and the close where the talker ends; the end.
 abbrev pub segment_put : {T : Type 0} → Talker T → ℕ → Talk T → Arrival → ℕ → Put
 segment_put t isn d m now =
     let heard = receives isn d (by_segment m now) in
@@ -55,7 +65,7 @@ segment_put t isn d m now =
     let by_connection = segment_end isn (phase_of isn d) m in
     record {
       advance = grown (next (talk_held isn d)) (next (talk_held isn heard));
-      sends = calls_for isn (phase_of isn d) m.segment ++ said_sends (phase_of isn heard) (unsaid t isn heard)
+      sends = calls_for isn (phase_of isn d) m.segment ++ unless_ended by_connection (texts_sent isn heard.calls (texts_for t isn d (by_segment m now)) now)
           ++ closes_by ends by_connection isn (phase_of isn after);
       over = earlier ends by_connection;
     }

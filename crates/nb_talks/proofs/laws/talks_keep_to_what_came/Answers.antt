@@ -1,5 +1,5 @@
-use Rattle.nb_streams.proofs.TalkPromiseLaws.{one_answer, puts_what_may_be}
-use Rattle.nb_streams.proofs.laws.talks_keep_to_what_came.Goals as goal
+use Rattle.nb_talks.proofs.TalkPromiseLaws.{one_answer, puts_what_may_be}
+use Rattle.nb_talks.proofs.laws.talks_keep_to_what_came.Goals as goal
 
 pub returns-clause-one : goal.returns-clause-one
 returns-clause-one c s = one_answer
