@@ -93,6 +93,7 @@ module _ (c : WebChain) (g a h : Objects Obj) (m n o : Heard) (now : ℕ) (cause
       first = begins;
       order = in_order;
       kinds = all_kinds;
+      keeps = close_keeps;
       noded = end;
       still = close_on.chained;
     }

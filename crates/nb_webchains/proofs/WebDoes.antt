@@ -97,6 +97,7 @@ module _ (c : WebChain) (now : ℕ) (entry : Option GraphEvent) (asks : List (St
         comes = comes_so c now asks g h m n chained within plain quiet z links arrives;
         order = ordered z;
         kinds = kinds_kept c now asks g h m n chained within plain quiet before after k;
+        keeps = keep_kinds c now asks g h m n chained within plain quiet before after k;
         noded = after;
         still = z.on.chained;
       }

@@ -29,7 +29,7 @@ use Rattle.nb_chains.specs.Giving.{CallGives, IsMakeWithin}
 use Rattle.nb_webchains.specs.declared.web_chain.WebChain.{WebChain}
 use Rattle.nb_webchains.specs.Orders.{StandInOrder}
 use Rattle.nb_webchains.specs.Releases.{AreCloses, AreShutWhole}
-use Rattle.nb_webchains.specs.WebChains.{AreOfWeb, AreReleased, IsOpenWeb, IsShutWeb, web_graph, web_ids}
+use Rattle.nb_webchains.specs.WebChains.{AreOfWeb, AreReleased, IsOpenWeb, IsShutWeb, KeepKinds, web_graph, web_ids}
 
 -- no event names another object than these, and none is made
 abbrev pub WebGives : WebChain → Objects Obj → Objects Obj → Heard → Heard → List Notice → Type 0
@@ -58,6 +58,7 @@ pub record DoesWeb (c : WebChain) (now : ℕ) (asks : List (Stage Obj Load)) (en
   pub comes : IsOpenWeb c old → ComesOfWeb c new ns
   pub order : IsOpenWeb c old → AreOfWeb c old → AreShort asks → StandInOrder c.conn.0 entry ns
   pub kinds : AreOfWeb c old → AreOfWeb c new
+  pub keeps : KeepKinds (web_ids c) old new
   pub noded : AreNoded rank_of_obj new
   pub still : AreChained new (web_ids c)
 
@@ -98,6 +99,7 @@ pub record ClosesWeb (c : WebChain) (old new : Objects Obj) (cause : Cause) (bef
   pub first : IsOpenWeb c old → (rest : List Notice) × (ns ≡ tells (Closed (port_at c.fetch.0 0) cause) ∷ rest)
   pub order : IsOpenWeb c old → AreOfWeb c old → StandInOrder c.conn.0 None ns
   pub kinds : AreOfWeb c old → AreOfWeb c new
+  pub keeps : KeepKinds (web_ids c) old new
   pub noded : AreNoded rank_of_obj new
   pub still : AreChained new (web_ids c)
 
