@@ -9,7 +9,7 @@ use Rattle.nb_defs.specs.Causes.{is_ok_cause}
 use Rattle.nb_defs.specs.Records.{Out}
 use Rattle.nb_dhcp.specs.declared.asker.Asker.{Asker}
 use Rattle.nb_tftp.specs.History.{received_by}
-use Rattle.nb_streams.specs.Talking.{talk_after}
+use Rattle.nb_talks.specs.Talking.{talk_after}
 use Rattle.nb_responses.specs.Chunks.{Response}
 use Rattle.nb_readings.specs.Ends.{text_of}
 use Rattle.nb_webs.specs.Webs.{response_come}

@@ -5,7 +5,7 @@ use Rattle.std.specs.List.{AllByRecursion}
 use Rattle.nb_sans.specs.Sessions.{TaskAnswer, session_chap, session_capacity, tasks_taken, task_answers}
 use Rattle.nb_sans.proofs.TargetLaws.{answers_theirs, capacities_theirs}
 use Rattle.nb_streams.specs.Streams.{front}
-use Rattle.nb_streams.specs.Talking.{talk_held}
+use Rattle.nb_talks.specs.Talking.{talk_held}
 use Rattle.nb_machine.specs.Drives.{DriveAnswer, drive_answer, last_answer}
 use Rattle.nb_machine.specs.Findings.{first_word}
 use Rattle.nb_laws.specs.Drives.{SessionOpening, sessions, session_so_far}

@@ -12,8 +12,8 @@ use Rattle.nb_streams.specs.Segments.{Arrival}
 use Rattle.nb_streams.specs.Streams.{front, next}
 use Rattle.nb_streams.specs.Flows.{TcpCall, segment_came, time_came, text_came, conn_phase}
 use Rattle.nb_streams.specs.Sending.{tried_again, closing_segment}
-use Rattle.nb_streams.specs.Talking.{Came, by_segment, by_time, by_task, time_of, Talker, Talk, talk_held, text_to_send, unsaid, receives, talks_on, begun_talk, talk_after}
-use Rattle.nb_streams.specs.TalkPromises.{talker_end}
+use Rattle.nb_talks.specs.Talking.{Came, by_segment, by_time, by_task, time_of, Talker, Talk, talk_held, texts_for, text_calls, talks_on, begun_talk, talk_after}
+use Rattle.nb_talks.specs.TalkPromises.{talker_end}
 use Rattle.nb_streams.specs.Trying.{timer_after, TryMark, comes_in, tries_at, mark_calls, HasTriedAll}
 use Rattle.nb_streams.specs.Endings.{end_cause, plan_tries, ConnEnds}
 use Rattle.nb_sans.specs.Sessions.{ReadTask, session_talker}
@@ -90,12 +90,12 @@ answered_so_far k s es = session_answered_by (hardware es) k s (session_so_far k
 
 -- WHAT IT MAY SEND
 
--- what has come to its connection and was given to it to send, with what was said last or without
+-- what has come to its connection and was given to it to send, with the texts that were said last or without some of them
 pub record AreItsCalls (k : ℕ) (es : List Event) (s : SessionOpening) (calls : List TcpCall) : Type 0 where
   pub is : sessions k es ≡ s ∷ []
-  pub text : List ℕ
+  pub texts : List (List ℕ)
   pub now : ℕ
-  pub all : (session_so_far k s es).calls ≡ calls ++ text_to_send text now
+  pub all : (session_so_far k s es).calls ≡ calls ++ text_calls texts now
 
 -- a segment that its connection may send after this, of what is said in it
 pub record MaySendInSession (k : ℕ) (es : List Event) (send : SendTo) : Type 0 where
@@ -128,11 +128,11 @@ came_by (segment_came m now) = by_segment m now
 came_by (time_came now) = by_time now
 came_by (text_came bytes now) = by_time now
 
--- what concerns its tries, in order: what came, each with what was said then, and each TRY with its time
+-- what concerns its tries, in order: what came, each with the texts that were said then, and each TRY with its time
 abbrev pub said_marks : Talker ReadTask → ℕ → Talk ReadTask → List TryMark → List TryMark
 said_marks t isn d [] = []
 said_marks t isn d (comes_in c ∷ marks) =
-    comes_in c ∷ map comes_in (text_to_send (unsaid t isn (receives isn d (came_by c))) (time_of (came_by c))) ++ said_marks t isn (talks_on t isn d (came_by c)) marks
+    comes_in c ∷ map comes_in (text_calls (texts_for t isn d (came_by c)) (time_of (came_by c))) ++ said_marks t isn (talks_on t isn d (came_by c)) marks
 said_marks t isn d (tries_at count now ∷ marks) = tries_at count now ∷ said_marks t isn d marks
 
 -- from what it says as it begins on

@@ -16,7 +16,7 @@ use Rattle.nb_tftp.specs.Received.{Received}
 use Rattle.nb_sans.specs.Targets.{IsDisk, ServesDisk, AreOfDisk}
 use Rattle.nb_sans.specs.Sessions.{tasks_taken, task_answers}
 use Rattle.nb_streams.specs.Streams.{front}
-use Rattle.nb_streams.specs.Talking.{talk_held}
+use Rattle.nb_talks.specs.Talking.{talk_held}
 use Rattle.nb_webs.specs.Entries.{StoreEntry, file, elsewhere, disk, ServesEntry}
 use Rattle.nb_laws.specs.CommandsSoFar.{so_far, surroundings_in, comes_after, conclusion_so_far}
 use Rattle.nb_laws.specs.Drives.{SessionOpening, sessions, session_so_far, answered_so_far}

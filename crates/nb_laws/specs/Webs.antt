@@ -10,7 +10,7 @@ use Rattle.nb_streams.specs.Segments.{Arrival}
 use Rattle.nb_streams.specs.Streams.{next}
 use Rattle.nb_streams.specs.Flows.{text_came, conn_phase}
 use Rattle.nb_streams.specs.Sending.{tried_again, closing_segment}
-use Rattle.nb_streams.specs.Talking.{Came, by_segment, by_time, Talk, talk_held, talk_after}
+use Rattle.nb_talks.specs.Talking.{Came, by_segment, by_time, Talk, talk_held, talk_after}
 use Rattle.nb_streams.specs.Trying.{timer_after, TryMark, comes_in, tries_at, mark_calls, HasTriedAll}
 use Rattle.nb_streams.specs.Endings.{end_cause, plan_tries, ConnEnds}
 use Rattle.nb_responses.specs.Chunks.{Verdict, more, open_body, body, moved, status, broken, large, long, many, Response}

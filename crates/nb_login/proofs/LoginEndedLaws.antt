@@ -1,6 +1,7 @@
 -- Where a cause stands in what came and what had been asked, a login ends for it.
-use Rattle.std.proofs.Common.{◌≡◌, ◌≤◌, ◌+◌, ◌*◌, ℕ, List, ◌∷◌, ◌++◌, Some, Bool, true, false, cond, not, ◌&&◌, ◌||◌, ltb, eqb, refl, ap, ◌∙◌, sym, subst}
+use Rattle.std.proofs.Common.{◌≡◌, ◌≤◌, ◌+◌, ◌*◌, ℕ, List, [], ◌∷◌, ◌++◌, Some, None, Bool, true, false, cond, not, ◌&&◌, ◌||◌, ◌==◌, ltb, eqb, refl, ap, ◌∙◌, sym, subst}
 use Rattle.std.proofs.lemmas.Bool.{and_from, or_from, or_left, or_right, le-ltb, eq-eqb, ne_eqb, not_from_false, false≢true}
+use Rattle.std.proofs.lemmas.Option.{none-some}
 use Rattle.nb_terms.specs.declared.cause.Cause.{Cause}
 use Rattle.nb_terms.specs.declared.reason.Plain.TheVariants as plain
 use Rattle.nb_terms.specs.declared.reason.Reason.TheVariants as reason
@@ -15,8 +16,10 @@ use Rattle.nb_login.specs.declared.step.NextRequest.{NextRequest}
 use Rattle.nb_login.specs.Infos.{has_secret, asks_back}
 use Rattle.nb_login.specs.Asking.{step_of}
 use Rattle.nb_login.specs.LoginVerdicts.{chooses_chap, names_method, has_digest, answers_back, goes_astray, broken, go_on, by_keys, by_response, decided}
-use Rattle.nb_login.specs.LoginHistory.{LoginEntry, last_done, repeats, end_given, is_end, decided_after, decided_at, IsDecidedSo, LoginMeets}
+use Rattle.nb_login.specs.LoginHistory.{LoginEntry, last_done, login_ended, repeats, expected, end_given, is_end, decided_after, decided_at, IsDecidedSo, LoginMeets}
 use Rattle.nb_login.specs.LoginEndings.{waits_for, WaitsFor, IsSuccess, CallsForNothing, IsBreach, by_kind, by_stage, by_digest, by_method, by_challenge, by_response as by_own_response, by_patience, LoginEnding, by_parameters, by_status, by_no_secret, by_breach}
+use Rattle.nb_login.specs.LoginStands.{session_after, session_opened}
+use Rattle.nb_login.proofs.LoginHistoryLemmas.{last_done-append}
 use Rattle.nb_login.proofs.LoginEndingLaws.{each_is_decided}
 
 -- what is out where no end was given
@@ -120,3 +123,21 @@ pub cause_ends : (i : LoginInfo) (h : List LoginEntry) (e : LoginEntry) (later :
 cause_ends i h e later cause meets ending =
     let so = each_is_decided i h e later meets in
     ap end_given so.so ∙ ended-so i h e cause (is-out (last_done h) so.open_yet) ending
+
+-- an answer that opens a session has opened it
+not_open : (i : LoginInfo) (h : List LoginEntry) (e : LoginEntry) (chap : Chap) → e.does ≡ Open chap → cond (login_ended (h ++ e ∷ [])) (session_opened i (h ++ e ∷ [])) None ≡ None → ⊥
+not_open i h e chap opens none =
+    let last : last_done (h ++ e ∷ []) ≡ Open chap = last_done-append h e ∙ opens in
+    none-some _ (sym none ∙ ap (λ (d : Decision). cond (is_end d) (session_after i (expected (h ++ e ∷ [])) d) None) last)
+
+-- where no session is open, what ends a login isn't Ok
+pub unopened_fails : (i : LoginInfo) (h : List LoginEntry) (e : LoginEntry) (cause : Cause) → LoginMeets i (h ++ e ∷ []) → LoginEnding i h e cause
+    → cond (login_ended (h ++ e ∷ [])) (session_opened i (h ++ e ∷ [])) None ≡ None → (cause.code == 0) ≡ false
+unopened_fails i h e cause meets (by_parameters chap r waits is on fits bare same) none =
+    let so = each_is_decided i h e [] meets in
+    let opens : decided_at i h e.came ≡ Open chap =
+    decided-success i h e (at.Parameters chap) r (is-out (last_done h) so.open_yet) waits is ∙ rw (or_from (goes_astray (at.Parameters chap) r) (has_digest r.keys) fits bare, on) refl in
+    absurd (not_open i h e chap (so.so ∙ opens) none)
+unopened_fails i h e cause meets (by_status r reads bad same) none = ap (λ (c : Cause). c.code == 0) same
+unopened_fails i h e cause meets (by_no_secret r waits is chooses fits bare unset same) none = ap (λ (c : Cause). c.code == 0) same
+unopened_fails i h e cause meets (by_breach is same) none = ap (λ (c : Cause). c.code == 0) same

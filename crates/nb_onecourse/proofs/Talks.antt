@@ -2,9 +2,9 @@
 use Rattle.std.proofs.Common.{◌≡◌, ℕ, List, [], ◌∷◌, ◌++◌, sym, ◌∙◌, ap, subst, append_assoc, append-nil}
 use Rattle.nb_defs.specs.Records.{Out}
 use Rattle.nb_stack.specs.Client.{Client}
-use Rattle.nb_streams.specs.Talking.{Came, by_segment, by_time, Talker, Talk}
-use Rattle.nb_streams.specs.TalkPromises.{Put}
-use Rattle.nb_streams.proofs.TalkPromiseLaws.{one_answer}
+use Rattle.nb_talks.specs.Talking.{Came, by_segment, by_time, Talker, Talk}
+use Rattle.nb_talks.specs.TalkPromises.{Put}
+use Rattle.nb_talks.proofs.TalkPromiseLaws.{one_answer}
 use Rattle.nb_machine.specs.Lives.{OpenInput, message, tcp_segment, time, task, close, Exchange, exchange, Live, continued}
 use Rattle.nb_machine.specs.Connections.{Connection, connection_of, arrived_segment, Talking, talk_of, put_records, PutsAsked, PutsAt, KeepsAt, EachExchange, KeepsTalk}
 

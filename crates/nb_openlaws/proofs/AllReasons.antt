@@ -10,6 +10,7 @@ use Rattle.nb_defs.specs.Records.{Out}
 use Rattle.nb_stack.specs.Client.{Client}
 use Rattle.nb_tftp.specs.History.{Entry, got, received_by}
 use Rattle.nb_laws.specs.Cores.{has_its_answer}
+use Rattle.nb_laws.specs.Drives.{SessionOpening, sessions, session_place_by}
 use Rattle.nb_laws.specs.Webs.{opens_web, stream_place_by}
 use Rattle.nb_laws.specs.Events.{Event, puts}
 use Rattle.nb_laws.specs.Histories.{client}
@@ -17,11 +18,12 @@ use Rattle.nb_laws.specs.Lists as lists
 use Rattle.nb_laws.specs.Lists.{hardware, blocks_where, Opening, openings, calls, last_place}
 use Rattle.nb_laws.specs.Progress.{file_place, IsAdvanced}
 use Rattle.nb_laws.proofs.Tellings.{told}
-use Rattle.nb_machine.specs.Lives.{OpenInput, time as time_came, exchange, Live, continued}
+use Rattle.nb_login.specs.declared.info.LoginInfo.{LoginInfo}
+use Rattle.nb_machine.specs.Lives.{OpenKind, iscsi, kind_number, OpenInput, time as time_came, exchange, Live, continued}
 use Rattle.nb_machine.specs.Kinds.{Keeps}
 use Rattle.nb_machine.specs.States.{net0}
 use Rattle.nb_machine.specs.Takings.{Over, AllTake, all_have, lives_on, is_over}
-use Rattle.nb_openlaws.specs.Standings.{live_opening, heard_call, heard_calls, streamed, HaveOwnNumbers}
+use Rattle.nb_openlaws.specs.Standings.{HasLogin, live_opening, heard_call, heard_calls, streamed, HaveOwnNumbers}
 use Rattle.nb_openlaws.specs.OpenEndings.{HadWay}
 use Rattle.nb_openlaws.specs.OpenReasons.{HaveWays, OpenReasons}
 use Rattle.nb_streams.proofs.FlowLaws.{all_append}
@@ -30,7 +32,7 @@ use Rattle.nb_openlaws.proofs.Takings.{HasCome, AllCome, tail_come, way_stays, g
 use Rattle.nb_openlaws.proofs.NetworkDevices.{client_some, some_of}
 use Rattle.nb_openlaws.proofs.Sendings.{no_reasons, reasons_then}
 use Rattle.nb_openlaws.proofs.KindFacts.{ByDatagrams, no_connection}
-use Rattle.nb_openlaws.proofs.StreamPlaces.{time_stream, stream_so}
+use Rattle.nb_openlaws.proofs.StreamPlaces.{time_stream, time_session, stream_so, session_so}
 use Rattle.nb_openlaws.proofs.ExchangeReasons.{place_so, answer_same, IsTaken, ExchangeSo}
 use Rattle.nb_openlaws.proofs.WebExchanges.{exchange_so}
 
@@ -61,10 +63,15 @@ link_of es devices l link d at got_it = let both : Some (client es) ≡ Some lin
 
 -- ONE EXCHANGE
 
+-- of a drive's open
+pub login_of : (k : ℕ) (es : List Event) (o : Opening) (kind : OpenKind) (isn : ℕ) (i : LoginInfo) → kind ≡ iscsi isn i → HasLogin k es kind o → sessions k es ≡ record { opening = o; login = i } ∷ []
+login_of k es o kind isn i is h = subst (λ z. HasLogin k es z o) is h
+
 -- what was brought before, where its last ADVANCE stands
 pub record IsPlaced (es : List Event) (l : Live) : Type 0 where
   pub placed : ByDatagrams l.kind → (h : List Entry) → heard_calls l.kind l.exchanges ≡ map (λ e. e.call) h → last_place l.number es ≡ blocks_where ((live_opening l).kind == 1) (got h)
   pub streamed_to : opens_web (live_opening l) ≡ true → last_place l.number es ≡ stream_place_by (hardware es) l.number (streamed l.exchanges) (live_opening l)
+  pub session_to : (isn : ℕ) (i : LoginInfo) → l.kind ≡ iscsi isn i → last_place l.number es ≡ session_place_by (hardware es) l.number (streamed l.exchanges) (record { opening = live_opening l; login = i })
   pub others : (j : ℕ) → (l.number == j) ≡ false → last_place j es ≡ file_place j es
 
 pub one_exchange : (es : List Event) (devices : List Client) (input : OpenInput) (l : Live) (link : Client) (put : List Out) → IsTaken input → devices ≡ client es ∷ [] → slice_get devices l.device ≡ Some link → HasCome es input l → Keeps l → Keeps (continued l (exchange input link put)) →
@@ -73,6 +80,7 @@ one_exchange es devices input l link put taken d got_it c before keeps way p =
     exchange_so l.kind es l (exchange input link put) taken (record {
       client_is = link_of es devices l link d c.on_net0 got_it;
       kind_is = c.kind_is;
+      login = c.login;
       opening = c.opening;
       lives = c.lives;
       received = c.received;
@@ -84,6 +92,7 @@ one_exchange es devices input l link put taken d got_it c before keeps way p =
       tries_stand = c.tries_stand;
       placed = p.placed;
       streamed_to = p.streamed_to;
+      session_to = p.session_to;
       others = p.others;
     }) before keeps c.goes_on c.own
 
@@ -101,6 +110,10 @@ time_placed es now l c a = record {
       a k ∙ place_so k es (live_opening l) c.opening (no_connection l.kind l d) ∙ ap (blocks_where ((live_opening l).kind == 1)) received;
   streamed_to = λ is. a l.number ∙ stream_so l.number es (live_opening l) c.opening is
       ∙ ap (λ z. stream_place_by (hardware es) l.number z (live_opening l)) c.streams ∙ time_stream (hardware es) l.number (live_opening l) (streamed l.exchanges) now;
+  session_to = λ isn i is.
+      let s : SessionOpening = record { opening = live_opening l; login = i } in
+      a l.number ∙ session_so l.number es (live_opening l) s c.opening (ap (λ z. kind_number z == 3) is) (login_of l.number es (live_opening l) l.kind isn i is c.login)
+      ∙ ap (λ z. session_place_by (hardware es) l.number z s) c.streams ∙ time_session (hardware es) l.number s (streamed l.exchanges) now;
   others = λ j other. a j;
 }
 

@@ -15,7 +15,7 @@ use Rattle.nb_laws.specs.Histories.{client}
 use Rattle.nb_laws.specs.Lists.{hardware}
 use Rattle.nb_laws.specs.Progress.{IsAdvanced}
 use Rattle.nb_laws.proofs.Tellings.{told, advanced_more}
-use Rattle.nb_openlaws.specs.Standings.{live_opening, heard_call, IsKindBy, ComesToOwnPort, IsOngoing, AgreesLive, AreLive, lives_among, HaveOwnNumbers}
+use Rattle.nb_openlaws.specs.Standings.{live_opening, heard_call, IsKindBy, HasLogin, ComesToOwnPort, IsOngoing, AgreesLive, AreLive, lives_among, HaveOwnNumbers}
 use Rattle.nb_openlaws.specs.OpenEndings.{EndsBecause, WhyClosed}
 use Rattle.nb_openlaws.specs.OpenReasons.{OpenReasons}
 use Rattle.nb_streams.proofs.FlowLaws.{all_append}
@@ -25,6 +25,7 @@ use Rattle.nb_openlaws.proofs.LastEntries.{LastAs, took_as, closed_as, last_as}
 use Rattle.nb_openlaws.proofs.KindFacts.{opening_as}
 use Rattle.nb_openlaws.proofs.AllReasons.{link_of}
 use Rattle.nb_openlaws.proofs.WebClosings.{web_closes}
+use Rattle.nb_openlaws.proofs.SessionClosings.{drive_closes}
 use Rattle.nb_openlaws.proofs.Takings.{grown, others_same}
 use Rattle.nb_openlaws.proofs.UsedEvents.{live_one}
 use Rattle.nb_openlaws.proofs.LiveStates.{all_same}
@@ -62,7 +63,9 @@ kind_closes tftp es l x cause is came bad same a k keeps advanced why =
 kind_closes (http isn) es l x cause is came bad same a k keeps advanced why =
     web_closes es l x isn cause came bad same (subst (λ z. IsKindBy (hardware es) l.number z (opening_as z l)) is a.kind_is) (a.opening ∙ ap (λ z. opening_as z l ∷ []) is) a.lives a.streams (subst (λ z. KeepsBy z l) is k) keeps
     (subst (λ z. AllByRecursion (IsOngoing z l.number l.own) l.exchanges) is a.goes_on) advanced (subst WhyClosed (append-nil es) (why [] tt).1) (λ frames alone. (why frames (frames_close cause frames alone)).0 l.number)
-kind_closes (iscsi isn i) es l x cause is came bad same a k keeps advanced why = absurd (subst (λ z. IsKindBy (hardware es) l.number z (opening_as z l)) is a.kind_is)
+kind_closes (iscsi isn i) es l x cause is came bad same a k keeps advanced why =
+    drive_closes es l x isn i cause came bad same (subst (λ z. IsKindBy (hardware es) l.number z (opening_as z l)) is a.kind_is) (a.opening ∙ ap (λ z. opening_as z l ∷ []) is) a.lives (subst (λ z. HasLogin l.number es z (opening_as z l)) is a.login) a.streams keeps
+    (subst (λ z. AllByRecursion (IsOngoing z l.number l.own) l.exchanges) is a.goes_on) advanced (subst WhyClosed (append-nil es) (why [] tt).1) (λ frames alone. (why frames (frames_close cause frames alone)).0 l.number)
 kind_closes (dns id) es l x cause is came bad same a k keeps advanced why =
     subst (λ z. OpenReasons es z) (sym (datagrams_close (dns id) l x cause refl came keeps (subst (λ z. AllByRecursion (IsOngoing z l.number l.own) l.exchanges) is a.goes_on) tt)) (end_closes es l cause bad a k advanced why)
 kind_closes (dhcp b) es l x cause is came bad same a k keeps advanced why =

@@ -22,7 +22,7 @@ use Rattle.nb_machine.specs.Running.{Running, no_label, entered, anew}
 use Rattle.nb_machine.specs.CommandRecords.{command_record, command_records, no_route, stopped_cause}
 use Rattle.nb_machine.specs.Conclusions.{Conclusion, keeps, tells, fails, boots, runs_script, conclusion_records}
 use Rattle.nb_image.specs.Images.{ImageList}
-use Rattle.nb_machine.specs.Lives.{close, Live, open_record, end_record}
+use Rattle.nb_machine.specs.Lives.{kind_number, close, Live, open_record, end_record}
 use Rattle.nb_machine.specs.States.{State, following, state_at_start, with_images, with_settings, with_live, with_opened, with_one_made}
 use Rattle.nb_machine.specs.Takings.{Over, AllTake}
 use Rattle.nb_machine.specs.Scripts.{Job, ends, opens, shuts, doing_by, transfer_kind, transfer_for, live_for, live_onward, net0_mac, Upshot, concludes, settles, goes_onward, upshot_records, concluded_by}
@@ -77,18 +77,23 @@ shuts_keep s t table up (on_images c) e = absurd (cc)
 shuts_keep s t table up (concludes_at_once c) e = absurd (cc)
 
 query_next : (s : State) (q : Query) → IsNext s (live_for s q)
-query_next s for_lease = record { number_is = refl; device_is = refl; since_is = refl; bare = refl; kind_is = (refl, refl, refl, refl, refl) }
-query_next s (for_echo server) = record { number_is = refl; device_is = refl; since_is = refl; bare = refl; kind_is = (refl, refl) }
-query_next s (for_host errand name by) = record { number_is = refl; device_is = refl; since_is = refl; bare = refl; kind_is = (refl, refl) }
-query_next s (for_address setting name by) = record { number_is = refl; device_is = refl; since_is = refl; bare = refl; kind_is = (refl, refl) }
+query_next s for_lease = record { number_is = refl; device_is = refl; since_is = refl; bare = refl; kind_is = (refl, refl, refl, refl, refl); no_drive = λ is. absurd (cc) }
+query_next s (for_echo server) = record { number_is = refl; device_is = refl; since_is = refl; bare = refl; kind_is = (refl, refl); no_drive = λ is. absurd (cc) }
+query_next s (for_host errand name by) = record { number_is = refl; device_is = refl; since_is = refl; bare = refl; kind_is = (refl, refl); no_drive = λ is. absurd (cc) }
+query_next s (for_address setting name by) = record { number_is = refl; device_is = refl; since_is = refl; bare = refl; kind_is = (refl, refl); no_drive = λ is. absurd (cc) }
 
 transfer_next : (s : State) (wanted : Wanted) → IsNext s (transfer_for s wanted)
-transfer_next s wanted = record { number_is = refl; device_is = refl; since_is = refl; bare = refl; kind_is = by wanted.asking.target }
+transfer_next s wanted = record { number_is = refl; device_is = refl; since_is = refl; bare = refl; kind_is = by wanted.asking.target; no_drive = none wanted.asking.target }
   where
     by : (target : UriTarget) → IsKindBy (record { mac = net0_mac s.devices; identity = s.machine }) s.opens (transfer_kind s target) (live_opening (transfer_for s wanted))
     by (Tftp name port path whole) = tt
     by (Http name port path whole) = refl
     by (Iscsi name port lun disk whole) = tt
+
+    none : (target : UriTarget) → kind_number (transfer_kind s target) ≡ 3 → ⊥
+    none (Tftp name port path whole) is = absurd (cc)
+    none (Http name port path whole) is = absurd (cc)
+    none (Iscsi name port lun disk whole) is = absurd (cc)
 
 pub onward_next : (s : State) (next : Onward) → IsNext s (live_onward s next)
 onward_next s (fetches_now wanted) = transfer_next s wanted

@@ -20,6 +20,7 @@ use Rattle.nb_tftp.proofs.NewestLaws.{tries_newest}
 use Rattle.nb_tftp.proofs.PlainLaws.{asks_last}
 use Rattle.nb_machine.specs.Sendings.{has_route, acts_records, too_large_image}
 use Rattle.nb_machine.specs.CommandRecords.{no_route}
+use Rattle.nb_login.specs.declared.info.LoginInfo.{LoginInfo}
 use Rattle.nb_laws.specs.Agreement.{moment, try_marks, entry_marks}
 use Rattle.nb_laws.specs.Cores.{answers_open, has_its_answer}
 use Rattle.nb_laws.specs.Endings.{fate_to}
@@ -39,14 +40,14 @@ use Rattle.nb_machine.specs.Connections.{came_on}
 use Rattle.nb_machine.specs.Findings.{first_word}
 use Rattle.nb_readings.specs.Ends.{is_whole}
 use Rattle.nb_streams.specs.Streams.{next}
-use Rattle.nb_streams.specs.Talking.{talk_held}
+use Rattle.nb_talks.specs.Talking.{talk_held}
 use Rattle.nb_streams.specs.Trying.{tries_at}
 use Rattle.nb_laws.specs.Drives.{session_place_by, session_place}
 use Rattle.nb_laws.proofs.SessionOpenings.{no_session_of}
 use Rattle.nb_laws.specs.Webs.{opens_web, opens_session, opens_connection, brought_to, talk_by, response_by, stream_place_by, try_marks_of}
 use Rattle.nb_machine.specs.Transfers.{transfer_of, earlier, finds_none, end_records}
 use Rattle.nb_machine.specs.Takings.{end_among}
-use Rattle.nb_openlaws.specs.Standings.{streamed, streamed_marks, heard_call, heard_calls, heard_marks, moment_in, told_tries, IsKindBy, ComesToOwnPort, IsOngoing}
+use Rattle.nb_openlaws.specs.Standings.{streamed, streamed_marks, heard_call, heard_calls, heard_marks, moment_in, told_tries, IsKindBy, HasLogin, ComesToOwnPort, IsOngoing}
 use Rattle.nb_openlaws.specs.OpenEndings.{HadWay, EndsBecause, by_itself, by_lost_way}
 use Rattle.nb_openlaws.specs.OpenReasons.{OpenReasons}
 use Rattle.nb_openlaws.proofs.Takings.{IsNow, IsDueBy, came_marks, way_stays, grown}
@@ -63,6 +64,7 @@ use Rattle.nb_openlaws.proofs.TransferEnds.{within_limit, transfer_holds}
 pub record ComeAs (kind : OpenKind) (es : List Event) (input : OpenInput) (l : Live) (link : Client) : Type 0 where
   pub client_is : client es ≡ link
   pub kind_is : IsKindBy (hardware es) l.number kind (opening_as kind l)
+  pub login : HasLogin l.number es kind (opening_as kind l)
   pub opening : openings l.number es ≡ opening_as kind l ∷ []
   pub lives : open_has_ended l.number es ≡ false
   pub received : calls l.number es ≡ heard_calls kind l.exchanges ++ heard_call kind input
@@ -75,6 +77,7 @@ pub record ComeAs (kind : OpenKind) (es : List Event) (input : OpenInput) (l : L
   -- its last ADVANCE has the last block that it had received before, or the end of what had come of its stream
   pub placed : ByDatagrams kind → (h : List Entry) → heard_calls kind l.exchanges ≡ map (λ e. e.call) h → last_place l.number es ≡ blocks_where ((opening_as kind l).kind == 1) (got h)
   pub streamed_to : opens_web (opening_as kind l) ≡ true → last_place l.number es ≡ stream_place_by (hardware es) l.number (streamed l.exchanges) (opening_as kind l)
+  pub session_to : (isn : ℕ) (i : LoginInfo) → kind ≡ iscsi isn i → last_place l.number es ≡ session_place_by (hardware es) l.number (streamed l.exchanges) (record { opening = opening_as kind l; login = i })
   pub others : (j : ℕ) → (l.number == j) ≡ false → last_place j es ≡ file_place j es
 
 now_of : (kind : OpenKind) (input : OpenInput) (call : Call) (t : ℕ) → heard_call kind input ≡ call ∷ [] → IsNow input t → t ≡ moment_in input

@@ -19,11 +19,15 @@ use Rattle.nb_machine.specs.Findings.{first_word}
 use Rattle.nb_machine.specs.Connections.{connection_of}
 use Rattle.nb_machine.specs.Webs.{request_at}
 use Rattle.nb_streams.specs.Flows.{conn_phase, asking}
+use Rattle.nb_talks.specs.Talking.{unsaid, begun_talk}
+use Rattle.nb_login.specs.declared.info.LoginInfo.{LoginInfo}
+use Rattle.nb_sans.specs.Sessions.{session_talker}
 use Rattle.nb_streams.specs.Sending.{syn, tried_again, by_asking}
 use Rattle.nb_readings.specs.Ends.{is_whole}
 use Rattle.nb_webs.specs.Webs.{response_come}
 use Rattle.nb_machine.specs.Kinds.{first_records, is_connection}
 use Rattle.nb_machine.specs.States.{State}
+use Rattle.nb_laws.specs.Drives.{sessions, session_by, came_to}
 use Rattle.nb_laws.specs.Events.{Event, puts}
 use Rattle.nb_laws.specs.Histories.{client}
 use Rattle.nb_laws.specs.Lists.{Hardware, hardware, openings, open_has_ended, calls, datagrams_of}
@@ -34,7 +38,7 @@ use Rattle.nb_laws.specs.Frames.{MayAskFor, by_transfer, by_look_up, by_discover
 use Rattle.nb_laws.specs.Progress.{IsAdvanced}
 use Rattle.nb_laws.proofs.Histories.{client_put, hardware_more}
 use Rattle.nb_laws.proofs.Tellings.{advanced_open, calls_more, came_more, over_more}
-use Rattle.nb_openlaws.specs.Standings.{live_opening, IsKindBy, AgreesState}
+use Rattle.nb_openlaws.specs.Standings.{live_opening, IsKindBy, HasLogin, AgreesState}
 use Rattle.nb_openlaws.specs.OpenEndings.{by_itself}
 use Rattle.nb_openlaws.specs.OpenReasons.{OpenReasons}
 use Rattle.nb_openlaws.proofs.UsedEvents.{live_one}
@@ -42,8 +46,10 @@ use Rattle.nb_openlaws.proofs.Sendings.{reasons_then, NewestBy, send_reasons}
 use Rattle.nb_openlaws.proofs.Requests.{calls_after, said_once}
 use Rattle.nb_openlaws.proofs.WebStands.{begins_well, goes_unwhole}
 use Rattle.nb_openlaws.proofs.WebSendings.{segment_reasons}
+use Rattle.nb_openlaws.proofs.SessionSendings.{session_reason}
+use Rattle.nb_openlaws.proofs.SessionEnds.{drive_opening}
 use Rattle.nb_openlaws.proofs.KindFacts.{opening_as, first_of, no_way_as}
-use Rattle.nb_openlaws.proofs.OpenStates.{IsNext, opens_here, hardware_now}
+use Rattle.nb_openlaws.proofs.OpenStates.{IsNext, opens_here, hardware_now, no_login}
 use Rattle.nb_openlaws.proofs.Closings.{ended_advanced}
 
 -- ITS FIRST MESSAGE
@@ -172,21 +178,41 @@ web_begins es l link isn same opening lives streams due is a =
       calls_are = ap (λ z. (talk_by (hardware es) l.number (opening_as (http isn) l) z).calls) streams ∙ said_once request (first_word (hardware es).identity l.number) l.since [];
     }) (by_asking at.0 at.1 refl) (λ n tries. ap (tried_again isn) (sym at.1))
 
+-- nothing has come to a session, whatever it has said
+bare_asks : (isn : ℕ) → conn_phase isn [] ≡ asking []
+unfolding conn_phase
+bare_asks isn = refl
+
+drive_begins : (es : List Event) (l : Live) (link : Client) (isn : ℕ) (i : LoginInfo) → client es ≡ link → openings l.number es ≡ opening_as (iscsi isn i) l ∷ [] → open_has_ended l.number es ≡ false → brought_to l.number es ≡ [] → IsDue l.number es →
+    IsKindBy (hardware es) l.number (iscsi isn i) (opening_as (iscsi isn i) l) → sessions l.number es ≡ drive_opening i isn l ∷ [] → IsAdvanced es → OpenReasons es (send_records link l.number (Some 1) (first_of (iscsi isn i) l))
+drive_begins es l link isn i same opening lives streams due is login a =
+    session_reason es (opening_as (iscsi isn i) l) link (connection_of isn l) (drive_opening i isn l) [] (syn isn) (Some 1) a due (record {
+      client_is = same;
+      opening = opening;
+      lives = lives;
+      kind_is = refl;
+      session = login;
+      link_is = ap (λ z. record { own_port = l.own; peer = host l.server; peer_port = l.port; isn = z }) (sym is);
+      texts = unsaid (session_talker i) (first_word (hardware es).identity l.number) (record { calls = []; tasks = [] }) ∷ [];
+      now = l.since;
+      calls_are = ap (λ z. (session_by (hardware es) l.number (drive_opening i isn l) (came_to z)).calls) streams ∙ sym (append-nil (begun_talk (session_talker i) (first_word (hardware es).identity l.number) l.since).calls);
+    }) (by_asking [] (bare_asks isn) refl) (λ n tries. ap (tried_again isn) (sym (bare_asks isn)))
+
 kind_begins : (kind : OpenKind) (es : List Event) (l : Live) (link : Client) → client es ≡ link → openings l.number es ≡ opening_as kind l ∷ [] → open_has_ended l.number es ≡ false → datagrams_of l.number es ≡ [] → brought_to l.number es ≡ [] → IsDue l.number es →
-    IsKindBy (hardware es) l.number kind (opening_as kind l) → IsAdvanced es → OpenReasons es (send_records link l.number (Some 1) (first_of kind l))
-kind_begins tftp es l link same opening lives received streams due is a = datagrams_begin tftp es l link refl same opening lives received due is a
-kind_begins (http isn) es l link same opening lives received streams due is a = web_begins es l link isn same opening lives streams due is a
-kind_begins (iscsi isn i) es l link same opening lives received streams due is a = absurd is
-kind_begins (dns id) es l link same opening lives received streams due is a = datagrams_begin (dns id) es l link refl same opening lives received due is a
-kind_begins (dhcp b) es l link same opening lives received streams due is a = datagrams_begin (dhcp b) es l link refl same opening lives received due is a
-kind_begins ping es l link same opening lives received streams due is a = datagrams_begin ping es l link refl same opening lives received due is a
+    IsKindBy (hardware es) l.number kind (opening_as kind l) → HasLogin l.number es kind (opening_as kind l) → IsAdvanced es → OpenReasons es (send_records link l.number (Some 1) (first_of kind l))
+kind_begins tftp es l link same opening lives received streams due is login a = datagrams_begin tftp es l link refl same opening lives received due is a
+kind_begins (http isn) es l link same opening lives received streams due is login a = web_begins es l link isn same opening lives streams due is a
+kind_begins (iscsi isn i) es l link same opening lives received streams due is login a = drive_begins es l link isn i same opening lives streams due is login a
+kind_begins (dns id) es l link same opening lives received streams due is login a = datagrams_begin (dns id) es l link refl same opening lives received due is a
+kind_begins (dhcp b) es l link same opening lives received streams due is login a = datagrams_begin (dhcp b) es l link refl same opening lives received due is a
+kind_begins ping es l link same opening lives received streams due is login a = datagrams_begin ping es l link refl same opening lives received due is a
 
 pub begins_reasons : (es : List Event) (s : State) (l : Live) (link : Client) (put : List Out) → Opens es s l link → first_records l.kind l link ≡ Some put → OpenReasons es (open_record l ∷ put)
 begins_reasons es s l link put o first =
     let es1 = es ++ puts (open_record l) ∷ [] in
     let r = open_reasons es s l link o in
     let m = opened_so es s l link o in
-    let sends = kind_begins l.kind es1 l link m.client_is m.opening m.lives m.received m.streams m.due (kind_then es s l link o) r.after in
+    let sends = kind_begins l.kind es1 l link m.client_is m.opening m.lives m.received m.streams m.due (kind_then es s l link o) (no_login l.number es1 l.kind (live_opening l) o.next.no_drive) r.after in
     reasons_then es (open_record l ∷ []) put r (by es1 l.kind first sends)
   where
     by : (es1 : List Event) (kind : OpenKind) → first_records kind l link ≡ Some put → OpenReasons es1 (send_records link l.number (Some 1) (first_of kind l)) → OpenReasons es1 put

@@ -7,7 +7,7 @@ use Rattle.nb_ipv4.specs.UdpText.{UdpParts}
 use Rattle.nb_ipv4.specs.EchoText.{EchoParts}
 use Rattle.nb_tcpseg.specs.SegmentText.{SegmentParts}
 use Rattle.nb_wire.specs.declared.address.Mac.{Mac}
-use Rattle.nb_streams.specs.Talking.{by_segment}
+use Rattle.nb_talks.specs.Talking.{by_segment}
 use Rattle.nb_machine.specs.Connections.{arrived_segment}
 use Rattle.nb_laws.specs.Webs.{takes_segment, segment_in, came_at, comes_to_port}
 use Rattle.nb_stack.specs.Brings.{Brought, nothing, arp_message, datagram, echo_request, echo_reply, segment}

@@ -12,7 +12,7 @@ use Rattle.nb_machine.specs.Takings.{Over, AllTake}
 use Rattle.nb_laws.specs.Events.{Event, waits}
 use Rattle.nb_laws.specs.Lists.{time, ms_of, made, Hardware, hardware, Opening, open_has_ended, tries, marks}
 use Rattle.nb_laws.specs.Webs.{try_marks_of}
-use Rattle.nb_streams.specs.Talking.{by_time}
+use Rattle.nb_talks.specs.Talking.{by_time}
 use Rattle.nb_streams.specs.Trying.{tries_at}
 use Rattle.nb_openlaws.specs.Standings.{heard_calls, heard_marks, streamed, streamed_marks, live_opening, ComesToOwnPort, AreLive, lives_among, HaveOwnNumbers, AgreesState, told_tries}
 use Rattle.nb_laws.proofs.Histories.{time_more}
@@ -88,6 +88,7 @@ quiet_state es outs s later no_ends no_tries no_marks a =
     let es1 = es ++ told outs in
     let same : (j : ℕ) → SameAt j es es1 = λ j. record {
       openings_are = f.openings_is j;
+      sessions_are = f.sessions_is j;
       over_are = f.over_is j ∙ ap (λ b. open_has_ended j es || b) (no_ends j) ∙ or-false (open_has_ended j es);
       calls_are = f.calls_is j;
       marks_are = f.marks_is j ∙ no_more (marks j es) _ (no_tries j (time es));
@@ -176,6 +177,7 @@ closes_come es cause (l ∷ ls) h = (
     made_so = h.0.made_so;
     on_net0 = h.0.on_net0;
     kind_is = h.0.kind_is;
+    login = h.0.login;
     opening = h.0.opening;
     lives = h.0.lives;
     received = h.0.received ∙ sym (append-nil (heard_calls l.kind l.exchanges));

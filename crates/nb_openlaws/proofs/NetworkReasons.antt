@@ -21,7 +21,7 @@ use Rattle.nb_laws.specs.Progress.{file_place, IsAdvanced}
 use Rattle.nb_laws.specs.Webs.{came_at, brought_to, stream_place_by, stream_place, comes_to_port, ComesToNone}
 use Rattle.nb_laws.proofs.Histories.{client_hears, client_waits}
 use Rattle.nb_laws.proofs.Tellings.{KeepsHardware, hardware_stays, openings_more, calls_more, came_more, no_more, place_more, place_same, blocks_same, no_datagram, advanced_more, still_advanced, sessions_stay}
-use Rattle.nb_machine.specs.Lives.{OpenInput, message, tcp_segment, Live}
+use Rattle.nb_machine.specs.Lives.{kind_number, OpenInput, message, tcp_segment, Live}
 use Rattle.nb_machine.specs.Kinds.{Keeps, has_port, reply_beside}
 use Rattle.nb_machine.specs.States.{State, net0}
 use Rattle.nb_machine.specs.Takings.{Over, AllTake}
@@ -37,11 +37,11 @@ use Rattle.nb_openlaws.proofs.NetworkDevices.{link_is}
 use Rattle.nb_openlaws.proofs.LiveStates.{times_come}
 use Rattle.nb_openlaws.proofs.Sendings.{no_reasons}
 use Rattle.nb_openlaws.proofs.KindFacts.{no_connection}
-use Rattle.nb_laws.specs.Drives.{sessions, session_place_by, session_place}
+use Rattle.nb_laws.specs.Drives.{SessionOpening, sessions, session_place_by, session_place}
 use Rattle.nb_laws.proofs.SessionOpenings.{no_session_unopened}
-use Rattle.nb_openlaws.proofs.StreamPlaces.{times_stream, times_session, same_sum, stream_so}
+use Rattle.nb_openlaws.proofs.StreamPlaces.{times_stream, times_session, same_sum, stream_so, session_so}
 use Rattle.nb_openlaws.proofs.ExchangeReasons.{place_so, IsTaken}
-use Rattle.nb_openlaws.proofs.AllReasons.{IsPlaced, TakenSo, all_reasons, one_reasons}
+use Rattle.nb_openlaws.proofs.AllReasons.{IsPlaced, TakenSo, all_reasons, one_reasons, login_of}
 
 -- EVENTS THAT ARE USED
 
@@ -170,6 +170,11 @@ message_placed es e l u keeps own a none = record {
       let k = l.number in
       place_more k es e ∙ used_place k (last_place k es) e u ∙ a k ∙ stream_so k es (live_opening l) own.opening is
       ∙ ap (λ z. stream_place_by (hardware es) k z (live_opening l)) own.streams ∙ sym (ap (λ h. stream_place_by h k (streamed l.exchanges) (live_opening l)) (hardware_stays es e keeps));
+  session_to = λ isn i is.
+      let k = l.number in
+      let s : SessionOpening = record { opening = live_opening l; login = i } in
+      place_more k es e ∙ used_place k (last_place k es) e u ∙ a k ∙ session_so k es (live_opening l) s own.opening (ap (λ z. kind_number z == 3) is) (login_of k es (live_opening l) l.kind isn i is own.login)
+      ∙ ap (λ z. session_place_by (hardware es) k z s) own.streams ∙ sym (ap (λ h. session_place_by h k (streamed l.exchanges) s) (hardware_stays es e keeps));
   others = λ j other.
       place_more j es e ∙ used_place j (last_place j es) e u ∙ a j
       ∙ sym (place_same j (es ++ e ∷ []) es (hardware_stays es e keeps) (openings_more j es e ∙ no_more (openings j es) _ (used_opening j es e u)) (ap (λ z. flat_map received_by z) (calls_more j es e ∙ no_more (calls j es) _ (none j other).0))

@@ -10,7 +10,7 @@ use Rattle.nb_ipv4.specs.UdpText.{UdpParts}
 use Rattle.nb_ipv4.specs.EchoText.{EchoParts}
 use Rattle.nb_tcpseg.specs.SegmentText.{SegmentParts}
 use Rattle.nb_wire.specs.declared.address.Mac.{Mac}
-use Rattle.nb_streams.specs.Talking.{by_segment}
+use Rattle.nb_talks.specs.Talking.{by_segment}
 use Rattle.nb_machine.specs.Connections.{arrived_segment}
 use Rattle.nb_laws.specs.Webs.{came_at}
 use Rattle.nb_stack.specs.Client.{Client}

@@ -18,8 +18,8 @@ use Rattle.nb_machine.specs.Cores as cores
 use Rattle.nb_machine.specs.Cores.{CoreExchanged}
 use Rattle.nb_streams.proofs.FlowLaws.{all_append}
 use Rattle.nb_streams.specs.Sending.{closing_segment}
-use Rattle.nb_streams.specs.Talking.{Talker, Talk}
-use Rattle.nb_streams.specs.TalkPromises.{Sends, Put, phase_of, close_put}
+use Rattle.nb_talks.specs.Talking.{Talk}
+use Rattle.nb_talks.specs.TalkPromises.{Sends, Put, phase_of, close_put}
 use Rattle.nb_streams.specs.Trying.{tries_at}
 use Rattle.nb_tcp.specs.Messages.{outgoing_message}
 use Rattle.nb_machine.specs.Connections.{Connection, connection_of, segment_records, talk_of, talk_end, put_records, PutsAt, KeepsAt, EachExchange, Talking}
@@ -27,11 +27,13 @@ use Rattle.nb_machine.specs.Drives.{session_talking}
 use Rattle.nb_machine.specs.Webs.{web_talking}
 use Rattle.nb_machine.specs.Kinds.{KeepsBy, Keeps}
 use Rattle.nb_machine.specs.Takings.{end_told, end_among}
+use Rattle.nb_laws.specs.Agreement.{IsAside, AreAside}
+use Rattle.nb_laws.specs.Drives.{sessions}
 use Rattle.nb_laws.specs.Events.{Event, puts}
 use Rattle.nb_laws.specs.Lists.{time, made, port_offset, hardware, mark_at, opens_by, opening_at, openings, is_end_of, open_has_ended, calls, tries, marks}
 use Rattle.nb_laws.specs.Webs.{brought_to, told_try_mark, try_marks_of}
 use Rattle.nb_openlaws.specs.Standings.{told_try, told_tries}
-use Rattle.nb_laws.proofs.Tellings.{told, try_marks_by, made_more, openings_more, calls_more, came_more, try_marks_more, marks_more, over_more, no_more}
+use Rattle.nb_laws.proofs.Tellings.{told, try_marks_by, made_more, openings_more, calls_more, came_more, try_marks_more, marks_more, over_more, no_more, sessions_stay}
 use Rattle.nb_laws.proofs.Histories.{time_more, offset_more, hardware_more}
 
 -- a record that open k puts: a frame, a try, a place, its end
@@ -109,6 +111,7 @@ pub record Left (a : List Event) (outs : List Out) : Type 0 where
   pub offset_is : port_offset (a ++ told outs) ≡ port_offset a
   pub hardware_is : hardware (a ++ told outs) ≡ hardware a
   pub openings_is : (k : ℕ) → openings k (a ++ told outs) ≡ openings k a
+  pub sessions_is : (k : ℕ) → sessions k (a ++ told outs) ≡ sessions k a
   pub over_is : (k : ℕ) → open_has_ended k (a ++ told outs) ≡ (open_has_ended k a || ends_in k outs)
   pub calls_is : (k : ℕ) → calls k (a ++ told outs) ≡ calls k a
   pub marks_is : (k : ℕ) → marks k (a ++ told outs) ≡ marks k a ++ told_tries k (time a) outs
@@ -122,6 +125,7 @@ left_none a = let e : a ++ [] ≡ a = append-nil a in record {
   offset_is = ap (λ z. port_offset z) e;
   hardware_is = ap (λ z. hardware z) e;
   openings_is = λ k. ap (λ z. openings k z) e;
+  sessions_is = λ k. ap (λ z. sessions k z) e;
   over_is = λ k. ap (λ z. open_has_ended k z) e ∙ sym (or-false (open_has_ended k a));
   calls_is = λ k. ap (λ z. calls k z) e;
   marks_is = λ k. ap (λ z. marks k z) e ∙ sym (append-nil (marks k a));
@@ -142,6 +146,7 @@ left a (o ∷ outs) h =
       offset_is = ap (λ z. port_offset z) e ∙ rest.offset_is ∙ offset_more a (puts o);
       hardware_is = ap (λ z. hardware z) e ∙ rest.hardware_is ∙ hardware_more a (puts o);
       openings_is = λ k. ap (λ z. openings k z) e ∙ rest.openings_is k ∙ openings_more k a (puts o) ∙ no_more (openings k a) _ (later_opening k a o h.0);
+      sessions_is = λ k. ap (λ z. sessions k z) e ∙ rest.sessions_is k ∙ sessions_stay k a (puts o) (later_opening k a o h.0);
       over_is = λ k. ap (λ z. open_has_ended k z) e ∙ rest.over_is k ∙ ap (λ b. b || ends_in k outs) (over_more k a (puts o) ∙ ap (λ b. open_has_ended k a || b) (same_end k o))
           ∙ or_assoc (open_has_ended k a) (is_end_record k o) (ends_in k outs);
       calls_is = λ k. ap (λ z. calls k z) e ∙ rest.calls_is k ∙ calls_more k a (puts o) ∙ append-nil (calls k a);
@@ -155,6 +160,19 @@ left a (o ∷ outs) h =
           ∙ ap (λ z. z ++ try_marks_by k (time a) outs) (try_marks_more k a (puts o))
           ∙ append_assoc (try_marks_of k a) (told_try_mark k (time a) o) (try_marks_by k (time a) outs);
     }
+
+aside_later : (o : Out) → IsAside o → IsLater o
+aside_later (step number) h = absurd h
+aside_later (opened number kind server port own target) h = absurd h
+aside_later _ h = tt
+
+asides_later : (outs : List Out) → AreAside outs → AreLater outs
+asides_later [] h = tt
+asides_later (o ∷ outs) h = (aside_later o h.0, asides_later outs h.1)
+
+-- records beside opens tell no session
+pub aside_sessions : (k : ℕ) (a : List Event) (outs : List Out) → AreAside outs → sessions k (a ++ told outs) ≡ sessions k a
+aside_sessions k a outs h = (left a outs (asides_later outs h)).sessions_is k
 
 -- WHOSE THEY ARE
 

@@ -19,20 +19,20 @@ use Rattle.nb_machine.specs.Transfers.{transfer_of}
 use Rattle.nb_machine.specs.Connections.{connection_of, syn_message}
 use Rattle.nb_streams.specs.Trying.{tries_at}
 use Rattle.nb_laws.specs.Webs.{brought_to, told_try_mark, try_marks_of}
-use Rattle.nb_machine.specs.Lives.{OpenKind, tftp, http, iscsi, dns, dhcp, ping, Live, open_record, end_record}
+use Rattle.nb_machine.specs.Lives.{OpenKind, tftp, http, iscsi, dns, dhcp, ping, kind_number, Live, open_record, end_record}
 use Rattle.nb_machine.specs.Kinds.{first_records}
 use Rattle.nb_machine.specs.States.{State, net0, with_opened, with_one_made}
 use Rattle.nb_machine.specs.Scripts.{net0_mac}
 use Rattle.nb_laws.specs.Events.{Event, puts}
-use Rattle.nb_laws.specs.Lists.{time, made, port_offset, Hardware, hardware, opening_at, openings, open_has_ended, calls, tries, marks}
-use Rattle.nb_openlaws.specs.Standings.{heard_calls, heard_marks, streamed, streamed_marks, told_try, told_tries, IsKindBy, IsOngoing, live_opening, AgreesLive, AreLive, lives_among, HaveOwnNumbers, AgreesState}
+use Rattle.nb_laws.specs.Lists.{time, made, port_offset, Hardware, hardware, Opening, opening_at, openings, open_has_ended, calls, tries, marks}
+use Rattle.nb_openlaws.specs.Standings.{heard_calls, heard_marks, streamed, streamed_marks, told_try, told_tries, IsKindBy, HasLogin, IsOngoing, live_opening, AgreesLive, AreLive, lives_among, HaveOwnNumbers, AgreesState}
 use Rattle.nb_laws.specs.Agreement.{IsStill, AreStill}
 use Rattle.nb_laws.proofs.Histories.{time_more, offset_more, hardware_more}
-use Rattle.nb_laws.proofs.Tellings.{told, try_marks_by, made_more, openings_more, calls_more, came_more, try_marks_more, marks_more, over_more, no_more, live_same, same_number}
+use Rattle.nb_laws.proofs.Tellings.{told, try_marks_by, made_more, openings_more, calls_more, came_more, try_marks_more, marks_more, over_more, no_more, live_same, same_number, sessions_stay}
 use Rattle.nb_laws.proofs.Asides.{own_send}
 use Rattle.nb_streams.proofs.FlowLaws.{all_append}
 use Rattle.nb_openlaws.proofs.OpenRecords.{AreOf, IsLater, AreLater, is_end_record, ends_in, left, of_later, of_send, other_tries, other_try_marks, other_ends}
-use Rattle.nb_openlaws.proofs.Takings.{SameAt, then_same, or_first, or_second, both_false}
+use Rattle.nb_openlaws.proofs.Takings.{SameAt, then_same, or_first, or_second, both_false, login_on}
 use Rattle.nb_openlaws.proofs.UsedEvents.{live_ended}
 use Rattle.nb_openlaws.proofs.LiveStates.{quiet_state}
 
@@ -86,6 +86,8 @@ pub record IsNext (s : State) (l : Live) : Type 0 where
   pub since_is : l.since ≡ s.now
   pub bare : l.exchanges ≡ []
   pub kind_is : IsKindBy (record { mac = net0_mac s.devices; identity = s.machine }) l.number l.kind (live_opening l)
+  -- no command opens a drive yet
+  pub no_drive : kind_number l.kind ≡ 3 → ⊥
 
 pub opens_here : (es : List Event) (s : State) (l : Live) → IsNext s l → AgreesState es s → openings l.number (es ++ puts (open_record l) ∷ []) ≡ live_opening l ∷ []
 opens_here es s l next a =
@@ -97,6 +99,7 @@ opens_here es s l next a =
 opens_elsewhere : (es : List Event) (l : Live) (j : ℕ) → (l.number == j) ≡ false → SameAt j es (es ++ puts (open_record l) ∷ [])
 opens_elsewhere es l j other = record {
   openings_are = openings_more j es (puts (open_record l)) ∙ no_more (openings j es) _ (ap (λ b. cond b (record { kind = (live_opening l).kind; server = l.server; port = l.port; own = l.own; target = l.target; since = time es } ∷ []) []) other);
+  sessions_are = sessions_stay j es (puts (open_record l)) (ap (λ b. cond b (record { kind = (live_opening l).kind; server = l.server; port = l.port; own = l.own; target = l.target; since = time es } ∷ []) []) other);
   over_are = over_more j es (puts (open_record l)) ∙ or-false (open_has_ended j es);
   calls_are = calls_more j es (puts (open_record l)) ∙ append-nil (calls j es);
   marks_are = marks_more j es (puts (open_record l)) ∙ append-nil (marks j es);
@@ -130,6 +133,7 @@ made_one es s l put next of a =
       came_is = f.came_is k ∙ came_more k es (puts (open_record l)) ∙ append-nil (brought_to k es) ∙ (a.unstreamed k (omega (arith, a.opens, next.number_is))).0;
       elsewhere = λ j other. then_same j es es1 (es1 ++ told put) (opens_elsewhere es l j other) (record {
         openings_are = f.openings_is j;
+        sessions_are = f.sessions_is j;
         over_are = f.over_is j ∙ ap (λ b. open_has_ended j es1 || b) (other_ends k j put of other) ∙ or-false (open_has_ended j es1);
         calls_are = f.calls_is j;
         marks_are = f.marks_is j ∙ no_more (marks j es1) _ (other_tries k j (time es1) put of other);
@@ -146,6 +150,7 @@ others_live es es2 s l (x ∷ ls) w m same e h =
         made_so = omega (arith, m, h.0.made_so);
         on_net0 = h.0.on_net0;
         kind_is = subst (λ z. IsKindBy z x.number x.kind (live_opening x)) (sym w) h.0.kind_is;
+        login = login_on x.number es es2 x.kind (live_opening x) t.sessions_are h.0.login;
         opening = t.openings_are ∙ h.0.opening;
         lives = t.over_are ∙ h.0.lives;
         received = t.calls_are ∙ h.0.received;
@@ -175,6 +180,15 @@ apart_last es (x ∷ ls) l e h a = (last ls a.0, apart_last es ls l e h.1 a.1)
 pub hardware_now : (es : List Event) (s : State) → AgreesState es s → record { mac = net0_mac s.devices; identity = s.machine } ≡ hardware es
 hardware_now es s a = rw (sym a.mac_is, sym a.identity_is) refl
 
+-- a login begins with a drive's open alone
+pub no_login : (k : ℕ) (es : List Event) (kind : OpenKind) (o : Opening) → (kind_number kind ≡ 3 → ⊥) → HasLogin k es kind o
+no_login k es tftp o none = tt
+no_login k es (http isn) o none = tt
+no_login k es (iscsi isn i) o none = absurd (none refl)
+no_login k es (dns id) o none = tt
+no_login k es (dhcp x) o none = tt
+no_login k es ping o none = tt
+
 -- it lives, and has had its first try
 pub opened_state : (es : List Event) (s : State) (l : Live) (put : List Out) → IsNext s l → AreOf l.number put → ends_in l.number put ≡ false → ((now : ℕ) → told_tries l.number now put ≡ tries 1 now ∷ []) → ((now : ℕ) → try_marks_by l.number now put ≡ tries_at 1 now ∷ []) → AgreesState es s →
     AgreesState (es ++ told (open_record l ∷ put)) (with_opened s l)
@@ -199,6 +213,7 @@ opened_state es s l put next of no_end first first_mark a =
           made_so = omega (arith, o.made_is, now_made);
           on_net0 = next.device_is;
           kind_is = subst (λ z. IsKindBy z k l.kind (live_opening l)) (hardware_now es s a ∙ sym o.hardware_is) next.kind_is;
+          login = no_login k es2 l.kind (live_opening l) next.no_drive;
           opening = o.opening_is;
           lives = f.over_is k ∙ ap (λ b. open_has_ended k es1 || b) no_end ∙ or-false (open_has_ended k es1) ∙ over_more k es (puts (open_record l)) ∙ or-false (open_has_ended k es) ∙ a.unended k (omega (arith, now_made));
           received = o.calls_is ∙ sym (ap (heard_calls l.kind) next.bare);

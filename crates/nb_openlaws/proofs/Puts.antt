@@ -9,9 +9,8 @@ use Rattle.nb_tftp.specs.History.{Call, came, ticked, Entry}
 use Rattle.nb_nodes.specs.Exchanges.{Service}
 use Rattle.nb_terms.specs.declared.acts.SendTo.{SendTo}
 use Rattle.nb_stack.specs.Sends.{put_on, way_of}
-use Rattle.nb_streams.specs.Talking.{Talker}
 use Rattle.nb_streams.specs.Sending.{closing_segment}
-use Rattle.nb_streams.specs.TalkPromises.{Sends, phase_of, close_put}
+use Rattle.nb_talks.specs.TalkPromises.{Sends, phase_of, close_put}
 use Rattle.nb_tcp.specs.Messages.{outgoing_message}
 use Rattle.nb_machine.specs.Connections.{Connection, connection_of, segment_records, talk_of, talk_end, PutsAt, KeepsAt, Talking}
 use Rattle.nb_machine.specs.Drives.{session_talking}

@@ -5,7 +5,7 @@ use Rattle.std.proofs.lemmas.List.Sums.{fold-append}
 use Rattle.std.proofs.lemmas.Bool.{eqb-true}
 use Rattle.nb_streams.specs.Streams.{next}
 use Rattle.nb_streams.specs.Flows.{TcpCall, time_came, text_came, ConnPhase, asking, flowing, conn_phase, after_tcp_call, held_in, held_after}
-use Rattle.nb_streams.specs.Talking.{Came, by_time, Talker, talk_held, text_to_send, unsaid, receives, talks_on, begun_talk, talk_after}
+use Rattle.nb_talks.specs.Talking.{Came, by_time, Talker, talk_held, text_to_send, talks_on, begun_talk, talk_after}
 use Rattle.nb_streams.proofs.FlowLaws.{held_going}
 use Rattle.nb_streams.proofs.OtherSendLaws.{phase_append}
 use Rattle.nb_webs.specs.Webs.{NoTask}
@@ -15,8 +15,8 @@ use Rattle.nb_laws.specs.Events.{Event}
 use Rattle.nb_laws.specs.Lists as lists
 use Rattle.nb_laws.specs.Lists.{Hardware, hardware, Opening, openings, file_blocks, blocks_where, opens_file}
 use Rattle.nb_laws.specs.Progress.{file_place}
-use Rattle.nb_laws.specs.Webs.{opens_web, brought_to, stream_place_by, stream_place}
-use Rattle.nb_laws.specs.Drives.{SessionOpening, session_by, to_session, came_to, session_place_by, session_place}
+use Rattle.nb_laws.specs.Webs.{opens_web, opens_session, brought_to, talk_by, stream_place_by, stream_place}
+use Rattle.nb_laws.specs.Drives.{SessionOpening, sessions, session_by, to_session, came_to, session_place_by, session_place}
 use Rattle.nb_laws.proofs.SessionOpenings.{no_session_of}
 use Rattle.nb_sans.specs.Sessions.{session_talker}
 use Rattle.std.proofs.lemmas.List.{map-append}
@@ -34,7 +34,7 @@ time_held : {T : Type 0} (t : Talker T) (isn start : ℕ) (came : List (Came T))
 time_held t isn start came now =
     let d = talk_after t isn start came in
     ap (λ x. talk_held isn x) (fold-append (talks_on t isn) (begun_talk t isn start) came (by_time now ∷ []))
-    ∙ held_text isn (d.calls ++ time_came now ∷ []) (unsaid t isn (receives isn d (by_time now))) now
+    ∙ ap (held_after isn) (append-nil (d.calls ++ time_came now ∷ []))
     ∙ ap held_in (phase_append isn d.calls (time_came now))
 
 pub time_stream : (h : Hardware) (k : ℕ) (o : Opening) (came : List (Came NoTask)) (now : ℕ) → stream_place_by h k (came ++ by_time now ∷ []) o ≡ stream_place_by h k came o
@@ -56,7 +56,7 @@ same_sum {A} f g os same = on os 0
     on (x ∷ xs) t = ap (λ z. fold (λ (n : ℕ) (o : A). n + f o) (t + z) xs) (same x) ∙ on xs (t + g x)
 
 -- the same of a drive's session
-time_session : (h : Hardware) (k : ℕ) (s : SessionOpening) (came : List (Came NoTask)) (now : ℕ) → session_place_by h k (came ++ by_time now ∷ []) s ≡ session_place_by h k came s
+pub time_session : (h : Hardware) (k : ℕ) (s : SessionOpening) (came : List (Came NoTask)) (now : ℕ) → session_place_by h k (came ++ by_time now ∷ []) s ≡ session_place_by h k came s
 time_session h k s came now =
     ap (λ z. next (talk_held (first_word h.identity k) (session_by h k s z))) (map-append to_session came (by_time now ∷ []))
     ∙ ap next (time_held (session_talker s.login) (first_word h.identity k) s.opening.since (came_to came) now)
@@ -76,4 +76,16 @@ stream_so k es o e is =
     ∙ alone (stream_place_by (hardware es) k (brought_to k es) o)
   where
     alone : (n : ℕ) → 0 + (0 + n) + 0 ≡ n
+    alone n = omega arith
+
+-- of one that is a drive's session
+pub session_so : (k : ℕ) (es : List Event) (o : Opening) (s : SessionOpening) → openings k es ≡ o ∷ [] → opens_session o ≡ true → sessions k es ≡ s ∷ [] → file_place k es ≡ session_place_by (hardware es) k (brought_to k es) s
+session_so k es o s e is one =
+    ap (λ z. z + stream_place k es + session_place k es) (ap (λ os. blocks_where (list_any opens_file os) (lists.datagrams_of k es)) e ∙ ap (λ n. blocks_where ((n == 1) || false) (lists.datagrams_of k es)) (eqb-true o.kind 3 is))
+    ∙ ap (λ os. 0 + sum_by (stream_place_by (hardware es) k (brought_to k es)) os + session_place k es) e
+    ∙ ap (λ n. 0 + (0 + cond (n == 2) (next (talk_held (first_word (hardware es).identity k) (talk_by (hardware es) k o (brought_to k es)))) 0) + session_place k es) (eqb-true o.kind 3 is)
+    ∙ ap (λ ss. 0 + (0 + 0) + sum_by (session_place_by (hardware es) k (brought_to k es)) ss) one
+    ∙ alone (session_place_by (hardware es) k (brought_to k es) s)
+  where
+    alone : (n : ℕ) → 0 + (0 + 0) + (0 + n) ≡ n
     alone n = omega arith

@@ -10,18 +10,19 @@ use Rattle.nb_terms.specs.declared.cause.Cause.{Cause}
 use Rattle.nb_defs.specs.Records.{Out, step, sent, ended}
 use Rattle.nb_stack.specs.Client.{Client}
 use Rattle.nb_tftp.proofs.BlockLemmas.{either_way}
-use Rattle.nb_machine.specs.Lives.{OpenInput, message, tcp_segment, time as time_came, task, close, Exchange, exchange, Live, continued}
+use Rattle.nb_machine.specs.Lives.{OpenKind, tftp, http, iscsi, dns, dhcp, ping, OpenInput, message, tcp_segment, time as time_came, task, close, Exchange, exchange, Live, continued}
 use Rattle.nb_streams.specs.Trying.{TryMark, comes_in, tries_at}
 use Rattle.nb_webs.specs.Webs.{call_of}
 use Rattle.nb_machine.specs.Connections.{came_on}
 use Rattle.nb_machine.specs.States.{net0}
 use Rattle.nb_machine.specs.Takings.{end_among, Over, AllTake, all_have, lives_on, is_over}
+use Rattle.nb_laws.specs.Drives.{sessions}
 use Rattle.nb_laws.specs.Events.{Event, puts}
 use Rattle.nb_laws.specs.Frames.{IsDue, stays_due}
 use Rattle.nb_laws.specs.Lists.{time, made, port_offset, hardware, Opening, openings, open_has_ended, calls, tries, marks, mark_of}
 use Rattle.nb_laws.specs.Webs.{brought_to, told_try_mark, try_marks_of}
 use Rattle.nb_openlaws.specs.OpenEndings.{HadWay}
-use Rattle.nb_openlaws.specs.Standings.{heard_call, moment_in, told_try, told_tries, streamed, exchange_try_marks, streamed_marks, heard_calls, exchange_marks, heard_marks, live_opening, IsKindBy, ComesToOwnPort, IsOngoing, AgreesLive, AreLive, lives_among, HaveOwnNumbers}
+use Rattle.nb_openlaws.specs.Standings.{heard_call, moment_in, told_try, told_tries, streamed, exchange_try_marks, streamed_marks, heard_calls, exchange_marks, heard_marks, live_opening, IsKindBy, HasLogin, ComesToOwnPort, IsOngoing, AgreesLive, AreLive, lives_among, HaveOwnNumbers}
 use Rattle.nb_laws.proofs.Tellings.{told, try_marks_by, no_more}
 use Rattle.nb_streams.proofs.FlowLaws.{all_append}
 use Rattle.nb_openlaws.proofs.OpenRecords.{AreOf, ends_in, left, of_later, other_tries, other_try_marks, other_ends, end_among_is, IsFrame, PutsClose, IsPutBy, kept_puts}
@@ -29,6 +30,7 @@ use Rattle.nb_openlaws.proofs.OpenRecords.{AreOf, ends_in, left, of_later, other
 -- the history says the same of open j
 pub record SameAt (j : ℕ) (a b : List Event) : Type 0 where
   pub openings_are : openings j b ≡ openings j a
+  pub sessions_are : sessions j b ≡ sessions j a
   pub over_are : open_has_ended j b ≡ open_has_ended j a
   pub calls_are : calls j b ≡ calls j a
   pub marks_are : marks j b ≡ marks j a
@@ -38,6 +40,7 @@ pub record SameAt (j : ℕ) (a b : List Event) : Type 0 where
 pub then_same : (j : ℕ) (a b c : List Event) → SameAt j a b → SameAt j b c → SameAt j a c
 then_same j a b c p q = record {
   openings_are = q.openings_are ∙ p.openings_are;
+  sessions_are = q.sessions_are ∙ p.sessions_are;
   over_are = q.over_are ∙ p.over_are;
   calls_are = q.calls_are ∙ p.calls_are;
   marks_are = q.marks_are ∙ p.marks_are;
@@ -90,6 +93,7 @@ pub record HasCome (es : List Event) (input : OpenInput) (l : Live) : Type 0 whe
   pub made_so : l.number < made es
   pub on_net0 : l.device ≡ net0
   pub kind_is : IsKindBy (hardware es) l.number l.kind (live_opening l)
+  pub login : HasLogin l.number es l.kind (live_opening l)
   pub opening : openings l.number es ≡ live_opening l ∷ []
   pub lives : open_has_ended l.number es ≡ false
   pub received : calls l.number es ≡ heard_calls l.kind l.exchanges ++ heard_call l.kind input
@@ -116,11 +120,20 @@ pub record AgreesOver (es : List Event) (o : Over) : Type 0 where
 abbrev pub AreOver : List Event → List Over → Type 0
 AreOver es os = AllByRecursion (AgreesOver es) os
 
+pub login_on : (k : ℕ) (a b : List Event) (kind : OpenKind) (o : Opening) → sessions k b ≡ sessions k a → HasLogin k a kind o → HasLogin k b kind o
+login_on k a b tftp o same h = tt
+login_on k a b (http isn) o same h = tt
+login_on k a b (iscsi isn i) o same h = same ∙ h
+login_on k a b (dns id) o same h = tt
+login_on k a b (dhcp x) o same h = tt
+login_on k a b ping o same h = tt
+
 pub live_on : (a b : List Event) (l : Live) → Grows a b → made b ≡ made a → hardware b ≡ hardware a → SameAt l.number a b → AgreesLive a l → AgreesLive b l
 live_on a b l g made_are hardware_are s h = record {
   made_so = subst (λ z. l.number < z) (sym made_are) h.made_so;
   on_net0 = h.on_net0;
   kind_is = subst (λ z. IsKindBy z l.number l.kind (live_opening l)) (sym hardware_are) h.kind_is;
+  login = login_on l.number a b l.kind (live_opening l) s.sessions_are h.login;
   opening = s.openings_are ∙ h.opening;
   lives = s.over_are ∙ h.lives;
   received = s.calls_are ∙ h.received;
@@ -157,6 +170,7 @@ come_on es put input l made_are hardware_are times_are s h = record {
   made_so = subst (λ z. l.number < z) (sym made_are) h.made_so;
   on_net0 = h.on_net0;
   kind_is = subst (λ z. IsKindBy z l.number l.kind (live_opening l)) (sym hardware_are) h.kind_is;
+  login = login_on l.number es (es ++ told put) l.kind (live_opening l) s.sessions_are h.login;
   opening = s.openings_are ∙ h.opening;
   lives = s.over_are ∙ h.lives;
   received = s.calls_are ∙ h.received;
@@ -215,6 +229,7 @@ one_takes es came l link put c p none =
       made_so = subst (λ z. l.number < z) (sym f.made_is) c.made_so;
       on_net0 = c.on_net0;
       kind_is = subst (λ z. IsKindBy z k l.kind (live_opening l)) (sym f.hardware_is) c.kind_is;
+      login = login_on k es (es ++ told put) l.kind (live_opening l) (f.sessions_is k) c.login;
       opening = f.openings_is k ∙ c.opening;
       lives = f.over_is k ∙ ap (λ b. b || ends_in k put) c.lives ∙ end_among_is k put ∙ ap is_some none;
       received = f.calls_is k ∙ c.received ∙ sym (flat_map-append (λ (y : Exchange). heard_call l.kind y.came) l.exchanges (x ∷ []) ∙ ap (λ z. heard_calls l.kind l.exchanges ++ z) (append-nil (heard_call l.kind came)));
@@ -252,6 +267,7 @@ others_same es k j put of e =
     let f = left es put (of_later k put of) in
     record {
       openings_are = f.openings_is j;
+      sessions_are = f.sessions_is j;
       over_are = f.over_is j ∙ ap (λ b. open_has_ended j es || b) (other_ends k j put of e) ∙ or-false (open_has_ended j es);
       calls_are = f.calls_is j;
       marks_are = f.marks_is j ∙ no_more (marks j es) _ (other_tries k j (time es) put of e);
@@ -319,7 +335,7 @@ all_taken devices came ls put after over all_have es come apart = subst (λ z. T
   ended = tt;
   theirs = λ j none. refl;
   apart = tt;
-  still = λ j none. record { openings_are = refl; over_are = refl; calls_are = refl; marks_are = refl; came_are = refl; try_marks_are = refl };
+  still = λ j none. record { openings_are = refl; sessions_are = refl; over_are = refl; calls_are = refl; marks_are = refl; came_are = refl; try_marks_are = refl };
   none_new = λ j none. refl;
   gone = λ j some none. absurd (cc);
 })

@@ -5,15 +5,15 @@ use Rattle.nb_tftp.specs.History.{ticked}
 use Rattle.nb_machine.specs.Lives.{OpenInput, Live}
 use Rattle.nb_laws.specs.Events.{Event, starts, hears, waits, stops, puts}
 use Rattle.nb_laws.specs.Lists.{time, made, port_offset, hardware, opens_by, Opening, opening_at, openings, is_end_of, open_has_ended, live, came_in, call_at, calls, mark_of, mark_at, marks}
-use Rattle.nb_streams.specs.Talking.{by_time}
+use Rattle.nb_talks.specs.Talking.{by_time}
 use Rattle.nb_streams.specs.Trying.{comes_in}
 use Rattle.nb_webs.specs.Webs.{call_of}
 use Rattle.nb_machine.specs.Connections.{came_on}
 use Rattle.nb_laws.specs.Webs.{segment_in, came_at, brought_to, try_mark_at, try_marks_of}
 use Rattle.nb_openlaws.specs.Standings.{heard_call, live_opening, IsKindBy, ComesToOwnPort, AgreesLive}
 use Rattle.nb_laws.proofs.Histories.{offset_more, hardware_more}
-use Rattle.nb_laws.proofs.Tellings.{made_more, openings_more, calls_more, came_more, try_marks_more, marks_more, over_more, no_more, no_or}
-use Rattle.nb_openlaws.proofs.Takings.{SameAt, IsNow, IsDueBy, came_marks, HasCome}
+use Rattle.nb_laws.proofs.Tellings.{made_more, openings_more, calls_more, came_more, try_marks_more, marks_more, over_more, no_more, no_or, sessions_stay}
+use Rattle.nb_openlaws.proofs.Takings.{SameAt, IsNow, IsDueBy, came_marks, HasCome, login_on}
 
 -- AN EVENT THAT IS USED
 
@@ -97,6 +97,7 @@ made_used es e u = made_more es e ∙ ap (λ z. made es + z) (no_made e u) ∙ a
 pub used_same : (j : ℕ) (es : List Event) (e : Event) → IsUsed e → BringsNone j es e → SameAt j es (es ++ e ∷ [])
 used_same j es e u none = record {
   openings_are = openings_more j es e ∙ no_more (openings j es) _ (no_opening j es e u);
+  sessions_are = sessions_stay j es e (no_opening j es e u);
   over_are = over_more j es e ∙ no_or (open_has_ended j es) _ (no_end j e u);
   calls_are = calls_more j es e ∙ no_more (calls j es) _ none.0;
   marks_are = marks_more j es e ∙ no_more (marks j es) _ (marks_as_calls j es e u ∙ ap (λ z. map mark_of z) none.0);
@@ -125,6 +126,7 @@ has_come es e input l u further h one streamed_one now own due =
       made_so = subst (λ z. l.number < z) (sym (made_used es e u)) h.made_so;
       on_net0 = h.on_net0;
       kind_is = subst (λ z. IsKindBy z l.number l.kind (live_opening l)) (sym (hardware_used es e u further)) h.kind_is;
+      login = login_on k es (es ++ e ∷ []) l.kind (live_opening l) (sessions_stay k es e (no_opening k es e u)) h.login;
       opening = openings_more k es e ∙ no_more (openings k es) _ (no_opening k es e u) ∙ h.opening;
       lives = over_more k es e ∙ no_or (open_has_ended k es) _ (no_end k e u) ∙ h.lives;
       received = calls_more k es e ∙ ap (λ z. calls k es ++ z) one ∙ ap (λ z. z ++ heard_call l.kind input) h.received;

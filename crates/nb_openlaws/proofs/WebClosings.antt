@@ -29,7 +29,8 @@ use Rattle.nb_openlaws.proofs.KindFacts.{opening_as}
 use Rattle.nb_openlaws.proofs.Requests.{calls_after, said_once}
 use Rattle.nb_openlaws.proofs.WebStands.{aside_segments, WebGoes, goes_unwhole, web_goes, ongoing}
 use Rattle.nb_openlaws.proofs.ExchangeReasons.{ended_reasons}
-use Rattle.nb_openlaws.proofs.WebSendings.{WebAt, web_on, client_segments, closing_of, closing_frame}
+use Rattle.nb_openlaws.proofs.SegmentReasons.{client_segments}
+use Rattle.nb_openlaws.proofs.WebSendings.{WebAt, web_on, closing_of, closing_frame}
 use Rattle.nb_openlaws.proofs.WebEnds.{answer_is}
 
 -- one is closed: its segment, and its end with this cause

@@ -15,8 +15,8 @@ use Rattle.nb_streams.specs.Flows.{TcpCall, segment_came, time_came, text_came, 
 use Rattle.nb_streams.specs.Sending.{Outgoing, syn}
 use Rattle.nb_streams.specs.Trying.{TryTimer, timer_after, due_tries, due_fired, fired, PlanIsOver, TryMark, comes_in, tries_at, mark_calls, HasTriedAll}
 use Rattle.nb_streams.specs.Endings.{end_cause, plan_tries, segment_end, due_end, ConnEnds, by_syn_refusal, by_reset, by_length, by_second_stop, by_no_answer}
-use Rattle.nb_streams.specs.Talking.{Came, by_segment, by_time, text_to_send}
-use Rattle.nb_streams.specs.TalkPromises.{Sends, Put, earlier}
+use Rattle.nb_talks.specs.Talking.{Came, by_segment, by_time, text_to_send}
+use Rattle.nb_talks.specs.TalkPromises.{Sends, Put, earlier}
 use Rattle.nb_streams.proofs.StreamLaws.{either}
 use Rattle.nb_streams.proofs.EndLaws.{end_by_segment}
 use Rattle.nb_responses.specs.Chunks.{Verdict}
@@ -117,7 +117,7 @@ not_well rec v why e unwhole = either (why.code == 0)
     (λ well. absurd (let yes : is_whole v ≡ true = well_ended_is_whole rec v why.a why.b (e ∙ ap (λ z. Some (cause z why.a why.b)) (eqb-true why.code 0 well)) in let both : true ≡ false = sym yes ∙ unwhole in cc))
     (λ other. other)
 
-broken_not_ok : (isn start : ℕ) (before : List TcpCall) (call : TcpCall) (why : Cause) → ConnEnds isn start before call why → is_ok_cause why ≡ false
+pub broken_not_ok : (isn start : ℕ) (before : List TcpCall) (call : TcpCall) (why : Cause) → ConnEnds isn start before call why → is_ok_cause why ≡ false
 broken_not_ok isn start before call why (by_syn_refusal text m now e a r) = refl
 broken_not_ok isn start before call why (by_reset f m now e r) = refl
 broken_not_ok isn start before call why (by_length f m now e t p) = refl
@@ -223,7 +223,7 @@ time_stands es l link isn now Over why w at told_so fires goes over =
     one_cause a b e = cc
 
 -- by itself, or because a segment found no route
-any_lost : (c : Connection) (link : Client) (first : Outgoing) (sends : Sends) → loses_way c link sends ≡ true → has_route link (outgoing_message c.link first) ≡ false
+pub any_lost : (c : Connection) (link : Client) (first : Outgoing) (sends : Sends) → loses_way c link sends ≡ true → has_route link (outgoing_message c.link first) ≡ false
 any_lost c link first [] e = absurd (cc)
 any_lost c link first (s ∷ sends) e = either (has_route link (outgoing_message c.link first))
     (λ found. any_lost c link first sends (subst (λ b. (not b || loses_way c link sends) ≡ true) found e))

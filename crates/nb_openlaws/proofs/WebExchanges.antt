@@ -1,20 +1,18 @@
 -- An exchange of an open that fetches by HTTP, and of any: all its records have their reasons.
-use Rattle.std.proofs.Common.{◌≡◌, ℕ, ◌==◌, ◌<◌, ◌≤◌, ltb, true, false, cond, List, [], ◌∷◌, ◌++◌, map, Option, Some, None, refl, sym, ◌∙◌, ap, subst, append_assoc, append-nil, eq-eqb, arith}
+use Rattle.std.proofs.Common.{◌≡◌, ℕ, ◌==◌, ◌<◌, true, false, List, [], ◌∷◌, ◌++◌, map, Option, Some, None, refl, sym, ◌∙◌, ap, subst, append_assoc, append-nil}
 use Rattle.std.specs.Prelude.{unwrap_or}
 use Rattle.std.specs.List.{list_any, AllByRecursion}
-use Rattle.std.proofs.lemmas.Bool.{eqb-true, ltb-true, ltb-false}
 use Rattle.nb_terms.specs.declared.cause.Cause.{Cause}
 use Rattle.nb_defs.specs.Records.{Out}
 use Rattle.nb_retry.specs.declared.retry.Due.{Due}
 use Rattle.nb_retry.specs.declared.retry.Due.TheVariants.{Not, Again, Over}
 use Rattle.nb_streams.specs.Segments.{Arrival}
-use Rattle.nb_streams.specs.Streams.{next, grown}
+use Rattle.nb_streams.specs.Streams.{next}
 use Rattle.nb_streams.specs.Flows.{TcpCall, time_came, held_after}
 use Rattle.nb_streams.specs.Trying.{timer_after, due_fired, fired, comes_in, tries_at}
 use Rattle.nb_streams.specs.Endings.{due_end}
-use Rattle.nb_streams.specs.Talking.{Came, by_segment, by_time, talk_after}
-use Rattle.nb_streams.specs.TalkPromises.{Sends, Put, PutsSo, phase_of, due_sends, earlier}
-use Rattle.nb_streams.proofs.StreamLaws.{either}
+use Rattle.nb_talks.specs.Talking.{Came, by_segment, by_time, talk_after}
+use Rattle.nb_talks.specs.TalkPromises.{Sends, Put, PutsSo, phase_of, due_sends, earlier}
 use Rattle.nb_readings.specs.Ends.{is_whole}
 use Rattle.nb_webs.specs.Webs.{NoTask, call_of, response_come}
 use Rattle.nb_command.specs.SettingAddresses.{host}
@@ -42,23 +40,13 @@ use Rattle.nb_openlaws.proofs.Sendings.{reasons_then, client_advance, aside_adva
 use Rattle.nb_openlaws.proofs.KindFacts.{opening_as}
 use Rattle.nb_openlaws.proofs.StreamPlaces.{stream_so}
 use Rattle.nb_openlaws.proofs.Requests.{calls_after, calls_more, said_once, puts_once}
-use Rattle.nb_openlaws.proofs.WebPuts.{PutsWell, web_well}
+use Rattle.nb_openlaws.proofs.WebPuts.{grown_unwrap, grown_some, PutsWell, web_well}
 use Rattle.nb_openlaws.proofs.WebStands.{aside_segments, end_of_put, undecided_unwhole, time_response, WebGoes, goes_unwhole, web_goes, ongoing}
 use Rattle.nb_openlaws.proofs.ExchangeReasons.{ComeAs, EndStands, ExchangeSo, IsTaken, datagrams_so}
-use Rattle.nb_openlaws.proofs.WebSendings.{WebAt, web_on, segments_reasons, client_segments}
+use Rattle.nb_openlaws.proofs.SegmentReasons.{client_segments}
+use Rattle.nb_openlaws.proofs.WebSendings.{WebAt, web_on, segments_reasons}
+use Rattle.nb_openlaws.proofs.SessionExchanges.{drive_so}
 use Rattle.nb_openlaws.proofs.WebEnds.{WebEnd, calls_with, answer_is, segment_stands, time_stands, end_stands, end_reasons}
-
--- HOW FAR IT HAS COME
-
-grown_unwrap : (a b : ℕ) → unwrap_or (grown a b) a ≡ b
-grown_unwrap a b = either (a == b) (λ same. ap (λ z. unwrap_or (cond z None (Some b)) a) same ∙ eqb-true a b same) (λ other. ap (λ z. unwrap_or (cond z None (Some b)) a) other)
-
-grown_some : (a b n : ℕ) → a ≤ b → grown a b ≡ Some n → a < n
-grown_some a b n le is = either (a == b)
-    (λ same. absurd (let no : None ≡ Some n = sym (ap (λ z. cond z None (Some b)) same) ∙ is in cc))
-    (λ other. let one : Some b ≡ Some n = sym (ap (λ z. cond z None (Some b)) other) ∙ is in let at : b ≡ n = cc in
-    either (ltb a b) (λ less. subst (λ z. a < z) at (ltb-true a b less))
-    (λ no. absurd (let same : a ≡ b = omega (arith, le, ltb-false a b no) in let both : true ≡ false = sym (eq-eqb a b same) ∙ other in cc)))
 
 -- THE EXCHANGE
 
@@ -278,7 +266,7 @@ pub exchange_so : (kind : OpenKind) (es : List Event) (l : Live) (x : Exchange) 
     ExchangeSo kind es l x
 exchange_so tftp es l x taken come before keeps going own = datagrams_so tftp es l x refl taken come before keeps going own
 exchange_so (http isn) es l x taken come before keeps going own = web_so es l x isn taken come before keeps going
-exchange_so (iscsi isn i) es l x taken come before keeps going own = absurd come.kind_is
+exchange_so (iscsi isn i) es l x taken come before keeps going own = drive_so es l x isn i taken come before keeps going
 exchange_so (dns id) es l x taken come before keeps going own = datagrams_so (dns id) es l x refl taken come before keeps going own
 exchange_so (dhcp a) es l x taken come before keeps going own = datagrams_so (dhcp a) es l x refl taken come before keeps going own
 exchange_so ping es l x taken come before keeps going own = datagrams_so ping es l x refl taken come before keeps going own

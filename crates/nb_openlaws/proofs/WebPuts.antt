@@ -1,8 +1,9 @@
 -- What an open that fetches by HTTP puts: the segments may be sent after all that has come, a try is what the connection would try again, a
 -- place is further than the one before.
 use Rattle.std.proofs.Common.{◌≡◌, ℕ, ◌+◌, ◌==◌, ◌&&◌, ◌<◌, ◌≤◌, min, max, Bool, true, false, cond, not, List, [], ◌∷◌, ◌++◌, length, Option, Some, None, refl, sym, ◌∙◌, ap, subst, arith, ltb, ⊎_elim, eq-eqb}
+use Rattle.std.specs.Prelude.{unwrap_or}
 use Rattle.std.specs.List.{list_any, AllByRecursion}
-use Rattle.std.proofs.lemmas.Bool.{and_parts, or_cases, ltb-true, lt-ltb}
+use Rattle.std.proofs.lemmas.Bool.{and_parts, or_cases, eqb-true, ltb-true, ltb-false, lt-ltb}
 use Rattle.std.proofs.lemmas.List.{length-append}
 use Rattle.nb_retry.specs.declared.retry.Due.{Due}
 use Rattle.nb_retry.specs.declared.retry.Due.TheVariants.{Not, Again, Over}
@@ -11,8 +12,8 @@ use Rattle.nb_streams.specs.Streams.{front, next, grown, IsPrefixOf}
 use Rattle.nb_streams.specs.Flows.{TcpCall, segment_came, time_came, Flow, ConnPhase, asking, flowing, conn_phase, after_tcp_call, held_in, held_after, is_taken, advances, with_segment, size, is_free, is_sending, going_on, answers_syn, establishes, opened_by, established, window_bytes, is_past}
 use Rattle.nb_streams.specs.Sending.{Outgoing, probe, MaySend, without_try, with_first_try, only_if, pure_ack, rst_ack, text_segment, rst_for, brings_more, ongoing_sends, taken_sends, is_answered, segment_sends, calls_for, closing_segment, tried_again}
 use Rattle.nb_streams.specs.Endings.{segment_end}
-use Rattle.nb_streams.specs.Talking.{Came, by_segment, by_time, by_task, talk_after}
-use Rattle.nb_streams.specs.TalkPromises.{Put, PutsSo, closes_by, due_sends}
+use Rattle.nb_talks.specs.Talking.{Came, by_segment, by_time, by_task, talk_after}
+use Rattle.nb_talks.specs.TalkPromises.{Put, PutsSo, closes_by, due_sends}
 use Rattle.nb_streams.proofs.StreamLaws.{either}
 use Rattle.nb_streams.proofs.FlowLaws.{all_append, front_grows}
 use Rattle.nb_streams.proofs.SendLaws.{all_in_order, all_may_be_sent}
@@ -24,7 +25,7 @@ use Rattle.nb_openlaws.proofs.Requests.{calls_after, said_once, puts_once}
 -- A TRY
 
 -- a segment that begins to be sent waits to be acknowledged
-sends_past : (advanced : Bool) (f : Flow) → is_sending advanced f ≡ true → ltb (going_on advanced f).acked (going_on advanced f).sent ≡ true
+pub sends_past : (advanced : Bool) (f : Flow) → is_sending advanced f ≡ true → ltb (going_on advanced f).acked (going_on advanced f).sent ≡ true
 sends_past advanced f go = rw go (lt-ltb f.acked (max f.sent (min (f.acked + size f) (length f.text))) (past go))
   where
     some : (a b : ℕ) → 1 ≤ min (min (max a 1) (max b 1)) 1460
@@ -125,6 +126,17 @@ segment_well isn calls m now =
 
 pub same_grown : (a b : ℕ) → a ≡ b → None ≡ grown a b
 same_grown a b e = sym (ap (λ z. cond z None (Some b)) (eq-eqb a b e))
+
+-- how far a stream has come
+pub grown_unwrap : (a b : ℕ) → unwrap_or (grown a b) a ≡ b
+grown_unwrap a b = either (a == b) (λ same. ap (λ z. unwrap_or (cond z None (Some b)) a) same ∙ eqb-true a b same) (λ other. ap (λ z. unwrap_or (cond z None (Some b)) a) other)
+
+pub grown_some : (a b n : ℕ) → a ≤ b → grown a b ≡ Some n → a < n
+grown_some a b n le is = either (a == b)
+    (λ same. absurd (let no : None ≡ Some n = sym (ap (λ z. cond z None (Some b)) same) ∙ is in cc))
+    (λ other. let one : Some b ≡ Some n = sym (ap (λ z. cond z None (Some b)) other) ∙ is in let at : b ≡ n = cc in
+    either (ltb a b) (λ less. subst (λ z. a < z) at (ltb-true a b less))
+    (λ no. absurd (let same : a ≡ b = omega (arith, le, ltb-false a b no) in let both : true ≡ false = sym (eq-eqb a b same) ∙ other in cc)))
 
 -- a time leaves the connection as it was
 pub time_phase : (isn : ℕ) (calls : List TcpCall) (now : ℕ) → conn_phase isn (calls ++ time_came now ∷ []) ≡ conn_phase isn calls

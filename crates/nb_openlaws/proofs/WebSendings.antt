@@ -1,37 +1,33 @@
 -- What an open that fetches by HTTP sends: each segment, and what closes it, has its reasons.
-use Rattle.std.proofs.Common.{◌≡◌, ℕ, false, List, [], ◌∷◌, ◌++◌, Option, None, refl, sym, ◌∙◌, ap, subst, append_assoc, append-nil, arith}
+use Rattle.std.proofs.Common.{◌≡◌, ℕ, false, List, [], ◌∷◌, ◌++◌, Option, None, refl, sym, ◌∙◌, ap, subst, append-nil, arith}
 use Rattle.std.specs.List.{AllByRecursion}
-use Rattle.std.proofs.lemmas.List.{map-append}
 use Rattle.nb_terms.specs.declared.acts.SendTo.{SendTo}
 use Rattle.nb_defs.specs.Records.{Out, sent}
 use Rattle.nb_stack.specs.Client.{Client}
 use Rattle.nb_stack.specs.Sends.{put_on, way_of}
 use Rattle.nb_streams.specs.Flows.{TcpCall, conn_phase}
 use Rattle.nb_streams.specs.Sending.{Outgoing, MaySend, without_try, closing_segment, tried_again}
-use Rattle.nb_streams.specs.TalkPromises.{Sends}
+use Rattle.nb_talks.specs.TalkPromises.{Sends}
 use Rattle.nb_streams.proofs.OtherSendLaws.{closing_may}
 use Rattle.nb_tcp.specs.declared.link.Link.{Link}
 use Rattle.nb_tcp.specs.Messages.{outgoing_message}
 use Rattle.nb_tcp.specs.MayBeSent.{MayBeSent}
-use Rattle.nb_machine.specs.Sendings.{has_route, send_records, try_records}
+use Rattle.nb_machine.specs.Sendings.{has_route, send_records}
 use Rattle.nb_machine.specs.Connections.{Connection, segment_records}
 use Rattle.nb_laws.specs.Agreement.{AreAside}
-use Rattle.nb_laws.specs.Events.{Event, puts}
+use Rattle.nb_laws.specs.Events.{Event}
 use Rattle.nb_laws.specs.Frames.{IsSent, as_come, IsMessageTried, IsDue}
 use Rattle.nb_laws.specs.Histories.{client}
 use Rattle.nb_laws.specs.Lists.{hardware, Opening, openings, open_has_ended}
 use Rattle.nb_laws.specs.Progress.{IsAdvanced}
 use Rattle.nb_laws.specs.Webs.{connection_link, brought_to, talk_by, closing_message}
-use Rattle.nb_laws.proofs.Asides.{aside_try, aside_send}
 use Rattle.nb_laws.proofs.Tellings.{told, kept, still_advanced}
 use Rattle.nb_openlaws.specs.OpenEndings.{WhyClosed, by_close}
 use Rattle.nb_openlaws.specs.OpenReasons.{OpenReasons}
-use Rattle.nb_openlaws.proofs.Takings.{due_told}
-use Rattle.nb_openlaws.proofs.OpenRecords.{of_send}
 use Rattle.nb_openlaws.proofs.UsedEvents.{live_one}
-use Rattle.nb_openlaws.proofs.NetworkDevices.{client_some, some_of}
-use Rattle.nb_openlaws.proofs.Sendings.{no_reasons, reasons_then, client_try, frame_reasons, either_reasons}
+use Rattle.nb_openlaws.proofs.Sendings.{either_reasons}
 use Rattle.nb_openlaws.proofs.WebPuts.{TriedSo}
+use Rattle.nb_openlaws.proofs.SegmentReasons.{one_with_reasons, all_with_reasons}
 
 -- what the history says of it, after these calls of its connection
 pub record WebAt (es : List Event) (o : Opening) (link : Client) (c : Connection) (all : List TcpCall) : Type 0 where
@@ -82,31 +78,13 @@ segment_sent es o link c all s w may =
 pub segment_reasons : (es : List Event) (o : Opening) (link : Client) (c : Connection) (all : List TcpCall) (s : Outgoing) (try : Option ℕ) → IsAdvanced es → IsDue c.number es → WebAt es o link c all → MaySend c.link.isn all s →
     TriedSo c.link.isn (conn_phase c.link.isn all) (s, try) → OpenReasons es (send_records link c.number try (outgoing_message c.link s))
 segment_reasons es o link c all s try a d w may again =
-    let k = c.number in
-    let send : SendTo = outgoing_message c.link s in
-    let one = segment_sent (es ++ told (try_records k try)) o link c all s (web_on es (try_records k try) o link c all (aside_try k try) (client_try es k try) w) may in
-    either_reasons es (has_route link send) (try_records k try ++ (sent (put_on link send (way_of link send)) ∷ []))
-    (frame_reasons es k try (put_on link send (way_of link send)) one.0 (λ n tries. one.1 (again n tries)) d a) a
+    one_with_reasons link c (λ es all. WebAt es o link c all) (λ es quiet all aside same w. web_on es quiet o link c all aside same w) (λ es all s w may. segment_sent es o link c all s w may) es all s try a d w may again
 
-client_send : (es : List Event) (link : Client) (k : ℕ) (try : Option ℕ) (send : SendTo) → client (es ++ told (send_records link k try send)) ≡ client es
-client_send es link k try send = client_some es (send_records link k try send) (some_of k (send_records link k try send) (of_send link k try send))
-
--- all of them: the reasons, and what the history says after them
+-- all of them
 pub segments_reasons : (es : List Event) (o : Opening) (link : Client) (c : Connection) (all : List TcpCall) (sends : Sends) → IsAdvanced es → IsDue c.number es → WebAt es o link c all → AllByRecursion (λ s. MaySend c.link.isn all s.0) sends →
     AllByRecursion (TriedSo c.link.isn (conn_phase c.link.isn all)) sends → OpenReasons es (segment_records c link sends)
-segments_reasons es o link c all [] a d w may again = no_reasons es a
-segments_reasons es o link c all (s ∷ sends) a d w may again =
-    let outs = send_records link c.number s.1 (outgoing_message c.link s.0) in
-    let first = segment_reasons es o link c all s.0 s.1 a d w may.0 again.0 in
-    reasons_then es outs (segment_records c link sends) first
-    (segments_reasons (es ++ told outs) o link c all sends first.after (due_told c.number es outs d) (web_on es outs o link c all (aside_send link c.number s.1 (outgoing_message c.link s.0)) (client_send es link c.number s.1 (outgoing_message c.link s.0)) w) may.1 again.1)
-
-pub client_segments : (es : List Event) (c : Connection) (link : Client) (sends : Sends) → client (es ++ told (segment_records c link sends)) ≡ client es
-client_segments es c link [] = ap (λ z. client z) (append-nil es)
-client_segments es c link (s ∷ sends) =
-    let outs = send_records link c.number s.1 (outgoing_message c.link s.0) in
-    ap (λ z. client z) (ap (λ z. es ++ z) (map-append puts outs (segment_records c link sends)) ∙ sym (append_assoc es (told outs) (told (segment_records c link sends))))
-    ∙ client_segments (es ++ told outs) c link sends ∙ client_send es link c.number s.1 (outgoing_message c.link s.0)
+segments_reasons es o link c all sends a d w may again =
+    all_with_reasons link c (λ es all. WebAt es o link c all) (λ es quiet all aside same w. web_on es quiet o link c all aside same w) (λ es all s w may. segment_sent es o link c all s w may) es all sends a d w may again
 
 -- WHAT CLOSES IT
 

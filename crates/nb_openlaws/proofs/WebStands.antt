@@ -12,8 +12,8 @@ use Rattle.nb_streams.specs.Flows.{TcpCall, segment_came, time_came, text_came, 
 use Rattle.nb_streams.specs.Sending.{calls_for}
 use Rattle.nb_streams.specs.Trying.{timer_after, fired, due_tries, due_fired, comes_in, tries_at, mark_tries}
 use Rattle.nb_streams.specs.Endings.{segment_end}
-use Rattle.nb_streams.specs.Talking.{Came, by_segment, by_time}
-use Rattle.nb_streams.specs.TalkPromises.{Sends, Put, closes_by, due_sends, earlier}
+use Rattle.nb_talks.specs.Talking.{Came, by_segment, by_time}
+use Rattle.nb_talks.specs.TalkPromises.{Sends, Put, closes_by, due_sends, earlier}
 use Rattle.nb_readings.specs.Ends.{verdict_end, is_decided, is_whole}
 use Rattle.nb_readings.specs.Readings.{response_read}
 use Rattle.nb_readings.proofs.ReadingLemmas.{no_block_read}
@@ -108,10 +108,10 @@ pub record WebGoes (isn start k : ℕ) (request : List ℕ) (xs : List Exchange)
   pub undecided : is_decided (response_come isn (calls_after request start (streamed xs))).verdict ≡ false
   pub tries : TriesStand isn start (calls_after request start (streamed xs)) (comes_in (text_came request start) ∷ tries_at 1 start ∷ streamed_marks k xs)
 
-streamed_more : (xs : List Exchange) (x : Exchange) → streamed (xs ++ x ∷ []) ≡ streamed xs ++ came_on x.came
+pub streamed_more : (xs : List Exchange) (x : Exchange) → streamed (xs ++ x ∷ []) ≡ streamed xs ++ came_on x.came
 streamed_more xs x = flat_map-append (λ (y : Exchange). came_on y.came) xs (x ∷ []) ∙ ap (λ z. streamed xs ++ z) (append-nil (came_on x.came))
 
-marks_more : (k : ℕ) (xs : List Exchange) (x : Exchange) → streamed_marks k (xs ++ x ∷ []) ≡ streamed_marks k xs ++ exchange_try_marks k x
+pub marks_more : (k : ℕ) (xs : List Exchange) (x : Exchange) → streamed_marks k (xs ++ x ∷ []) ≡ streamed_marks k xs ++ exchange_try_marks k x
 marks_more k xs x = flat_map-append (exchange_try_marks k) xs (x ∷ []) ∙ ap (λ z. streamed_marks k xs ++ z) (append-nil (exchange_try_marks k x))
 
 -- nothing has come
@@ -135,7 +135,7 @@ begins_well isn start k request = record {
 }
 
 -- a segment that ends nothing
-no_end : (over other : Option Cause) → earlier over other ≡ None → (over ≡ None) × (other ≡ None)
+pub no_end : (over other : Option Cause) → earlier over other ≡ None → (over ≡ None) × (other ≡ None)
 no_end None other e = (refl, e)
 no_end (Some why) other e = absurd (cc)
 

@@ -1,6 +1,7 @@
 -- The tries of a connection that goes on: those that are due, by all that has come.
 use Rattle.std.proofs.Common.{◌≡◌, ℕ, ◌==◌, ◌&&◌, Bool, true, false, cond, not, List, [], ◌∷◌, ◌++◌, Option, Some, None, refl, sym, ◌∙◌, ap, subst, append_assoc, append-nil, map}
 use Rattle.std.specs.List.{flat_map, fold, list_any}
+use Rattle.std.proofs.lemmas.List.{map-append}
 use Rattle.std.proofs.lemmas.List.Concat.{flat_map-append}
 use Rattle.nb_terms.specs.declared.cause.Cause.{Cause}
 use Rattle.nb_retry.specs.declared.plan.Plan.TheVariants.{Common, Probe}
@@ -11,8 +12,8 @@ use Rattle.nb_streams.specs.Flows.{TcpCall, segment_came, time_came, text_came, 
 use Rattle.nb_streams.specs.Sending.{Outgoing, without_try, with_first_try, only_if, pure_ack, text_segment, rst_for, brings_more, ongoing_sends, too_long_sends, taken_sends, is_answered, established_sends, calls_for, text_calls_for}
 use Rattle.nb_streams.specs.Trying.{TryTimer, timer_since, segment_timer, text_timer, timer_by, timer_from, timer_after, starting_try, try_of, fired, due_tries, due_fired, TryMark, comes_in, tries_at, mark_tries}
 use Rattle.nb_streams.specs.Endings.{segment_end, taken_end, end_cause}
-use Rattle.nb_streams.specs.Talking.{text_to_send}
-use Rattle.nb_streams.specs.TalkPromises.{Sends, said_sends, due_sends, earlier}
+use Rattle.nb_talks.specs.Talking.{text_to_send, text_calls}
+use Rattle.nb_talks.specs.TalkPromises.{Sends, said_sends, texts_sent, due_sends, earlier}
 use Rattle.nb_streams.proofs.StreamLaws.{either}
 
 -- the tries that segments tell
@@ -97,9 +98,19 @@ pub record TriesStand (isn start : ℕ) (calls : List TcpCall) (marks : List Try
 all_marks : (marks earlier rest more : List TryMark) → marks ≡ earlier ++ rest → marks ++ more ≡ earlier ++ (rest ++ more)
 all_marks marks earlier rest more e = ap (λ z. z ++ more) e ∙ append_assoc earlier rest more
 
-pub segment_tries : (isn start : ℕ) (calls : List TcpCall) (marks : List TryMark) (m : Arrival) (now : ℕ) → segment_end isn (conn_phase isn calls) m ≡ None → TriesStand isn start calls marks →
-    TriesStand isn start (calls ++ segment_came m now ∷ []) (marks ++ comes_in (segment_came m now) ∷ sends_marks now (calls_for isn (conn_phase isn calls) m.segment))
-segment_tries isn start calls marks m now none t = by (segment_timed isn (conn_phase isn calls) m now (timer_after isn start calls) none)
+-- The same, by what came and what it put: the marks since the timer was started begin among the first or among the others.
+data TriesStandIn (isn start : ℕ) (calls : List TcpCall) (came put : List TryMark) : Type 0 where
+  from_came : (before rest : List TryMark) → came ≡ before ++ rest → flat_map mark_tries rest ++ flat_map mark_tries put ≡ due_tries (timer_after isn start calls) → TriesStandIn isn start calls came put
+  from_put : (before rest : List TryMark) → put ≡ before ++ rest → flat_map mark_tries rest ≡ due_tries (timer_after isn start calls) → TriesStandIn isn start calls came put
+
+they_stand : (isn start : ℕ) (calls : List TcpCall) (came put : List TryMark) → TriesStandIn isn start calls came put → TriesStand isn start calls (came ++ put)
+they_stand isn start calls came put (from_came before rest all tried) = record { earlier = before; rest = rest ++ put; all = all_marks came before rest put all; tried = flat_map-append mark_tries rest put ∙ tried }
+they_stand isn start calls came put (from_put before rest all tried) = record { earlier = came ++ before; rest = rest; all = ap (λ z. came ++ z) all ∙ sym (append_assoc came before rest); tried = tried }
+
+-- a segment
+segment_in : (isn start : ℕ) (calls : List TcpCall) (marks : List TryMark) (m : Arrival) (now : ℕ) → segment_end isn (conn_phase isn calls) m ≡ None → TriesStand isn start calls marks →
+    TriesStandIn isn start (calls ++ segment_came m now ∷ []) (marks ++ comes_in (segment_came m now) ∷ []) (sends_marks now (calls_for isn (conn_phase isn calls) m.segment))
+segment_in isn start calls marks m now none t = by (segment_timed isn (conn_phase isn calls) m now (timer_after isn start calls) none)
   where
     came : TryMark
     came = comes_in (segment_came m now)
@@ -110,25 +121,21 @@ segment_tries isn start calls marks m now none t = by (segment_timed isn (conn_p
     timer : timer_after isn start (calls ++ segment_came m now ∷ []) ≡ segment_timer isn (conn_phase isn calls) m.segment now (timer_after isn start calls)
     timer = timer_more isn start calls (segment_came m now)
 
-    by : Timed isn (conn_phase isn calls) m now (timer_after isn start calls) → TriesStand isn start (calls ++ segment_came m now ∷ []) (marks ++ came ∷ put)
-    by (tries_anew anew told) = record {
-      earlier = marks ++ came ∷ [];
-      rest = tries_at 1 now ∷ [];
-      all = ap (λ z. marks ++ came ∷ z) told ∙ sym (append_assoc marks (came ∷ []) (tries_at 1 now ∷ []));
-      tried = sym (ap due_tries (timer ∙ anew));
-    }
-    by (rests anew told) = record {
-      earlier = marks ++ came ∷ [];
-      rest = [];
-      all = ap (λ z. marks ++ came ∷ z) told ∙ sym (append-nil (marks ++ came ∷ []));
-      tried = sym (ap due_tries (timer ∙ anew));
-    }
-    by (stays same told) = record {
-      earlier = t.earlier;
-      rest = t.rest ++ came ∷ [];
-      all = ap (λ z. marks ++ came ∷ z) told ∙ all_marks marks t.earlier t.rest (came ∷ []) t.all;
-      tried = flat_map-append mark_tries t.rest (came ∷ []) ∙ append-nil (flat_map mark_tries t.rest) ∙ t.tried ∙ sym (ap due_tries (timer ∙ same));
-    }
+    by : Timed isn (conn_phase isn calls) m now (timer_after isn start calls) → TriesStandIn isn start (calls ++ segment_came m now ∷ []) (marks ++ came ∷ []) put
+    by (tries_anew anew told) = from_came (marks ++ came ∷ []) [] (sym (append-nil (marks ++ came ∷ []))) (ap (flat_map mark_tries) told ∙ sym (ap due_tries (timer ∙ anew)))
+    by (rests anew told) = from_came (marks ++ came ∷ []) [] (sym (append-nil (marks ++ came ∷ []))) (ap (flat_map mark_tries) told ∙ sym (ap due_tries (timer ∙ anew)))
+    by (stays same told) =
+        from_came t.earlier (t.rest ++ came ∷ []) (all_marks marks t.earlier t.rest (came ∷ []) t.all)
+        (ap (λ z. flat_map mark_tries (t.rest ++ came ∷ []) ++ flat_map mark_tries z) told ∙ append-nil (flat_map mark_tries (t.rest ++ came ∷ []))
+        ∙ flat_map-append mark_tries t.rest (came ∷ []) ∙ append-nil (flat_map mark_tries t.rest) ∙ t.tried ∙ sym (ap due_tries (timer ∙ same)))
+
+pub segment_tries : (isn start : ℕ) (calls : List TcpCall) (marks : List TryMark) (m : Arrival) (now : ℕ) → segment_end isn (conn_phase isn calls) m ≡ None → TriesStand isn start calls marks →
+    TriesStand isn start (calls ++ segment_came m now ∷ []) (marks ++ comes_in (segment_came m now) ∷ sends_marks now (calls_for isn (conn_phase isn calls) m.segment))
+segment_tries isn start calls marks m now none t =
+    let came = marks ++ comes_in (segment_came m now) ∷ [] in
+    let put = sends_marks now (calls_for isn (conn_phase isn calls) m.segment) in
+    subst (TriesStand isn start (calls ++ segment_came m now ∷ [])) (append_assoc marks (comes_in (segment_came m now) ∷ []) put)
+    (they_stand isn start (calls ++ segment_came m now ∷ []) came put (segment_in isn start calls marks m now none t))
 
 abbrev due_mark : ℕ → Due → List TryMark
 due_mark now Not = []
@@ -178,64 +185,62 @@ text_timed (flowing f) bytes now w = either (is_sending false (record f { text =
     (λ go. begins (rw go refl) (rw go refl))
     (λ no. waits (rw no refl) (rw no refl))
 
--- a segment, and what is said then
-pub said_tries : (isn start : ℕ) (calls : List TcpCall) (marks : List TryMark) (m : Arrival) (now : ℕ) (text : List ℕ) → segment_end isn (conn_phase isn calls) m ≡ None → TriesStand isn start calls marks →
-    TriesStand isn start ((calls ++ segment_came m now ∷ []) ++ text_to_send text now)
-    (marks ++ (comes_in (segment_came m now) ∷ map comes_in (text_to_send text now) ++ sends_marks now (calls_for isn (conn_phase isn calls) m.segment ++ said_sends (conn_phase isn (calls ++ segment_came m now ∷ [])) text)))
-said_tries isn start calls marks m now [] none t =
-    let then : List TcpCall = calls ++ segment_came m now ∷ [] in
-    let sends : Sends = calls_for isn (conn_phase isn calls) m.segment in
-    subst (λ cs. TriesStand isn start cs (marks ++ comes_in (segment_came m now) ∷ sends_marks now (sends ++ []))) (sym (append-nil then))
-    (subst (λ z. TriesStand isn start then (marks ++ comes_in (segment_came m now) ∷ sends_marks now z)) (sym (append-nil sends)) (segment_tries isn start calls marks m now none t))
-said_tries isn start calls marks m now (b ∷ bytes) none t = by (segment_timed isn (conn_phase isn calls) m now (timer_after isn start calls) none) (text_timed (conn_phase isn then) (b ∷ bytes) now (timer_after isn start then))
+-- the same with calls, marks and tries that are equal
+same_in : (isn start : ℕ) (calls cs : List TcpCall) (came cm put pm : List TryMark) → calls ≡ cs → came ≡ cm → put ≡ pm → TriesStandIn isn start calls came put → TriesStandIn isn start cs cm pm
+same_in isn start calls cs came cm put pm a b c t = subst (λ z. TriesStandIn isn start z cm pm) a (subst (λ z. TriesStandIn isn start calls z pm) b (subst (λ z. TriesStandIn isn start calls came z) c t))
+
+-- a text that is said then
+text_in : (isn start : ℕ) (calls : List TcpCall) (came put : List TryMark) (text : List ℕ) (now : ℕ) → TriesStandIn isn start calls came put →
+    TriesStandIn isn start (calls ++ text_to_send text now) (came ++ map comes_in (text_to_send text now)) (put ++ sends_marks now (said_sends (conn_phase isn calls) text))
+text_in isn start calls came put [] now t = same_in isn start calls (calls ++ []) came (came ++ []) put (put ++ []) (sym (append-nil calls)) (sym (append-nil came)) (sym (append-nil put)) t
+text_in isn start calls came put (b ∷ bytes) now t = by (text_timed (conn_phase isn calls) (b ∷ bytes) now (timer_after isn start calls)) t
   where
-    then : List TcpCall
-    then = calls ++ segment_came m now ∷ []
-
-    came : TryMark
-    came = comes_in (segment_came m now)
-
     spoken : TryMark
     spoken = comes_in (text_came (b ∷ bytes) now)
 
-    first : List TryMark
-    first = sends_marks now (calls_for isn (conn_phase isn calls) m.segment)
+    more : List TryMark
+    more = sends_marks now (text_calls_for (conn_phase isn calls) (b ∷ bytes))
 
-    second : List TryMark
-    second = sends_marks now (text_calls_for (conn_phase isn then) (b ∷ bytes))
+    timer : timer_after isn start (calls ++ text_came (b ∷ bytes) now ∷ []) ≡ text_timer (conn_phase isn calls) (b ∷ bytes) now (timer_after isn start calls)
+    timer = timer_more isn start calls (text_came (b ∷ bytes) now)
 
-    put : sends_marks now (calls_for isn (conn_phase isn calls) m.segment ++ text_calls_for (conn_phase isn then) (b ∷ bytes)) ≡ first ++ second
-    put = marks_of_two now (calls_for isn (conn_phase isn calls) m.segment) (text_calls_for (conn_phase isn then) (b ∷ bytes))
+    none_more : more ≡ [] → put ++ more ≡ put
+    none_more quiet = ap (λ z. put ++ z) quiet ∙ append-nil put
 
-    heard : timer_after isn start then ≡ segment_timer isn (conn_phase isn calls) m.segment now (timer_after isn start calls)
-    heard = timer_more isn start calls (segment_came m now)
+    by : TextTimed (conn_phase isn calls) (b ∷ bytes) now (timer_after isn start calls) → TriesStandIn isn start calls came put → TriesStandIn isn start (calls ++ text_came (b ∷ bytes) now ∷ []) (came ++ spoken ∷ []) (put ++ more)
+    by (begins anew told) s = from_put put (tries_at 1 now ∷ []) (ap (λ z. put ++ z) told) (sym (ap due_tries (timer ∙ anew)))
+    by (waits same quiet) (from_came before rest all tried) =
+        from_came before (rest ++ spoken ∷ []) (all_marks came before rest (spoken ∷ []) all)
+        (ap (λ z. flat_map mark_tries (rest ++ spoken ∷ []) ++ flat_map mark_tries z) (none_more quiet)
+        ∙ ap (λ z. z ++ flat_map mark_tries put) (flat_map-append mark_tries rest (spoken ∷ []) ∙ append-nil (flat_map mark_tries rest)) ∙ tried ∙ sym (ap due_tries (timer ∙ same)))
+    by (waits same quiet) (from_put before rest all tried) = from_put before rest (none_more quiet ∙ all) (tried ∙ sym (ap due_tries (timer ∙ same)))
 
-    timer : timer_after isn start (then ++ text_came (b ∷ bytes) now ∷ []) ≡ text_timer (conn_phase isn then) (b ∷ bytes) now (timer_after isn start then)
-    timer = timer_more isn start then (text_came (b ∷ bytes) now)
+-- so do several, one after another
+texts_in : (isn start : ℕ) (calls : List TcpCall) (came put : List TryMark) (texts : List (List ℕ)) (now : ℕ) → TriesStandIn isn start calls came put →
+    TriesStandIn isn start (calls ++ text_calls texts now) (came ++ map comes_in (text_calls texts now)) (put ++ sends_marks now (texts_sent isn calls texts now))
+texts_in isn start calls came put [] now t = same_in isn start calls (calls ++ []) came (came ++ []) put (put ++ []) (sym (append-nil calls)) (sym (append-nil came)) (sym (append-nil put)) t
+texts_in isn start calls came put (x ∷ xs) now t =
+    let one = text_to_send x now in
+    let rest = text_calls xs now in
+    let said = said_sends (conn_phase isn calls) x in
+    let then = texts_sent isn (calls ++ one) xs now in
+    same_in isn start ((calls ++ one) ++ rest) (calls ++ (one ++ rest)) ((came ++ map comes_in one) ++ map comes_in rest) (came ++ map comes_in (one ++ rest)) ((put ++ sends_marks now said) ++ sends_marks now then) (put ++ sends_marks now (said ++ then))
+    (append_assoc calls one rest)
+    (append_assoc came (map comes_in one) (map comes_in rest) ∙ ap (λ z. came ++ z) (sym (map-append comes_in one rest)))
+    (append_assoc put (sends_marks now said) (sends_marks now then) ∙ ap (λ z. put ++ z) (sym (marks_of_two now said then)))
+    (texts_in isn start (calls ++ one) (came ++ map comes_in one) (put ++ sends_marks now said) xs now (text_in isn start calls came put x now t))
 
-    by : Timed isn (conn_phase isn calls) m now (timer_after isn start calls) → TextTimed (conn_phase isn then) (b ∷ bytes) now (timer_after isn start then) →
-        TriesStand isn start (then ++ text_came (b ∷ bytes) now ∷ []) (marks ++ came ∷ spoken ∷ sends_marks now (calls_for isn (conn_phase isn calls) m.segment ++ text_calls_for (conn_phase isn then) (b ∷ bytes)))
-    by seg (begins anew told) = record {
-      earlier = marks ++ came ∷ spoken ∷ first;
-      rest = tries_at 1 now ∷ [];
-      all = ap (λ z. marks ++ came ∷ spoken ∷ z) (put ∙ ap (λ z. first ++ z) told) ∙ sym (append_assoc marks (came ∷ spoken ∷ first) (tries_at 1 now ∷ []));
-      tried = sym (ap due_tries (timer ∙ anew));
-    }
-    by (tries_anew anew told) (waits same quiet) = record {
-      earlier = marks ++ came ∷ spoken ∷ [];
-      rest = tries_at 1 now ∷ [];
-      all = ap (λ z. marks ++ came ∷ spoken ∷ z) (put ∙ ap (λ z. z ++ second) told ∙ ap (λ z. tries_at 1 now ∷ z) quiet) ∙ sym (append_assoc marks (came ∷ spoken ∷ []) (tries_at 1 now ∷ []));
-      tried = sym (ap due_tries (timer ∙ same ∙ heard ∙ anew));
-    }
-    by (rests anew told) (waits same quiet) = record {
-      earlier = marks ++ came ∷ spoken ∷ [];
-      rest = [];
-      all = ap (λ z. marks ++ came ∷ spoken ∷ z) (put ∙ ap (λ z. z ++ second) told ∙ quiet) ∙ sym (append-nil (marks ++ came ∷ spoken ∷ []));
-      tried = sym (ap due_tries (timer ∙ same ∙ heard ∙ anew));
-    }
-    by (stays stay told) (waits same quiet) = record {
-      earlier = t.earlier;
-      rest = t.rest ++ came ∷ spoken ∷ [];
-      all = ap (λ z. marks ++ came ∷ spoken ∷ z) (put ∙ ap (λ z. z ++ second) told ∙ quiet) ∙ all_marks marks t.earlier t.rest (came ∷ spoken ∷ []) t.all;
-      tried = flat_map-append mark_tries t.rest (came ∷ spoken ∷ []) ∙ append-nil (flat_map mark_tries t.rest) ∙ t.tried ∙ sym (ap due_tries (timer ∙ same ∙ heard ∙ stay));
-    }
+-- a segment, and what is said then
+pub texts_tries : (isn start : ℕ) (calls : List TcpCall) (marks : List TryMark) (m : Arrival) (now : ℕ) (texts : List (List ℕ)) → segment_end isn (conn_phase isn calls) m ≡ None → TriesStand isn start calls marks →
+    TriesStand isn start ((calls ++ segment_came m now ∷ []) ++ text_calls texts now)
+    (marks ++ (comes_in (segment_came m now) ∷ map comes_in (text_calls texts now) ++ sends_marks now (calls_for isn (conn_phase isn calls) m.segment ++ texts_sent isn (calls ++ segment_came m now ∷ []) texts now)))
+texts_tries isn start calls marks m now texts none t =
+    let then = calls ++ segment_came m now ∷ [] in
+    let came = marks ++ comes_in (segment_came m now) ∷ [] in
+    let words = map comes_in (text_calls texts now) in
+    let called = calls_for isn (conn_phase isn calls) m.segment in
+    let said = texts_sent isn then texts now in
+    subst (TriesStand isn start (then ++ text_calls texts now))
+    (ap (λ z. (came ++ words) ++ z) (sym (marks_of_two now called said)) ∙ append_assoc came words (sends_marks now (called ++ said))
+    ∙ append_assoc marks (comes_in (segment_came m now) ∷ []) (words ++ sends_marks now (called ++ said)))
+    (they_stand isn start (then ++ text_calls texts now) (came ++ words) (sends_marks now called ++ sends_marks now said) (texts_in isn start then came (sends_marks now called) texts now (segment_in isn start calls marks m now none t)))

@@ -5,7 +5,7 @@ use Rattle.std.specs.List.{flat_map, list_any, AllByRecursion}
 use Rattle.nb_defs.specs.Records.{Out, step, sent, text, command, result, script, opened, tried, advanced, ended, graph, part, done}
 use Rattle.nb_tftp.specs.Received.{received}
 use Rattle.nb_tftp.specs.History.{Call, came, ticked}
-use Rattle.nb_streams.specs.Talking.{Came}
+use Rattle.nb_talks.specs.Talking.{Came}
 use Rattle.nb_streams.specs.Trying.{TryMark, comes_in, tries_at}
 use Rattle.nb_webs.specs.Webs.{NoTask, call_of}
 use Rattle.nb_machine.specs.Connections.{came_on}
@@ -13,6 +13,7 @@ use Rattle.nb_machine.specs.Findings.{first_word, query_id}
 use Rattle.nb_laws.specs.Agreement.{AreStill}
 use Rattle.nb_laws.specs.Silence.{AreSilent}
 use Rattle.nb_laws.specs.Cores.{asker_by}
+use Rattle.nb_laws.specs.Drives.{sessions}
 use Rattle.nb_laws.specs.Events.{Event}
 use Rattle.nb_laws.specs.Histories.{client}
 use Rattle.nb_laws.specs.Webs.{brought_to, told_try_mark, try_marks_of}
@@ -95,21 +96,33 @@ abbrev pub streamed_marks : ℕ → List Exchange → List TryMark
 streamed_marks k xs = flat_map (exchange_try_marks k) xs
 
 -- An open of a kind, as its OPEN tells it: a connection's SYN has its number, a look-up's query its number, and a lease its asker, by
--- START's key; a name server is asked at its port 53, a lease of all hosts, from port 68 to port 67, and a ping has no port. No command opens a
--- drive yet.
+-- START's key; a name server is asked at its port 53, a lease of all hosts, from port 68 to port 67, and a ping has no port.
 abbrev pub IsKindBy : Hardware → ℕ → OpenKind → Opening → Type 0
 IsKindBy h k tftp o = Unit {0}
 IsKindBy h k (http isn) o = isn ≡ first_word h.identity k
-IsKindBy h k (iscsi isn i) o = ⊥
+IsKindBy h k (iscsi isn i) o = isn ≡ first_word h.identity k
 IsKindBy h k (dns id) o = (id ≡ query_id h.identity k) × (o.port ≡ 53)
 IsKindBy h k (dhcp a) o = (a ≡ asker_by h k) × (o.server ≡ 4294967295) × (o.port ≡ 67) × (o.own ≡ 68) × (o.target ≡ [])
 IsKindBy h k ping o = (o.port ≡ 0) × (o.target ≡ [])
 
--- a message for a ping has its identifier
+-- what the login of a drive's session was begun with is the history's
+abbrev pub HasLogin : ℕ → List Event → OpenKind → Opening → Type 0
+HasLogin k es tftp o = Unit {0}
+HasLogin k es (http isn) o = Unit {0}
+HasLogin k es (iscsi isn i) o = sessions k es ≡ record { opening = o; login = i } ∷ []
+HasLogin k es (dns id) o = Unit {0}
+HasLogin k es (dhcp a) o = Unit {0}
+HasLogin k es ping o = Unit {0}
+
+-- a message for a ping has its identifier, and no command asks a task of a drive yet
 abbrev pub ComesToOwnPort : OpenKind → (own : ℕ) → OpenInput → Type 0
 ComesToOwnPort tftp own input = Unit {0}
 ComesToOwnPort (http isn) own input = Unit {0}
-ComesToOwnPort (iscsi isn i) own input = Unit {0}
+ComesToOwnPort (iscsi isn i) own (message rec port body now) = Unit {0}
+ComesToOwnPort (iscsi isn i) own (tcp_segment rec g now) = Unit {0}
+ComesToOwnPort (iscsi isn i) own (time now) = Unit {0}
+ComesToOwnPort (iscsi isn i) own (task t now) = ⊥
+ComesToOwnPort (iscsi isn i) own (close cause) = Unit {0}
 ComesToOwnPort (dns id) own input = Unit {0}
 ComesToOwnPort (dhcp a) own input = Unit {0}
 ComesToOwnPort ping own (message rec port body now) = port ≡ own
@@ -127,6 +140,7 @@ pub record AgreesLive (es : List Event) (l : Live) : Type 0 where
   pub made_so : l.number < made es
   pub on_net0 : l.device ≡ net0
   pub kind_is : IsKindBy (hardware es) l.number l.kind (live_opening l)
+  pub login : HasLogin l.number es l.kind (live_opening l)
   pub opening : openings l.number es ≡ live_opening l ∷ []
   pub lives : open_has_ended l.number es ≡ false
   pub received : calls l.number es ≡ heard_calls l.kind l.exchanges
