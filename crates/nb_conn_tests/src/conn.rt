@@ -10,6 +10,7 @@ use nb_graph::{Graph, Msg, Node, ObjId, Outside, Port};
 use nb_tcpseg::{ACK, FIN, PSH, RST, SYN, Segment};
 use nb_terms::{Cause, Event};
 use nb_wire::{Ip4, Out};
+use std::process::Abort;
 use std::test::Fail;
 
 const PEER: Ip4 = Ip4(0x0a00_0001);
@@ -73,24 +74,36 @@ fn segment(rt: &HostRuntime, seq: u32, ack: u32, flags: u8, body: &[u8]) -> Resu
     Ok(Vec::from_slice(rt.alloc(), out.written())?)
 }
 
+/// A graph at work, and what it puts out.
+#[derive(Drop)]
+struct Play {
+    graph: Graph<Knot>,
+    tape: Tape,
+}
+
 /// A user above a connection that was asked for.
-fn opened(
-    rt: &HostRuntime,
-    tape: &mut Tape,
-    most: u8,
-    waits_for: usize,
-) -> Result<Graph<Knot>, Fail> {
-    let mut graph = Graph::new(rt.alloc(), 2)?;
+fn opened(rt: &HostRuntime, most: u8, waits_for: usize) -> Result<Play, Fail> {
+    let mut play = Play {
+        graph: Graph::new(rt.alloc(), 2)?,
+        tape: blank(rt),
+    };
     let user = Taker {
         most,
         waits_for,
         bytes: Vec::new(rt.alloc()),
         messages: 0,
     };
+    begin(rt, &mut play, user)?;
+    Ok(play)
+}
+
+/// A user and a connection below it are made, and the user asks for it.
+fn begin(rt: &HostRuntime, play: &mut Play, user: Taker) -> Result<(), Fail> {
+    let Play { graph, tape } = play;
     graph.make(Knot::Taker(user), tape).ok().ok_or("full")?;
     let conn = Knot::tcp(rt.alloc())?;
     graph.make(conn, tape).ok().ok_or("full")?;
-    join(&mut graph, tape)?;
+    join(graph, tape)?;
     let ask = ConnAsk {
         peer: PEER,
         peer_port: 80,
@@ -101,7 +114,7 @@ fn opened(
     let bytes = ask.bytes();
     let begin = message(1, 0, &bytes);
     let _ = graph.down(Port { obj: USER, slot: 0 }, &begin, 0, tape);
-    Ok(graph)
+    Ok(())
 }
 
 /// A message from above, or one of the peer's.
@@ -135,27 +148,34 @@ fn join(graph: &mut Graph<Knot>, tape: &mut Tape) -> Result<(), Fail> {
     Ok(())
 }
 
+/// What a segment is of: its place in the peer's stream, its flags and its bytes.
+type Row<'a> = (u32, u8, &'a [u8]);
+
+/// The peer's SYN.
+const SYNS: Row<'static> = (0, SYN + ACK, b"");
+
 /// A segment comes to the connection from the peer.
-fn give(
-    rt: &HostRuntime,
-    graph: &mut Graph<Knot>,
-    tape: &mut Tape,
-    place: u32,
-    flags: u8,
-    body: &[u8],
-) -> Result<(), Fail> {
+fn give(rt: &HostRuntime, play: &mut Play, row: Row<'_>) -> Result<(), Fail> {
+    let (place, flags, body) = row;
     let seq = if flags & SYN == SYN {
         IRS
     } else {
         (IRS + 1).wrapping_add(place)
     };
     let bytes = segment(rt, seq, ISN + 1, flags, body)?;
-    let _ = graph.up(
+    let _ = play.graph.up(
         Port { obj: CONN, slot: 1 },
         &message(2, 7, bytes.as_slice()),
         0,
-        tape,
+        &mut play.tape,
     );
+    Ok(())
+}
+
+fn give_all(rt: &HostRuntime, play: &mut Play, rows: &[Row<'_>]) -> Result<(), Fail> {
+    for row in rows {
+        give(rt, play, *row)?;
+    }
     Ok(())
 }
 
@@ -175,67 +195,72 @@ fn taken(graph: &Graph<Knot>) -> (&[u8], u32) {
     }
 }
 
-/// What the peer sends, what the user takes of it a byte at a time, in how many messages, and the flags of the segments
-/// that answer.
+/// What the peer sends after its SYN, what the user takes of it a byte at a time, in how many messages, and the flags of
+/// the segments that answer.
+const IN_ORDER: [(&[Row<'static>], &[u8], u32, &[u8]); 4] = [
+    (&[SYNS, (0, ACK + PSH, b"abc")], b"abc", 3, &[SYN, ACK, ACK]),
+    (
+        &[SYNS, (3, ACK, b"def"), (0, ACK, b"abc")],
+        b"abcdef",
+        6,
+        &[SYN, ACK, ACK, ACK],
+    ),
+    (&[SYNS, (0, ACK + FIN, b"ab")], b"ab", 3, &[SYN, ACK, ACK]),
+    (
+        &[SYNS, (2, ACK + FIN, b""), (0, ACK, b"ab")],
+        b"ab",
+        3,
+        &[SYN, ACK, ACK, ACK],
+    ),
+];
+
+/// The user has taken these bytes in so many messages, these flags were sent, and it goes on.
+fn has_taken(rt: &impl Abort, play: &Play, bytes: &[u8], messages: u32, flags: &[u8]) {
+    assert_eq!(rt; taken(&play.graph), (bytes, messages));
+    assert_eq!(rt; play.tape.flags.as_slice(), flags, "after {bytes:?}");
+    assert!(rt; play.tape.closed.is_empty(), "it goes on");
+}
+
 #[test]
 fn goes_up_in_order(rt: HostRuntime) -> Result<(), Fail> {
-    let rows: [(&[(u32, u8, &[u8])], &[u8], u32, &[u8]); 4] = [
-        (&[(0, ACK + PSH, b"abc")], b"abc", 3, &[SYN, ACK, ACK]),
-        (
-            &[(3, ACK, b"def"), (0, ACK, b"abc")],
-            b"abcdef",
-            6,
-            &[SYN, ACK, ACK, ACK],
-        ),
-        (&[(0, ACK + FIN, b"ab")], b"ab", 3, &[SYN, ACK, ACK]),
-        (
-            &[(2, ACK + FIN, b""), (0, ACK, b"ab")],
-            b"ab",
-            3,
-            &[SYN, ACK, ACK, ACK],
-        ),
-    ];
-    for (segments, bytes, messages, flags) in rows {
-        let mut tape = blank(&rt);
-        let mut graph = opened(&rt, &mut tape, 1, 100)?;
-        give(&rt, &mut graph, &mut tape, 0, SYN + ACK, b"")?;
-        for (place, kind, body) in segments {
-            give(&rt, &mut graph, &mut tape, *place, *kind, body)?;
-        }
-        assert_eq!(rt; taken(&graph), (bytes, messages));
-        assert_eq!(rt; tape.flags.as_slice(), flags);
-        assert!(rt; tape.closed.is_empty(), "it goes on");
+    for (segments, bytes, messages, flags) in IN_ORDER {
+        let mut play = opened(&rt, 1, 100)?;
+        give_all(&rt, &mut play, segments)?;
+        has_taken(&rt, &play, bytes, messages, flags);
     }
     Ok(())
 }
 
+/// What ends it after the peer's SYN, the ports that are closed with their codes, and the flags of the segments that answer.
 /// A reset closes both ports, the one above first; a user that has enough closes the connection in the middle of a
 /// delivery, while the window is lent: by a reset, or by a FIN where the peer's has come.
+const ENDS: [(Row<'static>, &[(u64, u8)], &[u8]); 3] = [
+    ((0, RST, b""), &[(2, 1), (1, 1), (2, 1)], &[SYN, ACK]),
+    (
+        (0, ACK, b"abc"),
+        &[(1, 0), (2, 0), (2, 0)],
+        &[SYN, ACK, ACK, RST + ACK],
+    ),
+    (
+        (0, ACK + FIN, b"abc"),
+        &[(1, 0), (2, 0), (2, 0)],
+        &[SYN, ACK, ACK, FIN + ACK],
+    ),
+];
+
+/// These ports were closed, these flags were sent, and the user has so many bytes.
+fn has_ended(rt: &impl Abort, play: &Play, closed: &[(u64, u8)], flags: &[u8], len: usize) {
+    assert_eq!(rt; play.tape.closed.as_slice(), closed);
+    assert_eq!(rt; play.tape.flags.as_slice(), flags, "after {closed:?}");
+    assert_eq!(rt; taken(&play.graph).0.len(), len, "after {closed:?}");
+}
+
 #[test]
 fn ends(rt: HostRuntime) -> Result<(), Fail> {
-    let rows: [(u8, &[u8], &[(u64, u8)], &[u8]); 3] = [
-        (RST, b"", &[(2, 1), (1, 1), (2, 1)], &[SYN, ACK]),
-        (
-            ACK,
-            b"abc",
-            &[(1, 0), (2, 0), (2, 0)],
-            &[SYN, ACK, ACK, RST + ACK],
-        ),
-        (
-            ACK + FIN,
-            b"abc",
-            &[(1, 0), (2, 0), (2, 0)],
-            &[SYN, ACK, ACK, FIN + ACK],
-        ),
-    ];
-    for (kind, body, closed, flags) in rows {
-        let mut tape = blank(&rt);
-        let mut graph = opened(&rt, &mut tape, 2, 2)?;
-        give(&rt, &mut graph, &mut tape, 0, SYN + ACK, b"")?;
-        give(&rt, &mut graph, &mut tape, 0, kind, body)?;
-        assert_eq!(rt; tape.closed.as_slice(), closed);
-        assert_eq!(rt; tape.flags.as_slice(), flags);
-        assert_eq!(rt; taken(&graph).0.len(), body.len().min(2));
+    for (row, closed, flags) in ENDS {
+        let mut play = opened(&rt, 2, 2)?;
+        give_all(&rt, &mut play, &[SYNS, row])?;
+        has_ended(&rt, &play, closed, flags, row.2.len().min(2));
     }
     Ok(())
 }
@@ -243,15 +268,12 @@ fn ends(rt: HostRuntime) -> Result<(), Fail> {
 /// Text that waits for the peer's SYN leaves beside its acknowledgement, in one message of two segments.
 #[test]
 fn text_beside_an_acknowledgement(rt: HostRuntime) -> Result<(), Fail> {
-    let mut tape = blank(&rt);
-    let mut graph = opened(&rt, &mut tape, 1, 100)?;
-    let _ = graph.down(
-        Port { obj: USER, slot: 0 },
-        &message(7, 0, b"hello"),
-        0,
-        &mut tape,
-    );
-    give(&rt, &mut graph, &mut tape, 0, SYN + ACK, b"")?;
-    assert_eq!(rt; tape.sent.as_slice(), [(3, 1, 24), (9, 1, 45)].as_slice());
+    let mut play = opened(&rt, 1, 100)?;
+    let text = message(7, 0, b"hello");
+    let user = Port { obj: USER, slot: 0 };
+    let _ = play.graph.down(user, &text, 0, &mut play.tape);
+    give(&rt, &mut play, SYNS)?;
+    let sent = [(3, 1, 24), (9, 1, 45)];
+    assert_eq!(rt; play.tape.sent.as_slice(), sent.as_slice());
     Ok(())
 }

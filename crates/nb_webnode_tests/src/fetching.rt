@@ -9,6 +9,7 @@ use nb_conns::ConnAsk;
 use nb_graph::{Graph, Msg, Node, ObjId, Outside, Port};
 use nb_terms::Event;
 use nb_wire::Ip4;
+use std::process::Abort;
 use std::test::Fail;
 
 const USER: ObjId = ObjId(1);
@@ -81,18 +82,35 @@ fn join(graph: &mut Graph<Bench>, tape: &mut Tape) -> Result<(), Fail> {
     Ok(())
 }
 
+/// A graph at work, and what it puts out.
+#[derive(Drop)]
+struct Play {
+    graph: Graph<Bench>,
+    tape: Tape,
+}
+
 /// A user above a fetch that was asked for. It closes once it has so many bytes.
-fn opened(rt: &HostRuntime, tape: &mut Tape, closes_at: usize) -> Result<Graph<Bench>, Fail> {
-    let mut graph = Graph::new(rt.alloc(), 2)?;
+fn opened(rt: &HostRuntime, closes_at: usize) -> Result<Play, Fail> {
+    let mut play = Play {
+        graph: Graph::new(rt.alloc(), 2)?,
+        tape: blank(rt),
+    };
     let user = Keeper {
         body: Vec::new(rt.alloc()),
         moved: Vec::new(rt.alloc()),
         closes_at,
     };
+    begin(rt, &mut play, user)?;
+    Ok(play)
+}
+
+/// A user and a fetch below it are made, and the user asks for it.
+fn begin(rt: &HostRuntime, play: &mut Play, user: Keeper) -> Result<(), Fail> {
+    let Play { graph, tape } = play;
     graph.make(Bench::Keeper(user), tape).ok().ok_or("full")?;
     let web = Bench::web(rt.alloc())?;
     graph.make(web, tape).ok().ok_or("full")?;
-    join(&mut graph, tape)?;
+    join(graph, tape)?;
     let ask = ConnAsk {
         peer: Ip4(0x0a00_0001),
         peer_port: 8080,
@@ -103,16 +121,17 @@ fn opened(rt: &HostRuntime, tape: &mut Tape, closes_at: usize) -> Result<Graph<B
     let bytes = ask.bytes();
     let begin = message(1, 3, &bytes, b"boot/file");
     let _ = graph.down(Port { obj: USER, slot: 0 }, &begin, 0, tape);
-    Ok(graph)
+    Ok(())
 }
 
 /// Bytes of the stream come, in two parts, or its end.
-fn give(graph: &mut Graph<Bench>, tape: &mut Tape, tag: u8, first: &[u8], second: &[u8]) {
+fn give(play: &mut Play, tag: u8, first: &[u8], second: &[u8]) {
     let at = Port {
         obj: FETCH,
         slot: 1,
     };
-    let _ = graph.up(at, &message(tag, 0, first, second), 0, tape);
+    let message = message(tag, 0, first, second);
+    let _ = play.graph.up(at, &message, 0, &mut play.tape);
 }
 
 /// What the user has kept.
@@ -123,92 +142,99 @@ fn kept(graph: &Graph<Bench>) -> (&[u8], &[u8]) {
     }
 }
 
+/// The user has kept this of a body and of a move.
+fn has_kept(rt: &impl Abort, play: &Play, body: &[u8], moved: &[u8]) {
+    assert_eq!(rt; kept(&play.graph), (body, moved));
+}
+
+/// Both ports were closed with this code, the upper one first.
+fn has_ended(rt: &impl Abort, play: &Play, code: u8) {
+    let ports = [(2, code), (1, code), (2, code)];
+    assert_eq!(rt; play.tape.closed.as_slice(), ports.as_slice());
+}
+
+/// The request for the file, after the 16 bytes that ask for the connection.
+const REQUEST: &[u8] =
+    b"GET t/file HTTP/1.1\r\nHost: boo:8080\r\nUser-Agent: netboot\r\nConnection: close\r\n\r\n";
+
 /// The connection is asked for and given the request, once.
 #[test]
 fn asks_below(rt: HostRuntime) -> Result<(), Fail> {
-    let mut tape = blank(&rt);
-    let mut graph = opened(&rt, &mut tape, 1000)?;
+    let mut play = opened(&rt, 1000)?;
     let again = message(1, 0, b"0123456789abcdef", b"/");
-    let _ = graph.down(Port { obj: USER, slot: 0 }, &again, 0, &mut tape);
-    assert_eq!(rt; tape.tags.as_slice(), [1, 7].as_slice());
-    let request =
-        b"GET t/file HTTP/1.1\r\nHost: boo:8080\r\nUser-Agent: netboot\r\nConnection: close\r\n\r\n";
-    assert_eq!(rt; tape.sent.as_slice().get(16..), Some(request.as_slice()));
-    assert!(rt; tape.closed.is_empty(), "it goes on");
+    let user = Port { obj: USER, slot: 0 };
+    let _ = play.graph.down(user, &again, 0, &mut play.tape);
+    assert_eq!(rt; play.tape.tags.as_slice(), [1, 7].as_slice());
+    assert_eq!(rt; play.tape.sent.as_slice().get(16..), Some(REQUEST));
+    assert!(rt; play.tape.closed.is_empty(), "it goes on");
     Ok(())
 }
 
-/// Streams, what goes up of each, and the code that closes both ports, the upper one first: cut at each place, as two
-/// messages and as one message of two parts.
+/// Streams, what goes up of each, and the code that closes both ports.
+const STREAMS: [(&[u8], &[u8], &[u8], u8); 5] = [
+    (
+        b"HTTP/1.1 200 OK\r\nContent-Length: 5\r\n\r\nhello",
+        b"hello",
+        b"",
+        0,
+    ),
+    (
+        b"HTTP/1.1 100 C\r\n\r\nHTTP/1.1 200 OK\r\nTransfer-Encoding: chunked\r\n\r\n3\r\nhel\r\n2\r\nlo\r\n0\r\n\r\nmore",
+        b"hello",
+        b"",
+        0,
+    ),
+    (
+        b"HTTP/1.1 302 Found\r\nLocation: /b\r\n\r\nmore",
+        b"",
+        b"/b",
+        0,
+    ),
+    (b"HTTP/1.1 404 Not Found\r\n\r\n", b"", b"", 1),
+    (b"HTTP/1.1 200 OK\r\nContent-Length: 0\r\n\r\n", b"", b"", 0),
+];
+
+/// Each stream is cut at each place, as two messages and as one message of two parts.
 #[test]
 fn however_it_is_cut(rt: HostRuntime) -> Result<(), Fail> {
-    let rows: [(&[u8], &[u8], &[u8], u8); 5] = [
-        (
-            b"HTTP/1.1 200 OK\r\nContent-Length: 5\r\n\r\nhello",
-            b"hello",
-            b"",
-            0,
-        ),
-        (
-            b"HTTP/1.1 100 C\r\n\r\nHTTP/1.1 200 OK\r\nTransfer-Encoding: chunked\r\n\r\n3\r\nhel\r\n2\r\nlo\r\n0\r\n\r\nmore",
-            b"hello",
-            b"",
-            0,
-        ),
-        (
-            b"HTTP/1.1 302 Found\r\nLocation: /b\r\n\r\nmore",
-            b"",
-            b"/b",
-            0,
-        ),
-        (b"HTTP/1.1 404 Not Found\r\n\r\n", b"", b"", 1),
-        (b"HTTP/1.1 200 OK\r\nContent-Length: 0\r\n\r\n", b"", b"", 0),
-    ];
-    for (stream, body, moved, code) in rows {
+    for (stream, body, moved, code) in STREAMS {
         for at in 0..stream.len() + 1 {
             let (first, second) = stream.split_at(at.min(stream.len()));
-            let mut tape = blank(&rt);
-            let mut graph = opened(&rt, &mut tape, 1000)?;
-            give(&mut graph, &mut tape, 5, first, b"");
-            give(&mut graph, &mut tape, 5, second, b"");
-            assert_eq!(rt; kept(&graph), (body, moved));
-            assert_eq!(rt;
-                tape.closed.as_slice(),
-                [(2, code), (1, code), (2, code)].as_slice()
-            );
-            let mut tape = blank(&rt);
-            let mut graph = opened(&rt, &mut tape, 1000)?;
-            give(&mut graph, &mut tape, 5, first, second);
-            assert_eq!(rt; kept(&graph), (body, moved));
+            let mut play = opened(&rt, 1000)?;
+            give(&mut play, 5, first, b"");
+            give(&mut play, 5, second, b"");
+            has_kept(&rt, &play, body, moved);
+            has_ended(&rt, &play, code);
+            let mut play = opened(&rt, 1000)?;
+            give(&mut play, 5, first, second);
+            has_kept(&rt, &play, body, moved);
         }
     }
     Ok(())
 }
 
-/// The stream's end, and what it makes of what has come: a body without a length is whole, and all else is broken.
+/// What has come at the stream's end, what has gone up of it, and the code that closes both ports: a body without a length is
+/// whole, and all else is broken.
+const CUT: [(&[u8], &[u8], u8); 4] = [
+    (b"", b"", 3),
+    (b"HTTP/1.1 200", b"", 3),
+    (b"HTTP/1.1 200 OK\r\n\r\nhello", b"hello", 0),
+    (
+        b"HTTP/1.1 200 OK\r\nContent-Length: 5\r\n\r\nhel",
+        b"hel",
+        3,
+    ),
+];
+
 #[test]
 fn at_the_end(rt: HostRuntime) -> Result<(), Fail> {
-    let rows: [(&[u8], &[u8], u8); 4] = [
-        (b"", b"", 3),
-        (b"HTTP/1.1 200", b"", 3),
-        (b"HTTP/1.1 200 OK\r\n\r\nhello", b"hello", 0),
-        (
-            b"HTTP/1.1 200 OK\r\nContent-Length: 5\r\n\r\nhel",
-            b"hel",
-            3,
-        ),
-    ];
-    for (stream, body, code) in rows {
-        let mut tape = blank(&rt);
-        let mut graph = opened(&rt, &mut tape, 1000)?;
-        give(&mut graph, &mut tape, 5, stream, b"");
-        assert!(rt; tape.closed.is_empty(), "it goes on");
-        give(&mut graph, &mut tape, 8, b"", b"");
-        assert_eq!(rt; kept(&graph).0, body);
-        assert_eq!(rt;
-            tape.closed.as_slice(),
-            [(2, code), (1, code), (2, code)].as_slice()
-        );
+    for (stream, body, code) in CUT {
+        let mut play = opened(&rt, 1000)?;
+        give(&mut play, 5, stream, b"");
+        assert!(rt; play.tape.closed.is_empty(), "it goes on");
+        give(&mut play, 8, b"", b"");
+        has_kept(&rt, &play, body, b"");
+        has_ended(&rt, &play, code);
     }
     Ok(())
 }
@@ -216,15 +242,9 @@ fn at_the_end(rt: HostRuntime) -> Result<(), Fail> {
 /// A user that has enough closes the fetch, and that the port below.
 #[test]
 fn closed_from_above(rt: HostRuntime) -> Result<(), Fail> {
-    let mut tape = blank(&rt);
-    let mut graph = opened(&rt, &mut tape, 2)?;
-    give(
-        &mut graph,
-        &mut tape,
-        5,
-        b"HTTP/1.1 200 OK\r\n\r\nhello",
-        b"",
-    );
-    assert_eq!(rt; tape.closed.as_slice(), [(1, 0), (2, 0), (2, 0)].as_slice());
+    let mut play = opened(&rt, 2)?;
+    give(&mut play, 5, b"HTTP/1.1 200 OK\r\n\r\nhello", b"");
+    let ports = [(1, 0), (2, 0), (2, 0)];
+    assert_eq!(rt; play.tape.closed.as_slice(), ports.as_slice());
     Ok(())
 }
