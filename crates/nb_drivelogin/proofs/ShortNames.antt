@@ -13,6 +13,7 @@ use Rattle.nb_uri.specs.IscsiNames.{IscsiTarget, NamesAreSpelled, is_iscsi, iscs
 use Rattle.nb_uri.specs.Resolutions.{resolution, disk_target, url_target, host_target, scheme_target, url_of, whole_of, fitted, tftp_file, tftp_path, http_file, http_path, has_zero}
 use Rattle.nb_drivecmd.specs.declared.disk_names.NamedDisk.{NamedDisk}
 use Rattle.nb_drivecmd.specs.DiskNames.{named_disk, disk_by}
+use Rattle.nb_drivelogin.proofs.SentNames.{disk_is}
 
 -- the name of a target, if a text names one
 abbrev Fits : Result UriTarget UriError → Type 0
@@ -57,7 +58,8 @@ hooked_fits : (r : Result UriTarget UriError) (disk : NamedDisk) → Fits r → 
 hooked_fits (Ok (Tftp host port path whole)) disk fits is = absurd (let z = is in cc)
 hooked_fits (Ok (Http host port path whole)) disk fits is = absurd (let z = is in cc)
 hooked_fits (Ok (Iscsi host port lun name whole)) disk fits is =
-    let same : name ≡ disk.name = cc in subst (λ (n : List ℕ). length n ≤ 223) same fits
+    let one : NamedDisk = record { host = host; port = port; lun = lun; name = name } in
+    subst (λ (d : NamedDisk). length d.name ≤ 223) (disk_is (has_zero name) one disk is).1 fits
 hooked_fits (Err why) disk fits is = absurd (let z = is in cc)
 
 -- the disk that a word names

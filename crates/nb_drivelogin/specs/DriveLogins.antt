@@ -1,6 +1,7 @@
 -- own, after ipxe.org's settings for iSCSI: what a login is begun with. A setting is its value's bytes, whichever block has it.
 use Rattle.std.specs.Prelude.{ℕ, List, [], ◌∷◌, ◌++◌, Option, Some, None, codes}
 use Rattle.nb_login.specs.declared.info.LoginInfo.{LoginInfo}
+use Rattle.nb_dhcpmsg.specs.Fields.{up_to_zero}
 use Rattle.nb_drivecmd.specs.declared.disk_names.NamedDisk.{NamedDisk}
 use Rattle.nb_settings.specs.declared.kind.Kind.TheVariants.{Uuid}
 use Rattle.nb_settings.specs.declared.setting.OwnedKey.{OwnedKey}
@@ -32,13 +33,14 @@ name_by_host table = codes "iqn.2010-04.org.ipxe:" ++ host_part table
 abbrev pub initiator_name : TableLists → List ℕ
 initiator_name table = bytes_or (name_by_host table) (look None (Tag 203) table)
 
--- what a login at a disk is begun with; `username`, `password`, `reverse-username` and `reverse-password` are inner options of 175
+-- What a login at a disk is begun with. Of the names that it sends only what stands before their first zero byte counts, which would
+-- end a key's text (RFC 7143, section 6.1); `username`, `password`, `reverse-username` and `reverse-password` are inner options of 175
 unfoldable pub login_by : NamedDisk → List ℕ → TableLists → LoginInfo
 login_by disk words table = record {
-  initiator = initiator_name table;
+  initiator = up_to_zero (initiator_name table);
   target = disk.name;
   lun = disk.lun;
-  user = setting_text (Sub 175 190) table;
+  user = up_to_zero (setting_text (Sub 175 190) table);
   secret = setting_text (Sub 175 191) table;
   reverse_user = setting_text (Sub 175 192) table;
   reverse_secret = setting_text (Sub 175 193) table;

@@ -1,9 +1,11 @@
 //! Laws of the definitions: each is a function that does nothing, whose contract is the law.
 
-ghost use Rattle.std.specs.Prelude.{◌≡◌, ◌≤◌, ℕ, List, map, Option, Ok, length};
+ghost use Rattle.std.specs.Prelude.{◌≡◌, ◌≤◌, ℕ, List, map, None, Option, Ok, length};
 ghost use Rattle.nb_drivecmd.specs.DiskNames.{named_disk};
 ghost use Rattle.nb_drivecmd.specs.declared.disk_names.NamedDisk.{NamedDisk};
 ghost use Rattle.nb_drivelogin.specs.DriveInfos.{drive_info, without_unused};
+ghost use Rattle.nb_drivelogin.specs.DriveLogins.{login_by};
+ghost use Rattle.nb_login.specs.Refusals.{zero_name};
 ghost use Rattle.nb_drivelogin.specs.DriveOpens.{DriveOpen};
 ghost use Rattle.nb_drivelogin.specs.OwnNets.{HasOnes, prefix_of};
 ghost use Rattle.nb_settings.specs.Tables.{TableLists};
@@ -19,6 +21,12 @@ pub fn named_disks_are_short()
 {
     iscsi_names_are_spelled();
 }
+
+/// No name that a login sends holds a zero byte, so each key's text is what it says (RFC 7143, section 6.1).
+pub fn sent_names_hold_no_zero()
+    ensures { (base : Option (List ℕ)) (uri : List ℕ) (disk : NamedDisk) (words : List ℕ) (table : TableLists)
+        → named_disk base uri ≡ Ok disk → zero_name (login_by disk words table) ≡ None }
+{}
 
 /// A mask's prefix counts its highest bits up to the first that isn't one: so many are ones, and no more of them.
 pub fn prefixes_are_ones()

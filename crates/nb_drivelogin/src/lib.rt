@@ -14,5 +14,7 @@ mod texts;
 
 pub use hooked::HookedOpen;
 pub use info::drive_info;
-pub use laws::{named_disks_are_short, prefixes_are_ones, unused_secrets_are_left_out};
+pub use laws::{
+    named_disks_are_short, prefixes_are_ones, sent_names_hold_no_zero, unused_secrets_are_left_out,
+};
 pub use login::login_info;

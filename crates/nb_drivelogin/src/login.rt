@@ -3,7 +3,7 @@
 ghost use Rattle.std.specs.Prelude.{◌≡◌, ◌≤◌, length, IfOk};
 ghost use Rattle.nb_drivelogin.specs.DriveLogins.{FitsTable, host_part, initiator_name, login_by, name_by_host};
 
-use crate::texts::{HOST_NAME, setting_text};
+use crate::texts::{HOST_NAME, sent_name, setting_text};
 use nb_drivecmd::NamedDisk;
 use nb_expand::text_of_name;
 use nb_imagecmd::copy_text;
@@ -48,10 +48,10 @@ pub fn login_info(
     ensures short { length disk.now.name ≤ 1088 → IfOk result FitsTable }
 {
     Ok(LoginInfo {
-        initiator: initiator_name(alloc, table)?,
+        initiator: sent_name(alloc, &initiator_name(alloc, table)?)?,
         target: copy_text(alloc, disk.name.as_slice())?,
         lun: disk.lun,
-        user: setting_text(alloc, &USER, table)?,
+        user: sent_name(alloc, &setting_text(alloc, &USER, table)?)?,
         secret: setting_text(alloc, &SECRET, table)?,
         reverse_user: setting_text(alloc, &REVERSE_USER, table)?,
         reverse_secret: setting_text(alloc, &REVERSE_SECRET, table)?,

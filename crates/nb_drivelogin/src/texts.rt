@@ -1,6 +1,7 @@
 //! The texts that settings are.
 
-ghost use Rattle.std.specs.Prelude.{◌≡◌, ◌≤◌, [], length, IfOk};
+ghost use Rattle.std.specs.Prelude.{◌≡◌, ◌≤◌, ◌<◌, ◌==◌, [], length, position, IfOk, IfSome};
+ghost use Rattle.nb_dhcpmsg.specs.Fields.{up_to_zero};
 ghost use Rattle.nb_settings.specs.Keys.{key_of};
 ghost use Rattle.nb_drivelogin.specs.DriveLogins.{setting_text};
 
@@ -29,4 +30,31 @@ pub(crate) fn no_text(alloc: Global) -> Result<Text, NoMemory>
     ensures { IfOk result (λ text. text ≡ []) }
 {
     Ok(Text::from_vec(Vec::new(alloc)))
+}
+
+/// A name as it is sent: what stands before its first zero byte, which ends a key's text (RFC 7143, section 6.1).
+pub(crate) fn sent_name(alloc: Global, name: &Text) -> Result<Text, NoMemory>
+    ensures value { IfOk result (λ text. text ≡ up_to_zero name.now) }
+    ensures short { IfOk result (λ text. length text ≤ length name.now) }
+{
+    copy_text(alloc, up_to_zero(name.as_slice()))
+}
+
+/// The bytes before the first zero byte. All of them where there is none.
+fn up_to_zero(bytes: &[u8]) -> &[u8]
+    ensures value { result.now ≡ up_to_zero bytes.now }
+    ensures short { length result.now ≤ length bytes.now }
+{
+    match zero_at(bytes) {
+        Some(end) => &bytes[..end],
+        None => bytes,
+    }
+}
+
+/// The place of the first zero byte.
+fn zero_at(bytes: &[u8]) -> Option<usize>
+    ensures place { result ≡ position (λ byte. byte == 0) bytes.now }
+    ensures within { IfSome result (λ end. end < length bytes.now) }
+{
+    bytes.iter().position(|byte| *byte == 0)
 }
