@@ -38,7 +38,7 @@ use Rattle.nb_webtalks.specs.Tellings.{messages_of}
 use Rattle.nb_webtalks.proofs.Begins.{home_at, nothing_owed}
 use Rattle.nb_webtalks.proofs.Coming.{kept_at}
 use Rattle.nb_webtalks.proofs.Lowers.{had, lent_of}
-use Rattle.nb_drivetalks.specs.Comings.{BeginComes, begin_comes_so, begin_is_refused, begin_lacks_memory}
+use Rattle.nb_drivetalks.specs.Comings.{DriveBeginComes, begin_comes_so, begin_is_refused, begin_lacks_memory}
 use Rattle.nb_drivetalks.specs.SessionStands.{StandsForSession}
 use Rattle.nb_drivetalks.specs.Tellings.{told_above, told_below}
 use Rattle.nb_drivetalks.proofs.Cames.{Reads, in_login}
@@ -164,10 +164,10 @@ module _ (c : DriveChain) (order : IsInOrder (three_of c)) (h : Objects Obj) (no
       stands_then c order h now (Offers (port_at c.unit.0 0) (begin_said rec 0 bytes) ∷ []) ns [] [] [] st q now begun (λ x. begun.calls) (every none) (λ x. refl) refl
       (ap has_ended held_then) (ap (λ z. is_refused (cut (front z)).rest) held_then) tt (asks_so bytes q found).1
 
-  pub begin_comes : BeginComes q c h rec now ns
+  pub begin_comes : DriveBeginComes q c h rec now ns
   begin_comes = by (did_by st.work st.talk st.dialogue st.worked st.talked st.conversed)
     where
-      by : BeginDid (call_of c order h now st.work st.talk st.dialogue) (suc (length st.deeds)) st.deeds q rec → BeginComes q c h rec now ns
+      by : BeginDid (call_of c order h now st.work st.talk st.dialogue) (suc (length st.deeds)) st.deeds q rec → DriveBeginComes q c h rec now ns
       by (begin_fails f) = begin_lacks_memory (sym told_close ∙ no_break st st.work st.talk f)
       by (begin_refused name u r p v zero w) =
           let t = walked w in

@@ -14,7 +14,7 @@ use Rattle.nb_drivechains.specs.DriveChains.{three_of}
 use Rattle.nb_webchains.specs.WebCalls.{segment_said}
 use Rattle.nb_webchains.proofs.Three.{conn_in, fetch_in, web_in}
 use Rattle.nb_webtalks.proofs.Starting.{seen_stands}
-use Rattle.nb_drivetalks.specs.Calls.{BeginsCome, ClosesCome, SegmentsCome, TasksCome, TimesCome}
+use Rattle.nb_drivetalks.specs.Calls.{DriveBeginsCome, DriveClosesCome, DriveSegmentsCome, DriveTasksCome, DriveTimesCome}
 use Rattle.nb_drivetalks.proofs.Beginnings.{begin_comes}
 use Rattle.nb_drivetalks.specs.Orders.{BeginsDrive, CloseInOrder, StandInOrderEach, by_network, by_time, by_user}
 use Rattle.nb_drivetalks.proofs.Closings.{closing_order, closing_says}
@@ -27,25 +27,25 @@ use Rattle.nb_drivetalks.proofs.Times.{time_comes}
 from_peer : (a : ConnAsk) (rec : ℕ) (came : Arrival) → came.port ≡ a.peer_port → came.source.0 ≡ a.peer.0 → comes_from a 1 (segment_said rec came) ≡ true
 from_peer a rec came port source = rw (port, source, eq-eqb a.peer_port a.peer_port refl, eq-eqb a.peer.0 a.peer.0 refl) refl
 
-pub segments : SegmentsCome
+pub segments : DriveSegmentsCome
 segments a start d c g h rec now came s entry before after k called stands port source is short =
     let st = started c g h now _ k.ns stands.above stands.between stands.below called.was called.is called.hosted called.noded called.opened called.kinds (tt, tt) stands.unit stands.session stands.conn (k.own []) in
     segment_comes c called.opened.order g h now k.ns a start d stands (segment_said rec came) s (from_peer a.conn rec came port source) is short st
 
-pub times : TimesCome
+pub times : DriveTimesCome
 times a start d c g h now entry before after k called stands =
     let st = started c g h now _ k.ns stands.above stands.between stands.below called.was called.is called.hosted called.noded called.opened called.kinds (tt, tt) stands.unit stands.session stands.conn (k.own []) in
     time_comes c called.opened.order g h now k.ns a start d stands st
 
-pub closes : ClosesCome
+pub closes : DriveClosesCome
 closes a start d c g h cause ns own called stands = closing_says c g h cause ns called.was called.is called.hosted called.noded called.opened called.kinds own a start d stands
 
-pub tasks : TasksCome
+pub tasks : DriveTasksCome
 tasks a start d c g h rec now block count before after k called stands so =
     let st = started c g h now _ k.ns stands.above stands.between stands.below called.was called.is called.hosted called.noded called.opened called.kinds (tt, tt) stands.unit stands.session stands.conn (k.own []) in
     task_comes c called.opened.order g h now k.ns a start d stands rec block count so st
 
-pub begins : BeginsCome
+pub begins : DriveBeginsCome
 begins q c g h rec now bytes before after k called ready found short =
     let w = three_of c in
     let stands = seen_stands w g called.was called.hosted in

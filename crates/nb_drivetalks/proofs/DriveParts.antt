@@ -12,19 +12,14 @@ use Rattle.nb_sans.specs.RecordNumbers.{brought_by}
 use Rattle.nb_sans.proofs.RecordLaws.{records_show}
 use Rattle.nb_sans.proofs.SessionGrowth.{opened_ended, stays_open}
 use Rattle.nb_sans.proofs.SessionSteps.{part_call, part_comes_in, part_end_step, part_step, task_call, task_step}
-
--- what comes of the stream is a call
-abbrev pub IsPart : DiskCall → Type 0
-IsPart (came rec p) = Unit {0}
-IsPart (asked lba n) = ⊥
-IsPart (stream_ended rec) = Unit {0}
+use Rattle.nb_drivetalks.specs.Comings.{IsPart}
 
 counts : (r : DiskReading) (call : DiskCall) → IsPart call → is_call r call ≡ true
 counts r (came rec p) of = refl
 counts r (asked lba n) of = absurd of
 counts r (stream_ended rec) of = refl
 
-same_part : (r : ℕ) (call : DiskCall) → IsPart call → IsPart (brought_by r call)
+pub same_part : (r : ℕ) (call : DiskCall) → IsPart call → IsPart (brought_by r call)
 same_part r (came rec p) of = tt
 same_part r (asked lba n) of = absurd of
 same_part r (stream_ended rec) of = tt

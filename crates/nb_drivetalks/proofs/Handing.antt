@@ -1,5 +1,6 @@
 -- What a unit hands up, by the calls of its drive: as far as the stream had come, and with one call more.
 use Rattle.std.proofs.Common.{◌≡◌, ℕ, List, [], ◌∷◌, ◌++◌, length, drop, Option, Some, None, refl, ap, ◌∙◌, sym, append_assoc, append-nil, arith}
+use Rattle.std.specs.List.{AllByRecursion}
 use Rattle.std.specs.Option.{is_some}
 use Rattle.std.proofs.lemmas.List.{drop_all, drop_at, map-append}
 use Rattle.nb_graph.specs.Trace.{Said}
@@ -12,10 +13,11 @@ use Rattle.nb_drivenodes.specs.UnitTalks.{answered_says, blocks_says}
 use Rattle.nb_sans.specs.Sessions.{ReadTask, drive_calls, session_come}
 use Rattle.nb_sans.specs.RecordNumbers.{brought_by}
 use Rattle.nb_sans.proofs.RecordLaws.{records_show}
-use Rattle.nb_drivetalks.specs.Comings.{calls_by, handed_by, handed_up, session_calls, unit_says, units_say}
+use Rattle.nb_streams.proofs.FlowLaws.{all_append}
+use Rattle.nb_drivetalks.specs.Comings.{IsPart, calls_by, drive_hands, handed_up, session_calls, unit_says, units_say}
 use Rattle.nb_drivetalks.proofs.DriveParts.{HasHad, reads_so}
 
-units_more : (rec chap : ℕ) (o : SessionNumbers) (before xs : List DiskCall) (call : DiskCall) → units_say rec chap o before (xs ++ call ∷ []) ≡ units_say rec chap o before xs ++ unit_says rec chap o (before ++ xs) call
+pub units_more : (rec chap : ℕ) (o : SessionNumbers) (before xs : List DiskCall) (call : DiskCall) → units_say rec chap o before (xs ++ call ∷ []) ≡ units_say rec chap o before xs ++ unit_says rec chap o (before ++ xs) call
 units_more rec chap o before [] call = append-nil (unit_says rec chap o before call) ∙ ap (λ (z : List DiskCall). unit_says rec chap o z call) (sym (append-nil before))
 units_more rec chap o before (x ∷ xs) call =
     ap (λ z. unit_says rec chap o before x ++ z) (units_more rec chap o (before ++ x ∷ []) xs call)
@@ -32,9 +34,10 @@ pub record HandedSo (rec : ℕ) (i : LoginInfo) (tasks : List (ReadTask × ℕ))
   pub new : List DiskCall
   pub grown : session_calls i come tasks ≡ session_calls i first tasks ++ new
   pub says : us ≡ units_by rec (session_calls i first tasks) new (session_come 0 i come)
+  pub each : AllByRecursion IsPart new
 
 pub handed_first : (rec : ℕ) (i : LoginInfo) (tasks : List (ReadTask × ℕ)) (come : List ℕ) → HandedSo rec i tasks come come []
-handed_first rec i tasks come = record { new = []; grown = sym (append-nil (session_calls i come tasks)); says = by (session_come 0 i come) }
+handed_first rec i tasks come = record { new = []; grown = sym (append-nil (session_calls i come tasks)); says = by (session_come 0 i come); each = tt }
   where
     by : (o : Option Session) → [] ≡ units_by rec (session_calls i come tasks) [] o
     by None = refl
@@ -43,7 +46,7 @@ handed_first rec i tasks come = record { new = []; grown = sym (append-nil (sess
 pub handed_all : (rec : ℕ) (i : LoginInfo) (tasks : List (ReadTask × ℕ)) (first come : List ℕ) (us : List Said) → HandedSo rec i tasks first come us → us ≡ handed_up rec i first come tasks
 handed_all rec i tasks first come us h = h.says ∙ by (session_come 0 i come)
   where
-    by : (o : Option Session) → units_by rec (session_calls i first tasks) h.new o ≡ handed_by rec (session_calls i first tasks) (session_calls i come tasks) o
+    by : (o : Option Session) → units_by rec (session_calls i first tasks) h.new o ≡ drive_hands rec (session_calls i first tasks) (session_calls i come tasks) o
     by None = refl
     by (Some s) =
         let before = session_calls i first tasks in
@@ -60,6 +63,7 @@ module _ (rec : ℕ) (i : LoginInfo) (tasks : List (ReadTask × ℕ)) (come late
     new = h.new;
     grown = calls ∙ h.grown;
     says = h.says ∙ ap (units_by rec (session_calls i first tasks) h.new) (sym opens);
+    each = h.each;
   }
 
   none_both : (xs ys : List DiskCall) → [] ≡ xs ++ ys → (xs ≡ []) × (ys ≡ [])
@@ -76,12 +80,13 @@ module _ (rec : ℕ) (i : LoginInfo) (tasks : List (ReadTask × ℕ)) (come late
         new = [];
         grown = before ∙ sym (append-nil (session_calls i first tasks) ∙ parts.0);
         says = h.says ∙ ap (units_by rec (session_calls i first tasks) h.new) none ∙ sym (ap (units_by rec (session_calls i first tasks) []) opens);
+        each = tt;
       }
 
   -- one call more
-  pub hands_more : (s : Session) (call : DiskCall) → session_come 0 i come ≡ Some s → session_come 0 i later ≡ Some s → drive_calls 0 i later tasks s ≡ drive_calls 0 i come tasks s ++ call ∷ []
+  pub hands_more : (s : Session) (call : DiskCall) → session_come 0 i come ≡ Some s → session_come 0 i later ≡ Some s → drive_calls 0 i later tasks s ≡ drive_calls 0 i come tasks s ++ call ∷ [] → IsPart call
       → HandsOn rec i tasks come later us (us ++ unit_says rec s.chap (opened_of s) (drive_calls 0 i come tasks s) call)
-  hands_more s call was opens calls = λ first h.
+  hands_more s call was opens calls of = λ first h.
       let before = session_calls i first tasks in
       let here : drive_calls 0 i come tasks s ≡ before ++ h.new = sym (ap (calls_by i come tasks) was) ∙ h.grown in
       record {
@@ -90,6 +95,7 @@ module _ (rec : ℕ) (i : LoginInfo) (tasks : List (ReadTask × ℕ)) (come late
         says = ap (λ z. z ++ unit_says rec s.chap (opened_of s) (drive_calls 0 i come tasks s) call) (h.says ∙ ap (units_by rec before h.new) was)
             ∙ ap (λ (z : List DiskCall). units_say rec s.chap (opened_of s) before h.new ++ unit_says rec s.chap (opened_of s) z call) here
             ∙ sym (units_more rec s.chap (opened_of s) before h.new call) ∙ sym (ap (units_by rec before (h.new ++ call ∷ [])) opens);
+        each = all_append IsPart h.new (call ∷ []) h.each (of, tt);
       }
 
 -- whichever record brought the call, and those before it
@@ -115,6 +121,6 @@ unit_same rec chap i come tasks s calls had call =
 pub handed_none : (rec : ℕ) (i : LoginInfo) (tasks : List (ReadTask × ℕ)) (come : List ℕ) → handed_up rec i come come tasks ≡ []
 handed_none rec i tasks come = by (session_come 0 i come)
   where
-    by : (o : Option Session) → handed_by rec (session_calls i come tasks) (session_calls i come tasks) o ≡ []
+    by : (o : Option Session) → drive_hands rec (session_calls i come tasks) (session_calls i come tasks) o ≡ []
     by None = refl
     by (Some s) = ap (units_say rec s.chap (opened_of s) (session_calls i come tasks)) (drop_all (length (session_calls i come tasks)) (session_calls i come tasks) (omega arith))

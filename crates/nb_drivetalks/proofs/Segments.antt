@@ -32,8 +32,9 @@ use Rattle.nb_nodes.specs.declared.obj.Obj.{Obj}
 use Rattle.nb_nodes.specs.Carriers.{conn_carrier, text_carrier}
 use Rattle.nb_opens.specs.Entries.{entries_of}
 use Rattle.nb_opens.specs.Notices.{first_close}
-use Rattle.nb_sans.specs.Sessions.{ReadTask, session_end, session_says, session_talker}
+use Rattle.nb_sans.specs.Sessions.{ReadTask, session_come, session_end, session_says, session_talker}
 use Rattle.nb_sans.specs.SessionSteps.{AreAskedBy}
+use Rattle.nb_sans.proofs.SessionGrowth.{opened_ended, stays_open}
 use Rattle.nb_talks.specs.Talking.{Talk, by_segment, come_of, ended_of, more_of, receives, talk_held, talks_on, text_calls, text_to_send, texts_by, texts_for}
 use Rattle.nb_talks.specs.TalkPromises.{closes_by, earlier, said_sends, segment_put, talker_end}
 use Rattle.nb_talks.proofs.TalkLaws.{held_with_texts}
@@ -45,7 +46,7 @@ use Rattle.nb_webtalks.proofs.Coming.{behind, each_at, kept_at, lent_calls}
 use Rattle.nb_webtalks.proofs.Lowers.{asked_at, had, lent_of}
 use Rattle.nb_webtalks.proofs.Rising.{ClosingOf, told_a_close, told_none, up_bytes}
 use Rattle.nb_webtalks.proofs.Segments.{asked_then, ended_then, had_then, over_then}
-use Rattle.nb_drivetalks.specs.Comings.{SegmentComes, handed_up, say_unless, segment_comes_so, segment_lacks_memory, segment_says, texts_say}
+use Rattle.nb_drivetalks.specs.Comings.{AddsParts, DriveSegmentComes, handed_up, say_unless, segment_comes_so, segment_lacks_memory, session_calls, session_segment_says, texts_say}
 use Rattle.nb_drivetalks.specs.SessionStands.{StandsForSession}
 use Rattle.nb_drivetalks.specs.Tellings.{told_above, told_below}
 use Rattle.nb_drivetalks.proofs.Cames.{Reads, asked_later, texts_in}
@@ -166,7 +167,8 @@ module _ (c : DriveChain) (order : IsInOrder (three_of c)) (g h : Objects Obj) (
       (ap calls_by (ap front held_then) ∙ ap (λ z. heard.calls ++ z) (sym text_calls_are))
       (ap has_ended held_then ∙ off) (subst (λ z. is_refused (cut z).rest ≡ false) here whole) (subst (λ z. AreAskedBy z d.tasks) here (asked_later come later d.tasks s.asked)) s.lun
 
-  module _ (entries : List ConnEntry) (called : tcp_calls entries ≡ d.calls) (gave : delivered entries ≡ come) (acts : Acts) (out : Option Lent) (lends : LendsSo (with_segment_call entries msg.rec sp now acts) acts.ready out) where
+  module _ (lives : session_end 0 a.info come false d.tasks ≡ None) (entries : List ConnEntry) (called : tcp_calls entries ≡ d.calls) (gave : delivered entries ≡ come) (acts : Acts) (out : Option Lent)
+      (lends : LendsSo (with_segment_call entries msg.rec sp now acts) acts.ready out) where
     abbrev lent_to : List ConnEntry
     lent_to = with_lending (with_segment_call entries msg.rec sp now acts) out
 
@@ -225,7 +227,7 @@ module _ (c : DriveChain) (order : IsInOrder (three_of c)) (g h : Objects Obj) (
     -- its messages, with those of its texts and of the close
     all_says : (said told : List Said) → messages_of (told_below c.unit.0 (told_of st.deeds)) ≡ (downs_for msg.rec acts ++ said) ++ told → acts ≡ segment_asks link phase_at m now
         → said ≡ say_unless (segment_end a.conn.isn phase_at m) (texts_say link msg.rec heard.calls (texts_for (session_talker a.info) a.conn.isn d (by_segment m now)) now)
-        → (ends : Option Cause) → talker_end (session_talker a.info) a.conn.isn msg.rec heard ≡ ends → told ≡ close_says ends acts.over → messages_of (told_below c.unit.0 ns) ≡ segment_says a d m now
+        → (ends : Option Cause) → talker_end (session_talker a.info) a.conn.isn msg.rec heard ≡ ends → told ≡ close_says ends acts.over → messages_of (told_below c.unit.0 ns) ≡ session_segment_says a d m now
     all_says said told says asked saids ends is_so closes =
         let place = place_says msg.rec (segment_put (session_talker a.info) a.conn.isn d m now).advance in
         let sends = sends_say link msg.rec (calls_for a.conn.isn phase_at m.segment) in
@@ -240,6 +242,18 @@ module _ (c : DriveChain) (order : IsInOrder (three_of c)) (g h : Objects Obj) (
     all_hands more hands all is_so =
         ap (told_above c.unit.0) (sym st.told) ∙ is_so ∙ handed_all msg.rec a.info d.tasks come (come ++ up_bytes out) more (hands come (handed_first msg.rec a.info d.tasks come)) ∙ ap (λ z. handed_up msg.rec a.info come z d.tasks) all
 
+    -- and the calls of the drive that this adds
+    all_adds : (more : List Said) → HandsOn msg.rec a.info d.tasks come (come ++ up_bytes out) [] more → come ++ up_bytes out ≡ come_of a.conn.isn heard → AddsParts a.info come (come_of a.conn.isn heard) d.tasks
+    all_adds more hands all =
+        let h = hands come (handed_first msg.rec a.info d.tasks come) in
+        record {
+          lives = lives;
+          stays = λ s is. ap (session_come 0 a.info) (sym all) ∙ stays_open 0 a.info come (up_bytes out) (opened_ended 0 a.info come s is) ∙ is;
+          new = h.new;
+          grown = ap (λ z. session_calls a.info z d.tasks) (sym all) ∙ h.grown;
+          each = h.each;
+        }
+
     -- where it reads on, the session ends nothing
     none_ends : (u : UnitTalk) (r : SessionTalk) → Reads a d.tasks (come ++ up_bytes out) u r → is_refused (cut (come ++ up_bytes out)).rest ≡ false → come ++ up_bytes out ≡ come_of a.conn.isn heard
         → comes_to_end a.conn entries (with_segment_call entries msg.rec sp now acts) ≡ false → talker_end (session_talker a.info) a.conn.isn msg.rec heard ≡ None
@@ -250,19 +264,19 @@ module _ (c : DriveChain) (order : IsInOrder (three_of c)) (g h : Objects Obj) (
     went : (u : UnitTalk) (r : SessionTalk) (p : Dialogue) (said more : List Said) → Reads a d.tasks (come ++ up_bytes out) u r → is_refused (cut (come ++ up_bytes out)).rest ≡ false
         → comes_to_end a.conn entries (with_segment_call entries msg.rec sp now acts) ≡ false
         → Speaks msg.rec (text_calls (texts_in a d.tasks come (up_bytes out)) now) left_at p said → HandsOn msg.rec a.info d.tasks come (come ++ up_bytes out) [] more → p ≡ st.dialogue
-        → messages_of (told_below c.unit.0 (told_of st.deeds)) ≡ downs_for msg.rec acts ++ said → told_above c.unit.0 (told_of st.deeds) ≡ more → first_close ns ≡ acts.over → SegmentComes a start d c h m now ns
+        → messages_of (told_below c.unit.0 (told_of st.deeds)) ≡ downs_for msg.rec acts ++ said → told_above c.unit.0 (told_of st.deeds) ≡ more → first_close ns ≡ acts.over → DriveSegmentComes a start d c h m now ns
     went u r p said more reads whole off sps hands at says up close =
         let had_is : had p ≡ lent_to ++ sps.more = sps.grows ∙ ap (λ z. z ++ sps.more) (had_then a.conn start lent_to out acts.over) in
         let k = knows p sps.more at (sps.asked ∙ asked_then a.conn start lent_to out acts.over) had_is in
         let ends = none_ends u r reads whole k.all off in
         segment_comes_so
         (all_says said [] (says ∙ sym (append-nil (downs_for msg.rec acts ++ said))) k.asked (said_so p p said [] sps (had_is ∙ ap (λ z. lent_to ++ z) (sym (append-nil sps.more))) k) None ends refl)
-        (all_hands more hands k.all up)
+        (all_hands more hands k.all up) (all_adds more hands k.all)
         (close ∙ ends_so a.conn start d.calls entries called gave m now acts k.asked ∙ ap (λ z. earlier z (segment_end a.conn.isn phase_at m)) (sym ends))
         (goes_on (up_bytes out) k.all whole (sym ends_then ∙ off))
 
     came_of : CallDid (call_of c order h now st.work st.talk st.dialogue) (suc (length st.deeds)) st.deeds left_at acts.over (downs_for msg.rec acts) [] a msg.rec d.tasks come (up_bytes out) (comes_to_end a.conn entries (with_segment_call entries msg.rec sp now acts))
-        → SegmentComes a start d c h m now ns
+        → DriveSegmentComes a start d c h m now ns
     came_of (did_fail f) = segment_lacks_memory (sym told_close ∙ no_break st st.work st.talk f)
     came_of (did_go u r p said more over off reads whole sps hands owes w) = let t = walked w in went u r p said more reads whole off sps hands t.5 t.0 t.1 (sym told_close ∙ t.2 ∙ sym over)
     came_of (did_break x u r p said more over off reads whole sps hands w) = let t = walked w in went u r p said more reads whole off sps hands t.5 t.0 t.1 (sym told_close ∙ t.2 ∙ sym over)
@@ -274,17 +288,17 @@ module _ (c : DriveChain) (order : IsInOrder (three_of c)) (g h : Objects Obj) (
         had_p : had p ≡ lent_to ++ sps.more
         had_p = sps.grows ∙ ap (λ z. z ++ sps.more) (had_then a.conn start lent_to out acts.over)
 
-        ended : (rest : List ConnEntry) (k : Knows q) → had q ≡ lent_to ++ (sps.more ++ rest) → (closed : List Said) → told ≡ (downs_for msg.rec acts ++ said) ++ closed → closed ≡ close_says (Some x) acts.over → SegmentComes a start d c h m now ns
+        ended : (rest : List ConnEntry) (k : Knows q) → had q ≡ lent_to ++ (sps.more ++ rest) → (closed : List Said) → told ≡ (downs_for msg.rec acts ++ said) ++ closed → closed ≡ close_says (Some x) acts.over → DriveSegmentComes a start d c h m now ns
         ended rest k had_is closed told_is closes =
             let over : talker_end (session_talker a.info) a.conn.isn msg.rec heard ≡ Some x =
             ap (λ z. session_end msg.rec a.info (come_of a.conn.isn heard) z d.tasks) (sym ends_then) ∙ ap (λ z. session_end msg.rec a.info z (comes_to_end a.conn entries (with_segment_call entries msg.rec sp now acts)) d.tasks) (sym k.all) ∙ ends in
             segment_comes_so
             (all_says said closed (t.0 ∙ told_is) k.asked (said_so q p said rest sps had_is k) (Some x) over closes)
-            (all_hands more hands k.all t.1)
+            (all_hands more hands k.all t.1) (all_adds more hands k.all)
             (sym told_close ∙ t.2 ∙ ap (λ z. earlier z (segment_end a.conn.isn phase_at m)) (sym over))
             (λ none. absurd (none-some x (sym none ∙ sym told_close ∙ t.2)))
 
-        by : ClosingOf p q net (downs_for msg.rec acts ++ said) told → SegmentComes a start d c h m now ns
+        by : ClosingOf p q net (downs_for msg.rec acts ++ said) told → DriveSegmentComes a start d c h m now ns
         by (told_none off r0 _ told_is) =
             let had_is : had q ≡ lent_to ++ (sps.more ++ r0.more) = r0.grows ∙ ap (λ z. z ++ r0.more) had_p ∙ append_assoc lent_to sps.more r0.more in
             let k = knows q (sps.more ++ r0.more) t.5 (r0.asked ∙ sps.asked ∙ asked_then a.conn start lent_to out acts.over) had_is in
@@ -305,11 +319,11 @@ module _ (c : DriveChain) (order : IsInOrder (three_of c)) (g h : Objects Obj) (
             ended (before ++ close ∷ behind_it) k had_so (downs_for 0 closing) told_is
             (ap (downs_for 0) kept ∙ ap (λ z. sends_say link 0 (without_try (closing_segment a.conn.isn (conn_phase a.conn.isn z)) ∷ [])) calls_of ∙ sym (ap (close_says (Some x)) over))
 
-  pub segment_comes : SegmentComes a start d c h m now ns
+  pub segment_comes : DriveSegmentComes a start d c h m now ns
   segment_comes = let y = parts st.work st.talk st.dialogue st.worked st.talked st.conversed in by y (did_by st.work st.talk st.dialogue y)
     where
       by : (y : Parted a start d (entries_of c.unit.0 st.deeds) (entries_of c.session.0 st.deeds) (entries_of c.conn.0 st.deeds) st.work st.talk st.dialogue)
           → SegmentDid (call_of c order h now st.work st.talk st.dialogue) (suc (length st.deeds)) st.deeds a.conn start y.entries a d.tasks come msg sp
-          → SegmentComes a start d c h m now ns
+          → DriveSegmentComes a start d c h m now ns
       by y (segment_fails f) = segment_lacks_memory (sym told_close ∙ no_break st st.work st.talk f)
-      by y (segment_does acts out lends did) = came_of y.entries y.called y.gave acts out lends did
+      by y (segment_does acts out lends did) = came_of (reads_on 0 a d.tasks come y.unit y.session y.reads s.whole) y.entries y.called y.gave acts out lends did

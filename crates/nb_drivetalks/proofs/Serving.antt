@@ -35,7 +35,8 @@ use Rattle.nb_webtalks.proofs.Lowers.{IsBegun, OwesTo, regains_none}
 use Rattle.nb_webtalks.proofs.Middle.{emits_stages}
 use Rattle.nb_drivetalks.proofs.Cames.{Came, came_failed, came_off, came_on, in_drive, texts_in}
 use Rattle.nb_drivetalks.proofs.Chunks.{calls_still, chunk_texts, quiet_parts, quiet_texts, text_is}
-use Rattle.nb_drivetalks.proofs.DriveParts.{HasHad, IsPart, calls_then, ends_then, quiet_calls, same_then, says_then, still as still_open}
+use Rattle.nb_drivetalks.specs.Comings.{IsPart}
+use Rattle.nb_drivetalks.proofs.DriveParts.{HasHad, calls_then, ends_then, quiet_calls, same_part, same_then, says_then, still as still_open}
 use Rattle.nb_drivetalks.proofs.Handing.{HandsOn, hands_more, hands_none, unit_same}
 use Rattle.nb_drivetalks.proofs.Opening.{end_said, end_up, given_at, over_at, pdu_said, pdu_up, put_at}
 use Rattle.nb_drivetalks.proofs.Returning.{as_stages, session_all_returns}
@@ -80,7 +81,7 @@ module _ (c : DriveCall) (n : ℕ) (gs : List (Stage Obj Load)) (a : DriveAskPar
     part_hands : HandsOn rec a.info tasks come (come ++ xs) us (us ++ given_at rec s.chap (opened_of s) calls call)
     part_hands =
         subst (λ z. HandsOn rec a.info tasks come (come ++ xs) us (us ++ z)) (unit_same rec s.chap a.info come tasks s calls had call)
-        (hands_more rec a.info tasks come (come ++ xs) us s (brought_by 0 call) had.opens (still_open a.info come tasks s calls had xs asked call of parts) (calls_then a.info come tasks s calls had xs asked call of parts))
+        (hands_more rec a.info tasks come (come ++ xs) us s (brought_by 0 call) had.opens (still_open a.info come tasks s calls had xs asked call of parts) (calls_then a.info come tasks s calls had xs asked call of parts) (same_part 0 call of))
 
     part_ends : (x : Cause) → over_at (opened_of s) calls call ≡ Some x → session_end rec a.info (come ++ xs) false tasks ≡ Some x
     part_ends x is = ends_then a.info come tasks s calls had xs asked call of parts rec ∙ ap (λ (z : DiskCall). (disk_answer (opened_of s) (reading (opened_of s) calls) z).over) mine ∙ is

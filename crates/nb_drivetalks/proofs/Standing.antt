@@ -35,7 +35,7 @@ use Rattle.nb_webchains.specs.WebChains.{IsInOrder}
 use Rattle.nb_webtalks.specs.TalkStands.{HasHadCalls, stream_by}
 use Rattle.nb_webtalks.proofs.Coming.{conversed_parts, each_at, gave_all, is_talked, kept_at}
 use Rattle.nb_webtalks.proofs.Lowers.{had}
-use Rattle.nb_drivetalks.specs.SessionStands.{HasRead, HasWorked, StandsForSession}
+use Rattle.nb_drivetalks.specs.SessionStands.{SessionHasRead, HasWorked, StandsForSession}
 use Rattle.nb_drivetalks.proofs.Cames.{Reads, in_drive, in_login}
 use Rattle.nb_drivetalks.proofs.DriveParts.{HasHad}
 use Rattle.nb_drivetalks.proofs.SessionParts.{none_open}
@@ -56,7 +56,7 @@ session_parts r f (e ∷ s) t h = let y = session_parts h.0 f s t h.2 in (y.0, (
 -- WHERE THEY ARE
 
 -- a unit and a session that go on do so together
-login_reads : (a : DriveAskParts) (come taken : List ℕ) (tasks : List (ReadTask × ℕ)) (b : DriveAskParts) (h : List LoginEntry) → HasRead a come (logging_in b taken h) → Reads a tasks come unit_waits (logging_in b taken h)
+login_reads : (a : DriveAskParts) (come taken : List ℕ) (tasks : List (ReadTask × ℕ)) (b : DriveAskParts) (h : List LoginEntry) → SessionHasRead a come (logging_in b taken h) → Reads a tasks come unit_waits (logging_in b taken h)
 login_reads a come taken tasks b h r =
     let ms = r.3.0 in
     let is : h ≡ login_history a.info ms = r.3.1 in
@@ -72,7 +72,7 @@ drive_reads a come taken tasks b h o chap calls w own all =
     subst (λ z. Reads a tasks come (unit_works o chap calls) (in_session z taken h)) (sym own) (subst (λ z. Reads a tasks come (unit_works o chap calls) (in_session a z h)) (sym all)
     (subst (λ z. Reads a tasks come (unit_works o z calls) (in_session a come h)) (sym w.3) (subst (λ z. Reads a tasks come (unit_works z s.chap calls) (in_session a come h)) (sym w.2) here)))
 
-pub reads_of : (a : DriveAskParts) (come : List ℕ) (tasks : List (ReadTask × ℕ)) (u : UnitTalk) (r : SessionTalk) → HasWorked a come tasks u → HasRead a come r → Reads a tasks come u r
+pub reads_of : (a : DriveAskParts) (come : List ℕ) (tasks : List (ReadTask × ℕ)) (u : UnitTalk) (r : SessionTalk) → HasWorked a come tasks u → SessionHasRead a come r → Reads a tasks come u r
 reads_of a come tasks unit_unasked r w h = absurd w
 reads_of a come tasks unit_waits session_unasked w h = absurd h
 reads_of a come tasks unit_waits (logging_in b taken es) w h = login_reads a come taken tasks b es h
@@ -93,7 +93,7 @@ worked_of : (a : DriveAskParts) (come : List ℕ) (tasks : List (ReadTask × ℕ
 worked_of a come tasks _ _ (in_login ks pdus on) = none_open a.info come ks pdus on
 worked_of a come tasks _ _ (in_drive h s calls had) = (s, had.opens, refl, refl, had.same, had.lives)
 
-read_of : (a : DriveAskParts) (come : List ℕ) (tasks : List (ReadTask × ℕ)) (u : UnitTalk) (r : SessionTalk) → Reads a tasks come u r → HasRead a come r
+read_of : (a : DriveAskParts) (come : List ℕ) (tasks : List (ReadTask × ℕ)) (u : UnitTalk) (r : SessionTalk) → Reads a tasks come u r → SessionHasRead a come r
 read_of a come tasks _ _ (in_login ks pdus on) = (refl, refl, on, (ks, refl, pdus))
 read_of a come tasks _ _ (in_drive h s calls had) = (refl, refl, (s, had.opens))
 
@@ -147,7 +147,7 @@ module _ (c : DriveChain) (order : IsInOrder (three_of c)) (h : Objects Obj) (no
         worked = λ u run. let y = every u st.talk st.dialogue run st.talked st.conversed in
             subst (λ z. HasWorked a z d.tasks u) (all_come u st.talk y) (worked_of a y.come d.tasks u st.talk y.reads);
         took = λ r run. let y = every st.work r st.dialogue st.worked run st.conversed in
-            subst (λ z. HasRead a z r) (all_come st.work r y) (read_of a y.come d.tasks st.work r y.reads);
+            subst (λ z. SessionHasRead a z r) (all_come st.work r y) (read_of a y.come d.tasks st.work r y.reads);
         called = λ p run. let y = every st.work st.talk p st.worked st.talked run in
             let same : y.come ≡ come_of a.conn.isn d = sym (took_so a y.come d.tasks st.work st.talk y.reads) ∙ took_so a one.come d.tasks st.work st.talk one.reads ∙ all_come st.work st.talk one in
             subst (HasHadCalls a.conn start d.calls) (sym y.conn) (refl, refl, y.called ∙ ap calls_by same ∙ calls_are, y.gave ∙ same ∙ sym (come_same same), refl);

@@ -34,7 +34,7 @@ use Rattle.nb_webtalks.specs.Tellings.{messages_of}
 use Rattle.nb_webtalks.proofs.Begins.{home_at, nothing_owed}
 use Rattle.nb_webtalks.proofs.Coming.{kept_at}
 use Rattle.nb_webtalks.proofs.Lowers.{had, lent_of}
-use Rattle.nb_drivetalks.specs.Comings.{TaskComes, task_comes_so, task_lacks_memory}
+use Rattle.nb_drivetalks.specs.Comings.{DriveTaskComes, task_comes_so, task_lacks_memory}
 use Rattle.nb_drivetalks.specs.SessionStands.{StandsForSession}
 use Rattle.nb_drivetalks.specs.Tellings.{told_above, told_below}
 use Rattle.nb_drivetalks.proofs.Cames.{Reads}
@@ -124,11 +124,11 @@ module _ (c : DriveChain) (order : IsInOrder (three_of c)) (g h : Objects Obj) (
       stands_then c order h now (Offers (port_at c.unit.0 0) (read_said rec block count) ∷ []) ns s.above s.between s.below st a start after calls_by (every none) (λ x. refl) refl
       (ap has_ended held_then ∙ s.unended) (ap (λ z. is_refused (cut (front z)).rest) held_then ∙ s.whole) (subst (λ z. AreAskedBy (front z) after.tasks) (sym held_then) (asked_more come d.tasks task s.asked)) s.lun
 
-  pub task_comes : TaskComes a start d c h task rec now ns
+  pub task_comes : DriveTaskComes a start d c h task rec now ns
   task_comes = let y = parts st.work st.talk st.dialogue st.worked st.talked st.conversed in by y (did_by st.work st.talk st.dialogue y)
     where
       by : (y : Parted a start d (entries_of c.unit.0 st.deeds) (entries_of c.session.0 st.deeds) (entries_of c.conn.0 st.deeds) st.work st.talk st.dialogue)
-          → TaskDid (call_of c order h now st.work st.talk st.dialogue) (suc (length st.deeds)) st.deeds (talking a.conn start y.entries None) a d.tasks come task rec → TaskComes a start d c h task rec now ns
+          → TaskDid (call_of c order h now st.work st.talk st.dialogue) (suc (length st.deeds)) st.deeds (talking a.conn start y.entries None) a d.tasks come task rec → DriveTaskComes a start d c h task rec now ns
       by y (task_fails f) = task_lacks_memory (sym told_close ∙ no_break st st.work st.talk f)
       by y (task_does u r p told text reads says sp owes w) =
           let t = walked w in

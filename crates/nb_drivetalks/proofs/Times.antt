@@ -43,7 +43,7 @@ use Rattle.nb_webtalks.proofs.Begins.{home_at, nothing_owed}
 use Rattle.nb_webtalks.proofs.Coming.{each_at, kept_at}
 use Rattle.nb_webtalks.proofs.Lowers.{asked_at, had, lent_of}
 use Rattle.nb_webtalks.proofs.Segments.{asked_then, had_then}
-use Rattle.nb_drivetalks.specs.Comings.{TimeComes, handed_up, time_comes_so, time_lacks_memory}
+use Rattle.nb_drivetalks.specs.Comings.{DriveTimeComes, handed_up, time_comes_so, time_lacks_memory}
 use Rattle.nb_drivetalks.specs.SessionStands.{StandsForSession}
 use Rattle.nb_drivetalks.specs.Tellings.{told_above, told_below}
 use Rattle.nb_drivetalks.proofs.Cames.{Reads}
@@ -139,7 +139,7 @@ module _ (c : DriveChain) (order : IsInOrder (three_of c)) (g h : Objects Obj) (
     -- what it asked is what is due
     time_so : (p : Dialogue) (more : List ConnEntry) → p ≡ st.dialogue → asked_at p ≡ Some (a.conn, start) → had p ≡ (entries ++ conn_entry (calls_in (time_came now)) acts ∷ []) ++ more
         → messages_of (told_below c.unit.0 (told_of st.deeds)) ≡ downs_for 0 acts → told_above c.unit.0 (told_of st.deeds) ≡ [] → first_close ns ≡ acts.over
-        → TimeComes a start d c h now ns
+        → DriveTimeComes a start d c h now ns
     time_so p more at asked had_is says hands close =
         let entry : ConnEntry = conn_entry (calls_in (time_came now)) acts in
         let keeps : ConnKeeps (link_of a.conn) start (had p) = kept_at st.state p a.conn start (subst (IsConnAt st.state) (sym at) st.is_conn) asked in
@@ -162,7 +162,7 @@ module _ (c : DriveChain) (order : IsInOrder (three_of c)) (g h : Objects Obj) (
 
     came_of : (y : Parted a start d (entries_of c.unit.0 st.deeds) (entries_of c.session.0 st.deeds) (entries_of c.conn.0 st.deeds) st.work st.talk st.dialogue)
         → CallDid (call_of c order h now st.work st.talk st.dialogue) (suc (length st.deeds)) st.deeds (talked_on a.conn start (entries ++ conn_entry (calls_in (time_came now)) acts ∷ []) None acts.over) acts.over (downs_for 0 acts) [] a 0 d.tasks (come_of a.conn.isn d) [] false
-        → TimeComes a start d c h now ns
+        → DriveTimeComes a start d c h now ns
     came_of y (did_fail f) = time_lacks_memory (sym told_close ∙ no_break st st.work st.talk f)
     came_of y (did_end x u2 r2 p2 q net said told more v ends sp hands closing w) =
         absurd (none-some x (sym (ap (λ z. session_end 0 a.info z false d.tasks) (append-nil (come_of a.conn.isn d)) ∙ reads_on 0 a d.tasks (come_of a.conn.isn d) y.unit y.session y.reads s.whole) ∙ ends))
@@ -177,11 +177,11 @@ module _ (c : DriveChain) (order : IsInOrder (three_of c)) (g h : Objects Obj) (
         let quiet = quiet_told 0 (talked_on a.conn start here None acts.over) p2 said sp in
         time_so p2 sp.more t.5 (sp.asked ∙ asked_then a.conn start here None acts.over) (sp.grows ∙ ap (λ z. z ++ sp.more) (had_then a.conn start here None acts.over)) (t.0 ∙ ap (λ z. downs_for 0 acts ++ z) quiet.1 ∙ append-nil (downs_for 0 acts)) (t.1 ∙ hands_nothing more hands) (sym told_close ∙ t.2 ∙ sym over)
 
-  pub time_comes : TimeComes a start d c h now ns
+  pub time_comes : DriveTimeComes a start d c h now ns
   time_comes = let y = parts st.work st.talk st.dialogue st.worked st.talked st.conversed in by y (did_by st.work st.talk st.dialogue y)
     where
       by : (y : Parted a start d (entries_of c.unit.0 st.deeds) (entries_of c.session.0 st.deeds) (entries_of c.conn.0 st.deeds) st.work st.talk st.dialogue)
           → TimeDid (call_of c order h now st.work st.talk st.dialogue) (suc (length st.deeds)) st.deeds a.conn start y.entries a d.tasks (come_of a.conn.isn d)
-          → TimeComes a start d c h now ns
+          → DriveTimeComes a start d c h now ns
       by y (time_fails f) = time_lacks_memory (sym told_close ∙ no_break st st.work st.talk f)
       by y (time_does acts did) = came_of y.entries y.called acts y did

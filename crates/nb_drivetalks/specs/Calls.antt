@@ -25,12 +25,12 @@ use Rattle.nb_webchains.specs.WebChains.{IsOpenWeb, web_graph}
 use Rattle.nb_webtalks.specs.Comings.{sends_say}
 use Rattle.nb_webtalks.specs.TalkStands.{AreHosted}
 use Rattle.nb_webtalks.specs.Tellings.{messages_of}
-use Rattle.nb_drivetalks.specs.Comings.{BeginComes, SegmentComes, TaskComes, TimeComes}
+use Rattle.nb_drivetalks.specs.Comings.{DriveBeginComes, DriveSegmentComes, DriveTaskComes, DriveTimeComes}
 use Rattle.nb_drivetalks.specs.SessionStands.{StandsForSession}
 use Rattle.nb_drivetalks.specs.Tellings.{told_above, told_below}
 
 -- A call is made on the three, which are open before it, and are there and what they were after it.
-pub record AreCalled (c : DriveChain) (g h : Objects Obj) : Type 0 where
+pub record DriveIsCalled (c : DriveChain) (g h : Objects Obj) : Type 0 where
   pub was : AreChained g (drive_ids c)
   pub is : AreChained h (drive_ids c)
   pub hosted : AreHosted (three_of c) g
@@ -44,29 +44,29 @@ StayAsTheyWere = (a : DriveAskParts) (start : ℕ) (d : Talk ReadTask) (c : Driv
     → StandsForSession a start d c g → StandsForSession a start d c h
 
 -- The user begins it.
-abbrev pub BeginsCome : Type 0
-BeginsCome = (q : DriveAskParts) (c : DriveChain) (g h : Objects Obj) (rec now : ℕ) (bytes : List ℕ) (before after : Heard) (k : DoesWeb (three_of c) now (begins_web (three_of c) rec 0 bytes) None g h before after)
-    → AreCalled c g h → IsReadyDrive c g → drive_ask_in bytes ≡ Some q → length bytes < 2 ^ 32 → BeginComes q c h rec now k.ns
+abbrev pub DriveBeginsCome : Type 0
+DriveBeginsCome = (q : DriveAskParts) (c : DriveChain) (g h : Objects Obj) (rec now : ℕ) (bytes : List ℕ) (before after : Heard) (k : DoesWeb (three_of c) now (begins_web (three_of c) rec 0 bytes) None g h before after)
+    → DriveIsCalled c g h → IsReadyDrive c g → drive_ask_in bytes ≡ Some q → length bytes < 2 ^ 32 → DriveBeginComes q c h rec now k.ns
 
 -- A segment of the peer comes.
-abbrev pub SegmentsCome : Type 0
-SegmentsCome = (a : DriveAskParts) (start : ℕ) (d : Talk ReadTask) (c : DriveChain) (g h : Objects Obj) (rec now : ℕ) (came : Arrival) (s : SegmentParts) (entry : Option GraphEvent) (before after : Heard)
+abbrev pub DriveSegmentsCome : Type 0
+DriveSegmentsCome = (a : DriveAskParts) (start : ℕ) (d : Talk ReadTask) (c : DriveChain) (g h : Objects Obj) (rec now : ℕ) (came : Arrival) (s : SegmentParts) (entry : Option GraphEvent) (before after : Heard)
     (k : DoesWeb (three_of c) now (receives_web (three_of c) rec came) entry g h before after)
-    → AreCalled c g h → StandsForSession a start d c g → came.port ≡ a.conn.peer_port → came.source.0 ≡ a.conn.peer.0 → IsLaidOut came.body.now s → length came.body.now < 2 ^ 32
-    → SegmentComes a start d c h (arriving rec s) now k.ns
+    → DriveIsCalled c g h → StandsForSession a start d c g → came.port ≡ a.conn.peer_port → came.source.0 ≡ a.conn.peer.0 → IsLaidOut came.body.now s → length came.body.now < 2 ^ 32
+    → DriveSegmentComes a start d c h (arriving rec s) now k.ns
 
 -- A time comes.
-abbrev pub TimesCome : Type 0
-TimesCome = (a : DriveAskParts) (start : ℕ) (d : Talk ReadTask) (c : DriveChain) (g h : Objects Obj) (now : ℕ) (entry : Option GraphEvent) (before after : Heard) (k : DoesWeb (three_of c) now (ticks_web (three_of c)) entry g h before after)
-    → AreCalled c g h → StandsForSession a start d c g → TimeComes a start d c h now k.ns
+abbrev pub DriveTimesCome : Type 0
+DriveTimesCome = (a : DriveAskParts) (start : ℕ) (d : Talk ReadTask) (c : DriveChain) (g h : Objects Obj) (now : ℕ) (entry : Option GraphEvent) (before after : Heard) (k : DoesWeb (three_of c) now (ticks_web (three_of c)) entry g h before after)
+    → DriveIsCalled c g h → StandsForSession a start d c g → DriveTimeComes a start d c h now k.ns
 
 -- The user asks for so many blocks, from this one on, once all was said that was to be said.
-abbrev pub TasksCome : Type 0
-TasksCome = (a : DriveAskParts) (start : ℕ) (d : Talk ReadTask) (c : DriveChain) (g h : Objects Obj) (rec now block count : ℕ) (before after : Heard) (k : DoesWeb (three_of c) now (reads_drive c rec block count) None g h before after)
-    → AreCalled c g h → StandsForSession a start d c g → said d.calls ≡ to_say (session_talker a.info) a.conn.isn d → TaskComes a start d c h (let task : ReadTask = record { lba = block; blocks = count } in task) rec now k.ns
+abbrev pub DriveTasksCome : Type 0
+DriveTasksCome = (a : DriveAskParts) (start : ℕ) (d : Talk ReadTask) (c : DriveChain) (g h : Objects Obj) (rec now block count : ℕ) (before after : Heard) (k : DoesWeb (three_of c) now (reads_drive c rec block count) None g h before after)
+    → DriveIsCalled c g h → StandsForSession a start d c g → said d.calls ≡ to_say (session_talker a.info) a.conn.isn d → DriveTaskComes a start d c h (let task : ReadTask = record { lba = block; blocks = count } in task) rec now k.ns
 
 -- The user closes them.
-abbrev pub ClosesCome : Type 0
-ClosesCome = (a : DriveAskParts) (start : ℕ) (d : Talk ReadTask) (c : DriveChain) (g h : Objects Obj) (cause : Cause) (ns : List Notice) → ClosesFetch (three_of c) g h cause ns
-    → AreCalled c g h → StandsForSession a start d c g
+abbrev pub DriveClosesCome : Type 0
+DriveClosesCome = (a : DriveAskParts) (start : ℕ) (d : Talk ReadTask) (c : DriveChain) (g h : Objects Obj) (cause : Cause) (ns : List Notice) → ClosesFetch (three_of c) g h cause ns
+    → DriveIsCalled c g h → StandsForSession a start d c g
     → (messages_of (told_below c.unit.0 ns) ≡ sends_say (link_of a.conn) 0 (without_try (closing_segment a.conn.isn (phase_of a.conn.isn d)) ∷ [])) × (told_above c.unit.0 ns ≡ [])

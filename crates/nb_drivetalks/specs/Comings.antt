@@ -1,10 +1,11 @@
 -- What comes of a begin, a segment, a time and a task: the messages to the network, what is handed up, the end, and what the three stand
 -- for then. Our own.
-use Rattle.std.specs.Prelude.{◌≡◌, ℕ, List, [], ◌∷◌, ◌++◌, length, drop, Option, Some, None}
+use Rattle.std.specs.Prelude.{◌≡◌, ℕ, false, List, [], ◌∷◌, ◌++◌, length, drop, Option, Some, None}
+use Rattle.std.specs.List.{AllByRecursion}
 use Rattle.nb_terms.specs.declared.cause.Cause.{Cause}
 use Rattle.nb_conns.specs.ConnAsks.{link_of}
 use Rattle.nb_conns.specs.ConnEffects.{place_says}
-use Rattle.nb_disk.specs.Histories.{DiskCall, SessionNumbers, reading}
+use Rattle.nb_disk.specs.Histories.{DiskCall, SessionNumbers, asked, came, reading, stream_ended}
 use Rattle.nb_disk.specs.DiskAnswers.{disk_answer, opened_of}
 use Rattle.nb_drivechains.specs.declared.drive_chain.DriveChain.{DriveChain}
 use Rattle.nb_drivenodes.specs.DriveAsks.{DriveAskParts}
@@ -22,7 +23,7 @@ use Rattle.nb_login.specs.Refusals.{zero_name, refusal_cause}
 use Rattle.nb_nodes.specs.declared.obj.Obj.{Obj}
 use Rattle.nb_opens.specs.Notices.{first_close}
 use Rattle.nb_retry.specs.declared.retry.Due.{Due}
-use Rattle.nb_sans.specs.Sessions.{ReadTask, session_come, drive_calls, session_talker}
+use Rattle.nb_sans.specs.Sessions.{ReadTask, session_come, drive_calls, session_end, session_talker}
 use Rattle.nb_streams.specs.Endings.{due_end, segment_end}
 use Rattle.nb_streams.specs.Flows.{TcpCall, conn_phase, time_came}
 use Rattle.nb_streams.specs.Segments.{Arrival}
@@ -49,8 +50,8 @@ say_unless None says = says
 say_unless (Some cause) says = []
 
 -- how far the stream has come, what the segment calls for, what its texts do, and the close of a session that has ended
-abbrev pub segment_says : DriveAskParts → Talk ReadTask → Arrival → ℕ → List Said
-segment_says a d m now =
+abbrev pub session_segment_says : DriveAskParts → Talk ReadTask → Arrival → ℕ → List Said
+session_segment_says a d m now =
     let t = session_talker a.info in
     let isn = a.conn.isn in
     let heard = receives isn d (by_segment m now) in
@@ -79,45 +80,61 @@ abbrev pub session_calls : LoginInfo → List ℕ → List (ReadTask × ℕ) →
 session_calls i stream tasks = calls_by i stream tasks (session_come 0 i stream)
 
 -- what is handed up of an open session where the stream comes further, by the calls of the drive that this adds
-abbrev pub handed_by : ℕ → (before after : List DiskCall) → Option Session → List Said
-handed_by rec before after None = []
-handed_by rec before after (Some s) = units_say rec s.chap (opened_of s) before (drop (length before) after)
+abbrev pub drive_hands : ℕ → (before after : List DiskCall) → Option Session → List Said
+drive_hands rec before after None = []
+drive_hands rec before after (Some s) = units_say rec s.chap (opened_of s) before (drop (length before) after)
 
 abbrev pub handed_up : ℕ → LoginInfo → (come later : List ℕ) → List (ReadTask × ℕ) → List Said
-handed_up rec i come later tasks = handed_by rec (session_calls i come tasks) (session_calls i later tasks) (session_come 0 i later)
+handed_up rec i come later tasks = drive_hands rec (session_calls i come tasks) (session_calls i later tasks) (session_come 0 i later)
+
+-- what comes of the stream is a call
+abbrev pub IsPart : DiskCall → Type 0
+IsPart (came rec p) = Unit {0}
+IsPart (asked lba n) = ⊥
+IsPart (stream_ended rec) = Unit {0}
+
+-- Where the stream had come to one place its session hadn't ended; an open one stays so, and where the stream comes to another place all
+-- calls that this adds are of what came of it.
+pub record AddsParts (i : LoginInfo) (come later : List ℕ) (tasks : List (ReadTask × ℕ)) : Type 0 where
+  pub lives : session_end 0 i come false tasks ≡ None
+  pub stays : (s : Session) → session_come 0 i come ≡ Some s → session_come 0 i later ≡ Some s
+  pub new : List DiskCall
+  pub grown : session_calls i later tasks ≡ session_calls i come tasks ++ new
+  pub each : AllByRecursion IsPart new
 
 -- WHAT COMES OF IT
 
 -- Of a segment: memory ran out; or it puts what its promise says, and hands up what has been answered, and the three go on.
-pub data SegmentComes (a : DriveAskParts) (start : ℕ) (d : Talk ReadTask) (c : DriveChain) (h : Objects Obj) (m : Arrival) (now : ℕ) (ns : List Notice) : Type 0 where
-  segment_lacks_memory : first_close ns ≡ Some no_memory → SegmentComes a start d c h m now ns
-  segment_comes_so : messages_of (told_below c.unit.0 ns) ≡ segment_says a d m now
+pub data DriveSegmentComes (a : DriveAskParts) (start : ℕ) (d : Talk ReadTask) (c : DriveChain) (h : Objects Obj) (m : Arrival) (now : ℕ) (ns : List Notice) : Type 0 where
+  segment_lacks_memory : first_close ns ≡ Some no_memory → DriveSegmentComes a start d c h m now ns
+  segment_comes_so : messages_of (told_below c.unit.0 ns) ≡ session_segment_says a d m now
       → told_above c.unit.0 ns ≡ handed_up m.rec a.info (come_of a.conn.isn d) (come_of a.conn.isn (receives a.conn.isn d (by_segment m now))) d.tasks
+      → AddsParts a.info (come_of a.conn.isn d) (come_of a.conn.isn (receives a.conn.isn d (by_segment m now))) d.tasks
       → first_close ns ≡ (segment_put (session_talker a.info) a.conn.isn d m now).over
       → (first_close ns ≡ None → StandsForSession a start (talks_on (session_talker a.info) a.conn.isn d (by_segment m now)) c h)
-      → SegmentComes a start d c h m now ns
+      → DriveSegmentComes a start d c h m now ns
 
 -- Of a time: memory ran out, or what the plan that runs fires is put, and the three go on or have ended.
-pub data TimeComes (a : DriveAskParts) (start : ℕ) (d : Talk ReadTask) (c : DriveChain) (h : Objects Obj) (now : ℕ) (ns : List Notice) : Type 0 where
-  time_lacks_memory : first_close ns ≡ Some no_memory → TimeComes a start d c h now ns
+pub data DriveTimeComes (a : DriveAskParts) (start : ℕ) (d : Talk ReadTask) (c : DriveChain) (h : Objects Obj) (now : ℕ) (ns : List Notice) : Type 0 where
+  time_lacks_memory : first_close ns ≡ Some no_memory → DriveTimeComes a start d c h now ns
   time_comes_so : (due : Due) → fired (timer_after a.conn.isn start (d.calls ++ time_came now ∷ [])) ≡ fired (timer_after a.conn.isn start d.calls) ++ due_fired now due
       → messages_of (told_below c.unit.0 ns) ≡ sends_say (link_of a.conn) 0 (due_sends a.conn.isn (phase_of a.conn.isn d) due) → told_above c.unit.0 ns ≡ []
       → first_close ns ≡ due_end (timer_after a.conn.isn start d.calls).plan due
-      → (first_close ns ≡ None → StandsForSession a start (talks_on (session_talker a.info) a.conn.isn d (by_time now)) c h) → TimeComes a start d c h now ns
+      → (first_close ns ≡ None → StandsForSession a start (talks_on (session_talker a.info) a.conn.isn d (by_time now)) c h) → DriveTimeComes a start d c h now ns
 
 -- Of a task: memory ran out, or what it brings to be said is put, and the three go on.
-pub data TaskComes (a : DriveAskParts) (start : ℕ) (d : Talk ReadTask) (c : DriveChain) (h : Objects Obj) (task : ReadTask) (rec now : ℕ) (ns : List Notice) : Type 0 where
-  task_lacks_memory : first_close ns ≡ Some no_memory → TaskComes a start d c h task rec now ns
+pub data DriveTaskComes (a : DriveAskParts) (start : ℕ) (d : Talk ReadTask) (c : DriveChain) (h : Objects Obj) (task : ReadTask) (rec now : ℕ) (ns : List Notice) : Type 0 where
+  task_lacks_memory : first_close ns ≡ Some no_memory → DriveTaskComes a start d c h task rec now ns
   task_comes_so : (let heard = receives a.conn.isn d (by_task task now) in
       messages_of (told_below c.unit.0 ns) ≡ sends_say (link_of a.conn) rec (said_sends (phase_of a.conn.isn heard) (unsaid (session_talker a.info) a.conn.isn heard)))
       → told_above c.unit.0 ns ≡ [] → first_close ns ≡ None
-      → StandsForSession a start (talks_on (session_talker a.info) a.conn.isn d (by_task task now)) c h → TaskComes a start d c h task rec now ns
+      → StandsForSession a start (talks_on (session_talker a.info) a.conn.isn d (by_task task now)) c h → DriveTaskComes a start d c h task rec now ns
 
 -- Of a begin: memory ran out; a name that would be sent has a zero byte; or the SYN is sent, and the three stand for a talk that was given
 -- its login's first request.
-pub data BeginComes (q : DriveAskParts) (c : DriveChain) (h : Objects Obj) (rec now : ℕ) (ns : List Notice) : Type 0 where
-  begin_lacks_memory : first_close ns ≡ Some no_memory → BeginComes q c h rec now ns
+pub data DriveBeginComes (q : DriveAskParts) (c : DriveChain) (h : Objects Obj) (rec now : ℕ) (ns : List Notice) : Type 0 where
+  begin_lacks_memory : first_close ns ≡ Some no_memory → DriveBeginComes q c h rec now ns
   begin_is_refused : (name : SentName) → zero_name q.info ≡ Some name → messages_of (told_below c.unit.0 ns) ≡ [] → told_above c.unit.0 ns ≡ []
-      → first_close ns ≡ Some (refusal_cause (ZeroByte name)) → BeginComes q c h rec now ns
+      → first_close ns ≡ Some (refusal_cause (ZeroByte name)) → DriveBeginComes q c h rec now ns
   begin_comes_so : zero_name q.info ≡ None → messages_of (told_below c.unit.0 ns) ≡ sends_say (link_of q.conn) rec (with_first_try (syn q.conn.isn) ∷ []) → told_above c.unit.0 ns ≡ []
-      → first_close ns ≡ None → StandsForSession q now (begun_talk (session_talker q.info) q.conn.isn now) c h → BeginComes q c h rec now ns
+      → first_close ns ≡ None → StandsForSession q now (begun_talk (session_talker q.info) q.conn.isn now) c h → DriveBeginComes q c h rec now ns

@@ -16,7 +16,7 @@ use Rattle.nb_nodes.specs.declared.obj.Obj.{Obj}
 use Rattle.nb_opens.specs.Notices.{tells}
 use Rattle.nb_webchains.specs.Orders.{AreNoCalls, LeavesOnEntry}
 use Rattle.nb_webchains.specs.WebCalls.{AreShort, ClosesFetch, DoesWeb}
-use Rattle.nb_drivetalks.specs.Calls.{AreCalled}
+use Rattle.nb_drivetalks.specs.Calls.{DriveIsCalled}
 use Rattle.nb_drivetalks.specs.Tellings.{told_below}
 
 -- Where the connection, x, is entered so from outside, that is the first notice, and the only such entry. The unit is u.
@@ -33,8 +33,8 @@ pub data BeginsDrive (c : DriveChain) : Option GraphEvent → List (Stage Obj Lo
 -- A message of the user, a segment and a time are told so.
 abbrev pub StandInOrderEach : Type 0
 StandInOrderEach = (c : DriveChain) (g h : Objects Obj) (now : ℕ) (asks : List (Stage Obj Load)) (entry : Option GraphEvent) (before after : Heard) (k : DoesWeb (three_of c) now asks entry g h before after)
-    → AreCalled c g h → BeginsDrive c entry asks → AreShort asks → StandInDriveOrder c.unit.0 c.conn.0 entry k.ns
+    → DriveIsCalled c g h → BeginsDrive c entry asks → AreShort asks → StandInDriveOrder c.unit.0 c.conn.0 entry k.ns
 
 -- So is a close.
 abbrev pub CloseInOrder : Type 0
-CloseInOrder = (c : DriveChain) (g h : Objects Obj) (cause : Cause) (ns : List Notice) → ClosesFetch (three_of c) g h cause ns → AreCalled c g h → StandInDriveOrder c.unit.0 c.conn.0 None ns
+CloseInOrder = (c : DriveChain) (g h : Objects Obj) (cause : Cause) (ns : List Notice) → ClosesFetch (three_of c) g h cause ns → DriveIsCalled c g h → StandInDriveOrder c.unit.0 c.conn.0 None ns

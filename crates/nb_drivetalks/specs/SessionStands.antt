@@ -28,14 +28,14 @@ use Rattle.nb_webchains.specs.WebChains.{web_graph}
 use Rattle.nb_webtalks.specs.TalkStands.{HasHadCalls}
 
 -- a login that goes on was given the PDUs of this stream, whichever records brought them; or the session is open
-abbrev pub HasRead : DriveAskParts → List ℕ → SessionTalk → Type 0
-HasRead a stream session_unasked = ⊥
-HasRead a stream (logging_in b taken h) =
+abbrev pub SessionHasRead : DriveAskParts → List ℕ → SessionTalk → Type 0
+SessionHasRead a stream session_unasked = ⊥
+SessionHasRead a stream (logging_in b taken h) =
     (b ≡ a) × (taken ≡ stream) × (login_ended h ≡ false) × ((ms : List PduCame) × (h ≡ login_history a.info ms) × (map (λ (m : PduCame). m.pdu) ms ≡ (cut stream).pdus))
-HasRead a stream (in_session b taken h) = (b ≡ a) × (taken ≡ stream) × ((s : Session) × (session_come 0 a.info stream ≡ Some s))
-HasRead a stream (session_drained b taken h) = ⊥
-HasRead a stream (login_failed b taken h over) = ⊥
-HasRead a stream session_cut = ⊥
+SessionHasRead a stream (in_session b taken h) = (b ≡ a) × (taken ≡ stream) × ((s : Session) × (session_come 0 a.info stream ≡ Some s))
+SessionHasRead a stream (session_drained b taken h) = ⊥
+SessionHasRead a stream (login_failed b taken h over) = ⊥
+SessionHasRead a stream session_cut = ⊥
 
 -- a unit waits for the session, or had each PDU of an open one, and each task that it takes, and goes on
 abbrev pub HasWorked : DriveAskParts → List ℕ → List (ReadTask × ℕ) → UnitTalk → Type 0
@@ -55,7 +55,7 @@ pub record StandsForSession (a : DriveAskParts) (start : ℕ) (d : Talk ReadTask
   pub session : ObjectStands ObjStands (web_graph (three_of c) g) c.session.0 between
   pub conn : ObjectStands ObjStands (web_graph (three_of c) g) c.conn.0 below
   pub worked : (f : UnitTalk) → UnitTalksTo text_carrier unit_unasked above f → HasWorked a (come_of a.conn.isn d) d.tasks f
-  pub took : (f : SessionTalk) → SessionTalksTo text_carrier session_unasked between f → HasRead a (come_of a.conn.isn d) f
+  pub took : (f : SessionTalk) → SessionTalksTo text_carrier session_unasked between f → SessionHasRead a (come_of a.conn.isn d) f
   pub called : (f : Dialogue) → ConversesTo conn_carrier unopened below f → HasHadCalls a.conn start d.calls f
   pub lun : length a.info.lun ≡ 8
   pub unended : has_ended (talk_held a.conn.isn d) ≡ false
