@@ -18,7 +18,6 @@ use Rattle.nb_laws.specs.Lists.{Opening, openings, open_has_ended, gathered, liv
 use Rattle.nb_openlaws.specs.Standings.{AgreesStanding, AgreesState, HaveOwnNumbers, AreLive, lives_among, live_opening}
 use Rattle.nb_lawful.proofs.Devices.{DeviceAgrees}
 use Rattle.nb_openlaws.proofs.HeardFrames.{found}
-use Rattle.nb_lawful.proofs.Solitude.{Solitude}
 use Rattle.nb_openlaws.proofs.UsedEvents.{IsUsed, no_call}
 use Rattle.nb_traced.specs.Entries.{came_to}
 use Rattle.nb_traced.specs.Outputs.{Arrived}
@@ -56,7 +55,7 @@ no_segments : (e : Event) (t : ℕ) (os : List Opening) → flat_map (segment_ar
 no_segments e t [] = refl
 no_segments e t (o ∷ os) = no_segments e t os
 
-time_arrives : (k : ℕ) (es : List Event) (n ms : ℕ) → arrival_at k es (waits n ms) ≡ map (λ c. record { number = n; way = way_of c }) (call_at k es (waits n ms))
+pub time_arrives : (k : ℕ) (es : List Event) (n ms : ℕ) → arrival_at k es (waits n ms) ≡ map (λ c. record { number = n; way = way_of c }) (call_at k es (waits n ms))
 time_arrives k es n ms =
     ap (λ z. map (λ c. record { number = n; way = way_of c }) (call_at k es (waits n ms)) ++ z) (no_segments (waits n ms) (time es + ms) (live k es)) ∙ append-nil (map (λ c. record { number = n; way = way_of c }) (call_at k es (waits n ms)))
 
@@ -82,9 +81,9 @@ time_enters es n ms (l ∷ ls) more h others first = record {
 
 time_comes : (es : List Event) (s : State) (n : ℕ) (r : In) (ms : ℕ) (came : List Arrived) (more : List Out) → tick ms ≡ r → AgreesState es s → ArrivesAt s n r came → BeginsWithEntry came more → StepComes es (waits n ms) came more
 time_comes es s n r ms came more same a (at_none r0 where0 b0 link m0 (on_net0 b) got is none) first = absurd (let no : tick ms ≡ frame b = same in cc)
-time_comes es s n r ms came more same a (at_port r0 where0 b0 link p d before behind l (on_net0 b) got is lives here) first = absurd (let no : tick ms ≡ frame b = same in cc)
-time_comes es s n r ms came more same a (at_echo r0 where0 b0 link p x before behind l (on_net0 b) got is lives here) first = absurd (let no : tick ms ≡ frame b = same in cc)
-time_comes es s n r ms came more same a (at_connection r0 where0 b0 link from p g before behind l (on_net0 b) got is lives here) first = absurd (let no : tick ms ≡ frame b = same in cc)
+time_comes es s n r ms came more same a (at_port r0 where0 b0 link p d before behind l (on_net0 b) got is lives here front back) first = absurd (let no : tick ms ≡ frame b = same in cc)
+time_comes es s n r ms came more same a (at_echo r0 where0 b0 link p x before behind l (on_net0 b) got is lives here front back) first = absurd (let no : tick ms ≡ frame b = same in cc)
+time_comes es s n r ms came more same a (at_connection r0 where0 b0 link from p g before behind l (on_net0 b) got is lives here front back) first = absurd (let no : tick ms ≡ frame b = same in cc)
 time_comes es s n r ms came more same a (at_all ms0) first = record {
   counted = λ k. time_counted es s n ms k a;
   starts_so = time_enters es n ms s.live more a.each a.others first;
@@ -93,7 +92,7 @@ time_comes es s n r ms came more same a (at_all ms0) first = record {
 
 -- THE END
 
-none_first : (k : ℕ) → live k [] ≡ []
+pub none_first : (k : ℕ) → live k [] ≡ []
 unfolding live openings open_has_ended gathered
 none_first k = refl
 
@@ -114,17 +113,17 @@ shuts_live es (course.stopped s) outs a h = λ k o lives. h (some_live es s k o 
 
 -- EACH RECORD
 
-frame_standing : (es : List Event) (p : Standing) (n : ℕ) (bytes : List ℕ) (m : Brought) (came : List Arrived) (more : List Out) → Solitude es → AgreesStanding es p → DeviceAgrees es p → IsRead es (hears n bytes m) →
+frame_standing : (es : List Event) (p : Standing) (n : ℕ) (bytes : List ℕ) (m : Brought) (came : List Arrived) (more : List Out) → AgreesStanding es p → DeviceAgrees es p → IsRead es (hears n bytes m) →
     BringsTo (frame bytes) n p came → BeginsWithEntry came more → StepComes es (hears n bytes m) came more
-frame_standing es (course.waiting s w) n bytes m came more a agrees device read at first = frame_comes es s n (frame bytes) bytes m came more refl a agrees device read at first
-frame_standing es (course.yielded s inner outer) n bytes m came more a agrees device read at first = frame_comes es s n (frame bytes) bytes m came more refl a agrees device read at first
-frame_standing es course.ready n bytes m came more a agrees device read at first = absurd at
-frame_standing es (course.running s inner outer) n bytes m came more a agrees device read at first = absurd at
-frame_standing es (course.reaching s inner outer next) n bytes m came more a agrees device read at first = absurd at
-frame_standing es (course.handing s rest) n bytes m came more a agrees device read at first = absurd at
-frame_standing es (course.left s outer cause) n bytes m came more a agrees device read at first = absurd at
-frame_standing es (course.handed_off s) n bytes m came more a agrees device read at first = absurd at
-frame_standing es (course.stopped s) n bytes m came more a agrees device read at first = absurd at
+frame_standing es (course.waiting s w) n bytes m came more agrees device read at first = frame_comes es s n (frame bytes) bytes m came more refl agrees device read at first
+frame_standing es (course.yielded s inner outer) n bytes m came more agrees device read at first = frame_comes es s n (frame bytes) bytes m came more refl agrees device read at first
+frame_standing es course.ready n bytes m came more agrees device read at first = absurd at
+frame_standing es (course.running s inner outer) n bytes m came more agrees device read at first = absurd at
+frame_standing es (course.reaching s inner outer next) n bytes m came more agrees device read at first = absurd at
+frame_standing es (course.handing s rest) n bytes m came more agrees device read at first = absurd at
+frame_standing es (course.left s outer cause) n bytes m came more agrees device read at first = absurd at
+frame_standing es (course.handed_off s) n bytes m came more agrees device read at first = absurd at
+frame_standing es (course.stopped s) n bytes m came more agrees device read at first = absurd at
 
 time_standing : (es : List Event) (p : Standing) (n ms : ℕ) (came : List Arrived) (more : List Out) → AgreesStanding es p → BringsTo (tick ms) n p came → BeginsWithEntry came more → StepComes es (waits n ms) came more
 time_standing es (course.waiting s w) n ms came more agrees at first = time_comes es s n (tick ms) ms came more refl agrees at first
@@ -152,20 +151,20 @@ off_comes es p n came more agrees none first = subst (λ z. StepComes es (stops 
 })
 
 -- a record is used
-pub step_comes : (es : List Event) (p : Standing) (r : In) (n : ℕ) (came : List Arrived) (more : List Out) (e : Event) → Solitude es → AgreesStanding es p → DeviceAgrees es p → IsUsed e → used_by e ≡ r ∷ [] →
+pub step_comes : (es : List Event) (p : Standing) (r : In) (n : ℕ) (came : List Arrived) (more : List Out) (e : Event) → AgreesStanding es p → DeviceAgrees es p → IsUsed e → used_by e ≡ r ∷ [] →
     written_by e ≡ step n → IsRead es e → StandsFirst r p came more → BringsTo r n p came → StepComes es e came more
-step_comes es p r n came more (puts o) a agrees device used is number read first at = absurd used
-step_comes es p r n came more (starts k s) a agrees device used is number read first at =
+step_comes es p r n came more (puts o) agrees device used is number read first at = absurd used
+step_comes es p r n came more (starts k s) agrees device used is number read first at =
     let same : start s ≡ r = cc in
     first_comes es k s came more (subst (λ z. BringsTo z n p came) (sym same) at) (subst (λ z. StandsFirst z p came more) (sym same) first)
-step_comes es p r n came more (hears k bytes m) a agrees device used is number read first at =
+step_comes es p r n came more (hears k bytes m) agrees device used is number read first at =
     let same : frame bytes ≡ r = cc in
     let it : n ≡ k = cc in
-    frame_standing es p k bytes m came more a agrees device read (subst (λ z. BringsTo (frame bytes) z p came) it (subst (λ z. BringsTo z n p came) (sym same) at)) (subst (λ z. StandsFirst z p came more) (sym same) first)
-step_comes es p r n came more (waits k ms) a agrees device used is number read first at =
+    frame_standing es p k bytes m came more agrees device read (subst (λ z. BringsTo (frame bytes) z p came) it (subst (λ z. BringsTo z n p came) (sym same) at)) (subst (λ z. StandsFirst z p came more) (sym same) first)
+step_comes es p r n came more (waits k ms) agrees device used is number read first at =
     let same : tick ms ≡ r = cc in
     let it : n ≡ k = cc in
     time_standing es p k ms came more agrees (subst (λ z. BringsTo (tick ms) z p came) it (subst (λ z. BringsTo z n p came) (sym same) at)) (subst (λ z. StandsFirst z p came more) (sym same) first)
-step_comes es p r n came more (stops k) a agrees device used is number read first at =
+step_comes es p r n came more (stops k) agrees device used is number read first at =
     let same : off ≡ r = cc in
     off_comes es p k came more agrees (subst (λ z. BringsTo z n p came) (sym same) at) (subst (λ z. StandsFirst z p came more) (sym same) first)

@@ -6,7 +6,7 @@ use Rattle.nb_defs.specs.Records.{In, start, frame, tick, off, Out, step}
 use Rattle.nb_stack.specs.Brings.{Brings}
 use Rattle.nb_stack.proofs.MessageLaws.{message_one}
 use Rattle.nb_traced.specs.Plain.{is_graph, without_graph}
-use Rattle.nb_laws.specs.Events.{Event, starts, hears, waits, stops, puts, used_by, written_by, put_one, inputs, outputs, EachEvent}
+use Rattle.nb_laws.specs.Events.{Event, starts, hears, waits, stops, puts, used_by, written_by, put_one, inputs, outputs, EachEvent, EachThen}
 use Rattle.nb_laws.specs.Histories.{IsRead, IsHistory, client}
 use Rattle.nb_openlaws.proofs.UsedEvents.{IsUsed}
 use Rattle.nb_laws.proofs.Tellings.{told}
@@ -111,6 +111,11 @@ each_first P before (x ∷ xs) ys all = (all.0, each_first P (before ++ x ∷ []
 pub each_last : (P : List Event → Event → Type 0) (before xs ys : List Event) → EachEvent P before (xs ++ ys) → EachEvent P (before ++ xs) ys
 each_last P before [] ys all = subst (λ z. EachEvent P z ys) (sym (append-nil before)) all
 each_last P before (x ∷ xs) ys all = subst (λ z. EachEvent P z ys) (append_assoc before (x ∷ []) xs) (each_last P (before ++ x ∷ []) xs ys all.1)
+
+-- the same, of what stands after each
+pub each_then_last : (P : List Event → Event → List Event → Type 0) (before xs ys : List Event) → EachThen P before (xs ++ ys) → EachThen P (before ++ xs) ys
+each_then_last P before [] ys all = subst (λ z. EachThen P z ys) (sym (append-nil before)) all
+each_then_last P before (x ∷ xs) ys all = subst (λ z. EachThen P z ys) (append_assoc before (x ∷ []) xs) (each_then_last P (before ++ x ∷ []) xs ys all.1)
 
 -- A RUN'S HISTORY GOES ON
 

@@ -4,7 +4,7 @@ use Rattle.nb_defs.specs.Records.{Out, step, sent, text, command, result, script
 use Rattle.nb_laws.specs.Events.{Event, starts, hears, waits, stops, puts, written_by, outputs}
 use Rattle.nb_laws.specs.Lists.{Opening, opening_at, openings, is_end_of, open_has_ended, live}
 use Rattle.nb_laws.proofs.Tellings.{openings_more}
-use Rattle.nb_lawful.proofs.Solitude.{Solitude}
+use Rattle.nb_lawful.proofs.Solitude.{Solitude, one_live}
 use Rattle.nb_traced.specs.Openings.{HasNoEnd, IsNoEnd}
 use Rattle.nb_traced.specs.Places.{IsWithinOpen}
 use Rattle.nb_boot.specs.Entries.{is_of_graph, plain}
@@ -110,7 +110,7 @@ live_going k es going = ap (λ b. cond b [] (openings k es)) going
 
 -- so it lives
 pub lives_within : (k : ℕ) (w : List Event) → Solitude (plain w) → IsWithinOpen k (outputs w) → (o : Opening) × (live k (plain w) ≡ o ∷ [])
-lives_within k w a within = elim (a.one k) [
+lives_within k w a within = elim (one_live (plain w) a k) [
   | inl none ↦
       absurd (was_opened w k within.begun.kind within.begun.server within.begun.port within.begun.own within.begun.target within.begun.before within.since within.begun.all
       (sym (live_going k (plain w) (not_ended k w within.goes_on)) ∙ none))

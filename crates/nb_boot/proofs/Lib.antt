@@ -21,12 +21,14 @@ pub mod Completeness
 pub mod Determining
 pub mod EntryHistories
 pub mod EntryAlone
+pub mod EntryMoves
 pub mod EntryComings
 pub mod EntryFrames
 pub mod EntryArrivals
 pub mod EntryOpens
 pub mod EntryPlaces
 pub mod EntrySteps
+pub mod Booted
 pub mod Showing
 mod PortLemmas
 mod PeerLemmas

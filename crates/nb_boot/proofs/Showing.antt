@@ -25,6 +25,8 @@ use Rattle.nb_client.specs.Progressing.{ShutsStanding}
 use Rattle.nb_boot.specs.Stepped.{ShutsLive}
 use Rattle.nb_boot.specs.Run.{Run, IsOver, Says, Shows}
 use Rattle.nb_boot.specs.Shown.{EndsWhere, was_left, was_handed, was_stopped, ran_out, was_bad, was_full, SaysOfGraph, LeadsToNone, Shown, RunHasEnded, HandsTrueFiles, IsSaid, ShowsCourse}
+use Rattle.nb_boot.proofs.Booted.{boots_silently}
+use Rattle.nb_boot.proofs.EntryAlone.{course_known}
 use Rattle.nb_boot.proofs.EntryArrivals.{shuts_live}
 use Rattle.nb_boot.proofs.EntrySteps.{run_agrees}
 use Rattle.nb_boot.proofs.Following.{follows_course}
@@ -98,6 +100,7 @@ shown_by before after r =
       stepped = (run_agrees r.ins r.outs r.closing r.progress r.came r.holdings r.at_end es r.follows r.traced r.traced_all is).0;
       shuts = either_shuts es r.progress.standing r.closing (stands_so r.ins (without_graph r.outs) r.progress es course is).0 r.shuts;
       contents = (run_agrees r.ins r.outs r.closing r.progress r.came r.holdings r.at_end es r.follows r.traced r.traced_all is).1;
+      silent = boots_silently es (course_known r.ins (without_graph r.outs) r.progress es course is);
     }
 
 ended_by : (before after : Outside) (r : Run before after) (number : ℕ) → IsOver before after r number → RunHasEnded before after (shown_by before after r) number

@@ -1,6 +1,6 @@
 -- What the records of the object graph say of the contents of entries, for objects of any kind and chains of any length: what enters the
 -- lowest object of an open is what the open received, and what goes down out of it is what was put.
-use Rattle.std.specs.Prelude.{◌≡◌, ℕ, Bool, false, not, List, [], ◌∷◌, ◌++◌, map, filter, Some}
+use Rattle.std.specs.Prelude.{◌≡◌, ◌⊎◌, ℕ, Bool, true, false, not, List, [], ◌∷◌, ◌++◌, map, filter, Some}
 use Rattle.std.specs.List.{flat_map}
 use Rattle.nb_defs.specs.Records.{Out, step, sent, tried}
 use Rattle.nb_stack.specs.Brings.{Brought}
@@ -10,7 +10,8 @@ use Rattle.nb_talks.specs.Talking.{Came, by_segment, by_time, by_task}
 use Rattle.nb_webs.specs.Webs.{NoTask}
 use Rattle.nb_laws.specs.Events.{Event, starts, hears, waits, stops, puts, outputs, EachEvent}
 use Rattle.nb_laws.specs.Histories.{client}
-use Rattle.nb_laws.specs.Lists.{gathered, call_at}
+use Rattle.nb_laws.specs.Lists.{Opening, live, gathered, call_at}
+use Rattle.nb_laws.specs.Hookings.{serves_drive}
 use Rattle.nb_laws.specs.Webs.{came_at, ComesToNone}
 use Rattle.nb_laws.specs.Frames.{IsSent}
 use Rattle.nb_traced.specs.Plain.{is_graph}
@@ -56,10 +57,22 @@ pub record IsReplied (es : List Event) (bytes : List ℕ) : Type 0 where
   pub alone : ComesToNone before message
   pub reply : bytes ≡ reply_of (client before) message
 
+-- the last of these records is no TRY
+abbrev pub IsUntried : List Out → Type 0
+IsUntried outs = (before : List Out) (k count : ℕ) → outs ≡ before ++ tried k count ∷ [] → ⊥
+
+-- another open lives beside open k, and one of the two is that of a hooked drive
+pub record LivesBeside (j k : ℕ) (es : List Event) : Type 0 where
+  pub opening : Opening
+  pub lives : live j es ≡ opening ∷ []
+  pub other : j ≡ k → ⊥
+  pub drive : (serves_drive j es ≡ true) ⊎ (serves_drive k es ≡ true)
+
 -- Why a FRAME stands after these records, which without those of the graph are this history: an open may send it, and the entry that runs is
--- its lowest object's; or it is a reply, and none runs.
+-- its lowest object's; or, beside a hooked drive and directly after no TRY, that of another open that lives; or it is a reply, and none runs.
 pub data FrameLeaves (outs : List Out) (es : List Event) (bytes : List ℕ) : Type 0 where
   by_entry : (k : ℕ) → RunsInEntry k outs → IsSent k es bytes → FrameLeaves outs es bytes
+  by_entry_beside : (j k : ℕ) → RunsInEntry j outs → IsSent k es bytes → LivesBeside j k es → IsUntried outs → FrameLeaves outs es bytes
   by_reply : IsOutside outs → IsReplied es bytes → FrameLeaves outs es bytes
 
 -- a history without the records of the graph
@@ -88,7 +101,8 @@ pub record EntriesAgree (outs closing : List Out) (history : List Event) : Type 
   pub without : plain whole ≡ history
   -- the lowest object of each open is entered from outside once for each datagram, echo reply, segment and time that comes to the open, in that step
   pub entered : (k : ℕ) → entries k outs ≡ arrivals k history
-  -- what it sends stands within those entries, or those of its beginning and its close, and nothing that an open sends stands elsewhere
+  -- what it sends stands within those entries, or those of its beginning and its close, and nothing that an open sends stands elsewhere; but beside
+  -- a hooked drive what it sends without a TRY may stand within those of another that lives
   pub leaves : EachEvent LeavesSo [] whole
   -- no two opens have the same lowest object
   pub own : (j k x : ℕ) → (graph_so_far (outs ++ closing)).lowest j ≡ Some x → (graph_so_far (outs ++ closing)).lowest k ≡ Some x → j ≡ k

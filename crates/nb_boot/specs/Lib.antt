@@ -2,6 +2,7 @@ pub mod Words
 pub mod InTurn
 pub mod Entries
 pub mod Stepped
+pub mod Booting
 pub mod Shown
 pub mod Following
 pub mod Run

@@ -24,6 +24,7 @@ use Rattle.nb_traced.specs.Places.{LowestAreTheirs, LowestAreOwn, FramesStand, T
 use Rattle.nb_boot.specs.InTurn.{MayGoOn, AreInTurn}
 use Rattle.nb_boot.specs.Stepped.{AreStepped, ShutsLive}
 use Rattle.nb_boot.specs.Entries.{EntriesAgree}
+use Rattle.nb_boot.specs.Booting.{BootsSilently}
 use Rattle.nb_traced.specs.Whose.{EventsAreTheirs, MadesAreTheirs, OpensTakeAll, PutsFollow}
 
 -- a record other than START
@@ -167,6 +168,8 @@ pub record Shown (before after : Outside) : Type 0 where
   pub shuts : (closing ≡ []) ⊎ ShutsLive history closing
   -- what enters the lowest object of each open is what came to that, and what goes down out of it is what was put
   pub contents : EntriesAgree outs closing history
+  -- where no drive is hooked as a command boots, no FRAME stands after its RESULT
+  pub silent : BootsSilently history
 
 -- the run has ended, for a cause of this number, and all was taken, DONE last; no object of the graph lives then
 pub record RunHasEnded (before after : Outside) (r : Shown before after) (number : ℕ) : Type 0 where

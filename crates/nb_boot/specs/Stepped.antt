@@ -13,6 +13,7 @@ use Rattle.nb_machine.specs.CommandRecords.{stopped_cause}
 use Rattle.nb_network.specs.Takes.{ClosesFirst}
 use Rattle.nb_laws.specs.Events.{Event, starts, hears, waits, stops, puts, used_by, written_by}
 use Rattle.nb_laws.specs.Histories.{IsHistory, IsRead}
+use Rattle.nb_laws.specs.Hookings.{OnlyDrivesLive}
 use Rattle.nb_laws.specs.Lists.{Opening, live}
 
 -- the first of these records says that an object is entered so
@@ -26,10 +27,6 @@ pub record EntersFirst (by : Way) (outs : List Out) : Type 0 where
 pub record EntersWith (by : Way) (comes : ℕ → List EntryArrival) (more : List Out) : Type 0 where
   pub enters : (k : ℕ) (arrival : EntryArrival) (rest : List EntryArrival) → comes k ≡ arrival ∷ rest → EntersFirst by more
   pub still : ((k : ℕ) → comes k ≡ []) → without_graph more ≡ more
-
--- no open lives
-abbrev pub NoneLives : List Event → Type 0
-NoneLives es = (k : ℕ) → live k es ≡ []
 
 -- where an open lives, these records begin with the first close of the graph's end
 abbrev pub ShutsLive : List Event → List Out → Type 0
@@ -45,11 +42,11 @@ StartsSo before (stops n) more = ShutsLive before more
 StartsSo before (puts o) more = ⊥
 
 -- The records used and all the records written, those of the graph among them: each record's STEP has its number, and the step begins so; more comes in a
--- step only where no open lives. So after the beginning of a step in which an open goes on the next STEP stands.
+-- step only where no open lives but those of hooked drives. So after the beginning of a step in which an open of a command goes on the next STEP stands.
 pub data AreStepped : List In → List Out → Type 0 where
   nothing : AreStepped [] []
   uses : (ins : List In) (outs : List Out) (before : List Event) (r : In) (e : Event) (number : ℕ) (more : List Out) →
       AreStepped ins outs → IsHistory ins (without_graph outs) before → used_by e ≡ r ∷ [] → written_by e ≡ step number → IsRead before e → StartsSo before e more →
       AreStepped (ins ++ r ∷ []) (outs ++ (step number ∷ more))
   goes_on : (ins : List In) (outs : List Out) (before : List Event) (added : List Out) →
-      AreStepped ins outs → IsHistory ins (without_graph outs) before → NoneLives before → AreStepped ins (outs ++ added)
+      AreStepped ins outs → IsHistory ins (without_graph outs) before → OnlyDrivesLive before → AreStepped ins (outs ++ added)

@@ -18,7 +18,7 @@ use Rattle.nb_opens.proofs.LoneDoes.{ask_does}
 use Rattle.nb_opens.proofs.LoneStarts.{IsKind, look_kind, lease_kind, ping_kind}
 use Rattle.nb_chains.specs.declared.chain.Chain.{Chain}
 use Rattle.nb_chains.specs.declared.kind.ChainKind.{ChainKind}
-use Rattle.nb_chains.specs.declared.kind.ChainKind.TheVariants.{File, Name, Lease, Echo}
+use Rattle.nb_chains.specs.declared.kind.ChainKind.TheVariants.{File, Name, Lease, Echo, Drive}
 use Rattle.nb_chains.specs.Calls.{BeginsChain, BeginsOne, BeginsTwo, ComesOf, IsAsk}
 use Rattle.nb_chains.specs.Chains.{IsReadyChain, chain_ids, last_serial, own_graph}
 use Rattle.nb_chains.specs.Shapes.{HasShapeOrFails}
@@ -57,12 +57,14 @@ module _ (c : Chain) (g h : Objects Obj) (m n : Heard) (now rec : ℕ) (bytes : 
   begins_shape Name r a = at_top c (λ x. None) z.ns r.0 (one_begun lookup_service 5 (own_graph c h) c.top.0 a.0 now rec z.ns (looks a.0 a.1 r.1))
   begins_shape Lease r a = at_top c (λ x. None) z.ns r.0 (one_begun lease_service 6 (own_graph c h) c.top.0 a.0 now rec z.ns (leases a.0 a.1 r.1))
   begins_shape Echo r a = at_top c (λ x. None) z.ns r.0 (one_begun ping_service 7 (own_graph c h) c.top.0 a.0 now rec z.ns (pings a.0 a.1 r.1))
+  begins_shape Drive r a = absurd a
 
   begins_so : (kind : ChainKind) → IsReadyChain kind c g → IsAsk kind bytes → ComesOf kind c h z.ns
   begins_so File r a = two_begins c h r.0 r.1 (begun_with a.0) now rec z.ns (begins_two r.0 a.0 r.1 r.2 a.1)
   begins_so Name r a = one_begins c h r.0 Name lookup_service 5 (λ d. (r.0, d)) a.0 now rec z.ns refl (looks a.0 a.1 r.1)
   begins_so Lease r a = one_begins c h r.0 Lease lease_service 6 (λ d. (r.0, d)) a.0 now rec z.ns refl (leases a.0 a.1 r.1)
   begins_so Echo r a = one_begins c h r.0 Echo ping_service 7 (λ d. (r.0, d)) a.0 now rec z.ns refl (pings a.0 a.1 r.1)
+  begins_so Drive r a = absurd a
 
   pub begins_chain : BeginsChain c g h bytes now rec m n
   begins_chain = record { ns = z.ns; gives = z.gives; file = begins_two; lookup = looks; lease = leases; echo = pings; shape = begins_shape; comes = begins_so }

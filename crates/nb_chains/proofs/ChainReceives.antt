@@ -26,7 +26,7 @@ use Rattle.nb_tftp.specs.History.{came, ticked}
 use Rattle.nb_tftp.specs.Received.{received}
 use Rattle.nb_chains.specs.declared.chain.Chain.{Chain}
 use Rattle.nb_chains.specs.declared.kind.ChainKind.{ChainKind}
-use Rattle.nb_chains.specs.declared.kind.ChainKind.TheVariants.{File, Name, Lease, Echo}
+use Rattle.nb_chains.specs.declared.kind.ChainKind.TheVariants.{File, Name, Lease, Echo, Drive}
 use Rattle.nb_chains.specs.Calls.{CallsTwo, ComesOf, IsChainUnderWay, ReceivesAny, ReceivesChain, ReceivesOne, TicksAny, TicksChain, TicksOne}
 use Rattle.nb_chains.specs.Chains.{AreChained, chain_ids, last_below, last_serial, own_graph, source_for}
 use Rattle.nb_chains.specs.Shapes.{HasShapeOrFails}
@@ -84,12 +84,14 @@ module _ (c : Chain) (g h : Objects Obj) (m n : Heard) (now rec port source : �
       at_top c from_below z.ns e (one_receives lease_service 6 (own_graph c h) c.top.0 b lease_gives start calls said now z.ns ((receives_one e).lease b start calls d))
   receives_shape Echo (e, (b, start, calls, d)) =
       at_top c from_below z.ns e (one_receives ping_service 7 (own_graph c h) c.top.0 b ping_gives start calls said now z.ns ((receives_one e).ping b start calls d))
+  receives_shape Drive u = absurd u
 
   receives_so : (kind : ChainKind) → IsChainUnderWay kind c g → ComesOf kind c h z.ns
   receives_so File (t, e, (b, start, calls, body, d)) = two_comes c h t e b start calls body (port_at t.0 1) way.Up rec (came (received rec port bytes) now) z.ns (receives_two t e b start calls body d)
   receives_so Name (e, (b, start, calls, d)) = one_receives_so c h e Name lookup_service 5 (λ w. (e, w)) b start calls said now z.ns ((receives_one e).lookup b start calls d)
   receives_so Lease (e, (b, start, calls, d)) = one_receives_so c h e Lease lease_service 6 (λ w. (e, w)) b start calls said now z.ns ((receives_one e).lease b start calls d)
   receives_so Echo (e, (b, start, calls, d)) = one_receives_so c h e Echo ping_service 7 (λ w. (e, w)) b start calls said now z.ns ((receives_one e).ping b start calls d)
+  receives_so Drive u = absurd u
 
   pub receives_chain : ReceivesChain c g h rec (came (received rec port bytes) now) said now m n
   receives_chain = record { ns = z.ns; gives = z.gives; file = receives_two; one = receives_one; shape = receives_shape; comes = receives_so }
@@ -122,12 +124,14 @@ module _ (c : Chain) (g h : Objects Obj) (m n : Heard) (now : ℕ) (z : ChainCal
       at_top c by_time z.ns e (one_asks lease_service 6 (own_graph c h) c.top.0 b lease_gives start calls (port_at c.top.0 4) way.Time 0 _ z.ns ((ticks_one e).lease b start calls d))
   ticks_shape Echo (e, (b, start, calls, d)) =
       at_top c by_time z.ns e (one_asks ping_service 7 (own_graph c h) c.top.0 b ping_gives start calls (port_at c.top.0 4) way.Time 0 _ z.ns ((ticks_one e).ping b start calls d))
+  ticks_shape Drive u = absurd u
 
   ticks_so : (kind : ChainKind) → IsChainUnderWay kind c g → ComesOf kind c h z.ns
   ticks_so File (t, e, (b, start, calls, body, d)) = two_comes c h t e b start calls body (port_at t.0 4) way.Time 0 (ticked now) z.ns (ticks_two t e b start calls body d)
   ticks_so Name (e, (b, start, calls, d)) = one_comes c h e Name lookup_service 5 (λ w. (e, w)) b start calls (port_at c.top.0 4) way.Time 0 _ z.ns ((ticks_one e).lookup b start calls d)
   ticks_so Lease (e, (b, start, calls, d)) = one_comes c h e Lease lease_service 6 (λ w. (e, w)) b start calls (port_at c.top.0 4) way.Time 0 _ z.ns ((ticks_one e).lease b start calls d)
   ticks_so Echo (e, (b, start, calls, d)) = one_comes c h e Echo ping_service 7 (λ w. (e, w)) b start calls (port_at c.top.0 4) way.Time 0 _ z.ns ((ticks_one e).ping b start calls d)
+  ticks_so Drive u = absurd u
 
   pub ticks_chain : TicksChain c g h (ticked now) now m n
   ticks_chain = record { ns = z.ns; gives = z.gives; file = ticks_two; one = ticks_one; shape = ticks_shape; comes = ticks_so }

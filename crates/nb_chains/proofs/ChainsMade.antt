@@ -20,7 +20,7 @@ use Rattle.nb_opens.specs.Notices.{tells, completed_notices}
 use Rattle.nb_opens.specs.Pairs.{AreMade, IsNewTftp}
 use Rattle.nb_chains.specs.declared.chain.Chain.{Chain}
 use Rattle.nb_chains.specs.declared.kind.ChainKind.{ChainKind}
-use Rattle.nb_chains.specs.declared.kind.ChainKind.TheVariants.{File, Name, Lease, Echo}
+use Rattle.nb_chains.specs.declared.kind.ChainKind.TheVariants.{File, Name, Lease, Echo, Drive}
 use Rattle.nb_chains.specs.Kinds.{IsLowerOf, top_mark, top_number, top_rank}
 use Rattle.nb_chains.specs.Chains.{Awaits, GrowsBy, IsFresh, IsReadyChain, below_ids, chain_ids, completes_notices, waits_notices}
 use Rattle.nb_chains.specs.Giving.{CallGives, IsMakeWithin, MakingGives}
@@ -52,6 +52,7 @@ ready_so File c g noded w h = absurd h
 ready_so Name c g noded w h = (w.alone, subst (λ (b : Option ObjId). IsUnasked (graph_of (c.top.0 ∷ below_ids b) g) c.top.0 5) (sym w.alone) (fresh_ready g noded c.top.0 2 5 w.fresh))
 ready_so Lease c g noded w h = (w.alone, subst (λ (b : Option ObjId). IsUnasked (graph_of (c.top.0 ∷ below_ids b) g) c.top.0 6) (sym w.alone) (fresh_ready g noded c.top.0 2 6 w.fresh))
 ready_so Echo c g noded w h = (w.alone, subst (λ (b : Option ObjId). IsUnasked (graph_of (c.top.0 ∷ below_ids b) g) c.top.0 7) (sym w.alone) (fresh_ready g noded c.top.0 5 7 w.fresh))
+ready_so Drive c g noded w h = (w.alone, subst (λ (b : Option ObjId). IsUnasked (graph_of (c.top.0 ∷ below_ids b) g) c.top.0 9) (sym w.alone) (fresh_ready g noded c.top.0 5 9 w.fresh))
 
 -- and nothing more is made of it
 pub completes_none : (kind : ChainKind) (c : Chain) (g : Objects Obj) (m : Heard) → IsLowerOf kind None → MakingGives c g g m m (completes_notices kind c)
@@ -59,6 +60,7 @@ completes_none File c g m h = absurd h
 completes_none Name c g m h = gives_none (IsMakeWithin (is_one_of (chain_ids c))) g m
 completes_none Lease c g m h = gives_none (IsMakeWithin (is_one_of (chain_ids c))) g m
 completes_none Echo c g m h = gives_none (IsMakeWithin (is_one_of (chain_ids c))) g m
+completes_none Drive c g m h = gives_none (IsMakeWithin (is_one_of (chain_ids c))) g m
 
 -- a Tftp is made below a Fetch that waits
 module _ (g a : Objects Obj) (m n : Heard) (x : ℕ) (y : ObjId) (node : Obj) (f : IsFresh g x 5 0) (stands : ObjStands node []) (is : IsNewTftp node) (made : IsMade g a node (rank_of_obj node) y) (k : WentOne ObjStands obj_nature 0 (MustMake y node ∷ Wants (Held y) ∷ []) g a m n) where

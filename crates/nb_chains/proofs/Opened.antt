@@ -7,7 +7,7 @@ use Rattle.nb_opens.specs.Alones.{IsOpenLone}
 use Rattle.nb_opens.specs.Pairs.{AreGoing}
 use Rattle.nb_chains.specs.declared.chain.Chain.{Chain}
 use Rattle.nb_chains.specs.declared.kind.ChainKind.{ChainKind}
-use Rattle.nb_chains.specs.declared.kind.ChainKind.TheVariants.{File, Name, Lease, Echo}
+use Rattle.nb_chains.specs.declared.kind.ChainKind.TheVariants.{File, Name, Lease, Echo, Drive}
 use Rattle.nb_chains.specs.Calls.{IsChainUnderWay, IsOpenBy, IsOpenChain}
 use Rattle.nb_chains.specs.Chains.{IsReadyChain, own_graph}
 
@@ -23,9 +23,11 @@ ready_open File c g r = two_open c g r.0 r.1 (inl r.2)
 ready_open Name c g r = one_open c g r.0 r.1.lone
 ready_open Lease c g r = one_open c g r.0 r.1.lone
 ready_open Echo c g r = one_open c g r.0 r.1.lone
+ready_open Drive c g r = one_open c g r.0 r.1.lone
 
 pub under_way_open : (kind : ChainKind) (c : Chain) (g : Objects Obj) → IsChainUnderWay kind c g → IsOpenChain c g
 under_way_open File c g r = two_open c g r.0 r.1 (inr r.2)
 under_way_open Name c g (e, (b, start, calls, d)) = one_open c g e d.lone
 under_way_open Lease c g (e, (b, start, calls, d)) = one_open c g e d.lone
 under_way_open Echo c g (e, (b, start, calls, d)) = one_open c g e d.lone
+under_way_open Drive c g r = absurd r

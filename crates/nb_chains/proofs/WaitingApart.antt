@@ -21,7 +21,7 @@ use Rattle.nb_nodes.specs.Standing.{ObjStands}
 use Rattle.nb_opens.specs.Pairs.{IsDownloading}
 use Rattle.nb_chains.specs.declared.chain.Chain.{Chain}
 use Rattle.nb_chains.specs.declared.kind.ChainKind.{ChainKind}
-use Rattle.nb_chains.specs.declared.kind.ChainKind.TheVariants.{File, Name, Lease, Echo}
+use Rattle.nb_chains.specs.declared.kind.ChainKind.TheVariants.{File, Name, Lease, Echo, Drive}
 use Rattle.nb_chains.specs.Calls.{IsChainUnderWay, IsTalking}
 use Rattle.nb_chains.specs.Chains.{AreChained, AreOthers, Awaits, IsFresh, below_ids, chain_ids, own_graph}
 use Rattle.nb_chains.specs.Ends.{LivesUnlinked}
@@ -115,6 +115,7 @@ module _ (g : Objects Obj) (noded : AreNoded rank_of_obj g) (v r m : ℕ) (fresh
     under_way_apart Name (e, is) = one_apart lookup_service 5 lookup_not e is
     under_way_apart Lease (e, is) = one_apart lease_service 6 lease_not e is
     under_way_apart Echo (e, is) = one_apart ping_service 7 ping_not e is
+    under_way_apart Drive u = absurd u
 
 pub waiting_apart : (kind of : ChainKind) (w c : Chain) (g : Objects Obj) → AreNoded rank_of_obj g → Awaits kind w g → AreChained g (chain_ids c) → IsChainUnderWay of c g → AreOthers (chain_ids c) (chain_ids w)
 waiting_apart kind of w c g noded waits chained is x o =

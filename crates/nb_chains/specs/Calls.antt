@@ -34,7 +34,7 @@ use Rattle.nb_tftp.specs.History.{Call, Entry}
 use Rattle.nb_chains.specs.declared.arrival.Arrival.{Arrival}
 use Rattle.nb_chains.specs.declared.chain.Chain.{Chain}
 use Rattle.nb_chains.specs.declared.kind.ChainKind.{ChainKind}
-use Rattle.nb_chains.specs.declared.kind.ChainKind.TheVariants.{File, Name, Lease, Echo}
+use Rattle.nb_chains.specs.declared.kind.ChainKind.TheVariants.{File, Name, Lease, Echo, Drive}
 use Rattle.nb_chains.specs.Chains.{IsReadyChain, IsReleased, IsShutChain, chain_ids, last_serial, own_graph, released_notices}
 use Rattle.nb_chains.specs.Ends.{HasNoLinks, first_close_among, free_notices}
 use Rattle.nb_chains.specs.Giving.{CallGives, ChainGives}
@@ -47,12 +47,13 @@ use Rattle.nb_chains.specs.Shapes.{HasShapeOrFails, SendsNone}
 abbrev pub IsTalking : {S B C : Type 0} → Service S B C → ℕ → Objects Obj → ℕ → Type 0
 IsTalking {S} {B} {C} s kind g x = (b : B) × (start : ℕ) × (calls : List C) × Talks s kind g x b start calls
 
--- an open of this kind is under way
+-- an open of this kind is under way; a drive that is has objects that are no chain
 abbrev pub IsChainUnderWay : ChainKind → Chain → Objects Obj → Type 0
 IsChainUnderWay File c g = (t : ObjId) × (c.below ≡ Some t) × IsDownloading (own_graph c g) c.top.0 t.0
 IsChainUnderWay Name c g = (c.below ≡ None) × IsTalking lookup_service (top_mark Name) (own_graph c g) c.top.0
 IsChainUnderWay Lease c g = (c.below ≡ None) × IsTalking lease_service (top_mark Lease) (own_graph c g) c.top.0
 IsChainUnderWay Echo c g = (c.below ≡ None) × IsTalking ping_service (top_mark Echo) (own_graph c g) c.top.0
+IsChainUnderWay Drive c g = ⊥
 
 -- What has come of a call: nothing was closed, and the open is under way; or its ports are closed, with the cause of the first
 -- close; or memory ran out.
@@ -80,6 +81,7 @@ IsAsk File bytes = (a : AskValue) × (ask_in bytes ≡ Some a)
 IsAsk Name bytes = (b : Lookup) × (lookup_service.asked bytes ≡ Some b)
 IsAsk Lease bytes = (b : Asker) × (lease_service.asked bytes ≡ Some b)
 IsAsk Echo bytes = (b : Pinged) × (ping_service.asked bytes ≡ Some b)
+IsAsk Drive bytes = ⊥
 
 -- The user begins the open by these bytes.
 pub record BeginsChain (c : Chain) (old new : Objects Obj) (bytes : List ℕ) (now rec : ℕ) (before after : Heard) : Type 0 where

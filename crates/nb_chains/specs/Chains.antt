@@ -20,7 +20,7 @@ use Rattle.nb_nodes.specs.declared.obj.Obj.{Obj}
 use Rattle.nb_nodes.specs.Standing.{ObjStands}
 use Rattle.nb_chains.specs.declared.chain.Chain.{Chain}
 use Rattle.nb_chains.specs.declared.kind.ChainKind.{ChainKind}
-use Rattle.nb_chains.specs.declared.kind.ChainKind.TheVariants.{File, Name, Lease, Echo}
+use Rattle.nb_chains.specs.declared.kind.ChainKind.TheVariants.{File, Name, Lease, Echo, Drive}
 use Rattle.nb_chains.specs.Kinds.{top_mark, top_number, top_rank}
 
 -- the serials of a chain, the top one first
@@ -96,6 +96,7 @@ IsReadyChain File c g = (t : ObjId) × (c.below ≡ Some t) × AreMade (own_grap
 IsReadyChain Name c g = (c.below ≡ None) × IsUnasked (own_graph c g) c.top.0 (top_mark Name)
 IsReadyChain Lease c g = (c.below ≡ None) × IsUnasked (own_graph c g) c.top.0 (top_mark Lease)
 IsReadyChain Echo c g = (c.below ≡ None) × IsUnasked (own_graph c g) c.top.0 (top_mark Echo)
+IsReadyChain Drive c g = (c.below ≡ None) × IsUnasked (own_graph c g) c.top.0 (top_mark Drive)
 
 -- what the outside is given where the top object is made, and where the others are
 abbrev pub waits_notices : ChainKind → ℕ → List Notice
@@ -106,6 +107,7 @@ completes_notices File c = completed_notices c.top.0 (last_serial c)
 completes_notices Name c = []
 completes_notices Lease c = []
 completes_notices Echo c = []
+completes_notices Drive c = []
 
 -- The chain is let go: none of its objects lives any more, and all else is as it was.
 pub record IsReleased (c : Chain) (g h : Objects Obj) : Type 0 where

@@ -18,6 +18,8 @@ pub enum ChainKind {
     Lease,
     /// An echo (RFC 792): a Ping.
     Echo,
+    /// A drive of an iSCSI target (RFC 7143): a logical unit, as long as it waits; what is below it is none of a chain.
+    Drive,
 }
 
 /// A new top object of such an open.
@@ -32,6 +34,7 @@ pub(crate) fn top_node(alloc: Global, kind: ChainKind) -> Result<Obj, NoMemory>
         ChainKind::Name => Obj::resolver(alloc),
         ChainKind::Lease => Obj::dhcp(alloc),
         ChainKind::Echo => Obj::ping(alloc),
+        ChainKind::Drive => Obj::disk(alloc),
     }
 }
 
@@ -44,5 +47,6 @@ pub(crate) fn lower_node(alloc: Global, kind: ChainKind) -> Result<Option<Obj>, 
         ChainKind::Name => Ok(None),
         ChainKind::Lease => Ok(None),
         ChainKind::Echo => Ok(None),
+        ChainKind::Drive => Ok(None),
     }
 }

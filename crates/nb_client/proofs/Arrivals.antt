@@ -59,7 +59,7 @@ by_tick s n ms put s' overs none (brings_segment _ device _ link from p g before
 
 pub none_ends : (s : State) (n : ℕ) (r : In) (put : List Out) (s' : State) (overs : List Over) (came : List Arrived) → ArrivesAt s n r came → came ≡ [] → Network s n r put s' overs → overs ≡ []
 none_ends s n r put s' overs came (at_none _ _ bytes link m (on_net0 _) get b free) none net = by_frame s n bytes link m put s' overs get b free net
-none_ends s n r put s' overs came (at_port _ device bytes link p d before behind l on get b live is) none net = absurd (cc)
-none_ends s n r put s' overs came (at_echo _ device bytes link p e before behind l on get b live is) none net = absurd (cc)
-none_ends s n r put s' overs came (at_connection _ device bytes link from p g before behind l on get b live is) none net = absurd (cc)
+none_ends s n r put s' overs came (at_port _ device bytes link p d before behind l on get b live is front back) none net = absurd (cc)
+none_ends s n r put s' overs came (at_echo _ device bytes link p e before behind l on get b live is front back) none net = absurd (cc)
+none_ends s n r put s' overs came (at_connection _ device bytes link from p g before behind l on get b live is front back) none net = absurd (cc)
 none_ends s n r put s' overs came (at_all ms) none net = by_tick s n ms put s' overs (no_live _ s.live none) net

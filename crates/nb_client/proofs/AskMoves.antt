@@ -6,8 +6,8 @@ use Rattle.nb_machine.specs.Courses.{Proceeds, opens_one, finds_no_route, runnin
 use Rattle.nb_machine.specs.Effects.{asks, shown_as, table_after, up_after}
 use Rattle.nb_machine.specs.Lives.{Live, end_record, open_record}
 use Rattle.nb_machine.specs.Running.{Running, entered, further}
-use Rattle.nb_machine.specs.Scripts.{Doing, answer, doing, doing_by, opens}
-use Rattle.nb_machine.specs.States.{with_one_made, with_opened}
+use Rattle.nb_machine.specs.Scripts.{Awaited, Doing, answer, doing, doing_by, opens}
+use Rattle.nb_machine.specs.States.{State, with_one_made, with_opened}
 use Rattle.nb_network.specs.Many.{FitsHoldings}
 use Rattle.nb_traced.specs.Plain.{without_graph}
 use Rattle.nb_record.specs.Logged.{Logged}
@@ -18,13 +18,14 @@ use Rattle.nb_runner.specs.CommandWords.{wanted_of}
 use Rattle.nb_runner.specs.Steps.{moves_in, moves_outside}
 use Rattle.nb_runner.specs.declared.world.World.{World}
 use Rattle.nb_traced.specs.Outputs.{Traced, commands}
-use Rattle.nb_client.specs.Asked.{job_asked, live_asked}
-use Rattle.nb_client.specs.Openings.{AsksFor, IsOpenedIn, Opened, sets_out, turns_back}
+use Rattle.nb_client.specs.Asked.{awaited_asked, job_asked, live_asked}
+use Rattle.nb_client.specs.Openings.{AsksFor, IsNoDisk, IsOpenedIn, Opened, sets_out, turns_back}
 use Rattle.nb_client.specs.Progressing.{LeadsToSnapshot, TracesTo, most_moves}
 use Rattle.nb_client.specs.Snapshots.{Snapshot, snapshot, state_of_world}
 use Rattle.nb_client.specs.Turning.{MovesOn, found_by_script, left_by}
 use Rattle.nb_client.specs.declared.asked.Asked.{Asked}
-use Rattle.nb_client.specs.declared.asked.Asked.TheVariants.{File, Query as Exchange}
+use Rattle.nb_client.specs.declared.asked.Asked.TheVariants.{File, Query as Exchange, Disk}
+use Rattle.nb_runner.specs.declared.query.Query.TheVariants as query
 use Rattle.nb_client.specs.declared.site.Site.{Site}
 use Rattle.nb_client.specs.declared.stage.Stage.TheVariants as stage
 use Rattle.nb_client.proofs.Moves.{one_move}
@@ -41,9 +42,19 @@ doing_asked w now live (File wanted) s ws x =
 doing_asked w now live (Exchange q) s ws x =
     let vs = x.name ∷ x.args in
     ap (doing_by (state_of_world w live) (table_after w.state.table vs) (up_after w.state.table w.state.up vs)) x.asks_so ∙ ap (λ v. opens_in v live (Exchange q)) (sym x.world_is)
+doing_asked w now live (Disk disk) s ws x = absurd x.no_disk
+
+-- its open has the next number, and its end is awaited
+awaited_plain : (t : State) (a : Asked) → IsNoDisk a → awaited_asked a t.opens ≡ answer (live_asked t a).number
+awaited_plain t (File wanted) none = refl
+awaited_plain t (Exchange query.Lease) none = refl
+awaited_plain t (Exchange (query.Echo server)) none = refl
+awaited_plain t (Exchange (query.Address setting name by)) none = refl
+awaited_plain t (Exchange (query.Host errand name by)) none = refl
+awaited_plain t (Disk disk) none = absurd none
 
 leads_asked : (n : ℕ) (w now : World) (live : List Live) (a : Asked) (s : Running) (ws : List (List ℕ)) (put : List Out) (after : Snapshot) → s.begun < 4096 → AsksFor w a s ws now →
-    IsOpenedIn (state_of_world now live) (live_asked (state_of_world now live) a) (job_asked a) (entered s) w.outer n put after →
+    IsOpenedIn (state_of_world now live) (live_asked (state_of_world now live) a) (answer (live_asked (state_of_world now live) a).number) (job_asked a) (entered s) w.outer n put after →
     LeadsToSnapshot [] (stands n (running (state_of_world w live) s w.outer)) (command_record s (shown_as true ws) ∷ put) after
 leads_asked n w now live a s ws put after early x (sets_out link more to dev first stood) =
     let from = stands n (running (state_of_world w live) s w.outer) in
@@ -83,7 +94,9 @@ asks_goes {old} {new} w a s ws before after early x o =
               came = [];
               puts = o.puts;
               leads = subst (λ y. LeadsToSnapshot [] y (command_record s (shown_as true ws) ∷ without_graph o.rest) after) (sym at.2)
-                  (leads_asked before.used w before.world at.0 a s ws (without_graph o.rest) after early x (subst (λ k. IsOpenedIn (state_of_world before.world at.0) (live_asked (state_of_world before.world at.0) a) (job_asked a) (entered s) k before.used (without_graph o.rest) after) same_outer (o.opens at.0 at.1)));
+                  (leads_asked before.used w before.world at.0 a s ws (without_graph o.rest) after early x
+                  (subst (λ (k : Awaited). IsOpenedIn (state_of_world before.world at.0) (live_asked (state_of_world before.world at.0) a) k (job_asked a) (entered s) w.outer before.used (without_graph o.rest) after) (awaited_plain (state_of_world before.world at.0) a x.no_disk)
+                  (subst (λ k. IsOpenedIn (state_of_world before.world at.0) (live_asked (state_of_world before.world at.0) a) (awaited_asked a before.world.opens) (job_asked a) (entered s) k before.used (without_graph o.rest) after) same_outer (o.opens at.0 at.1))));
               begins = refl;
               traces = λ outs h so_far t fits.
                   let opens_same : w.opens ≡ before.world.opens = sym (ap (λ (v : World). v.opens) x.world_is) in

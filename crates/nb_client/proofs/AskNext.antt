@@ -7,10 +7,10 @@ use Rattle.nb_machine.specs.Courses.{opens_onward, finds_no_way, opens_no_more, 
 use Rattle.nb_machine.specs.Effects.{full_opens}
 use Rattle.nb_machine.specs.Errands.{Onward as Next-onward}
 use Rattle.nb_machine.specs.Lives.{Live}
-use Rattle.nb_machine.specs.Scripts.{job_onward, live_onward}
-use Rattle.nb_machine.specs.States.{State}
+use Rattle.nb_machine.specs.Scripts.{Awaited, awaited_onward, job_onward, live_onward}
 use Rattle.nb_machine.specs.Running.{Running, with_result}
 use Rattle.nb_network.specs.Many.{IsUntied}
+use Rattle.nb_network.specs.declared.living.Living.{Living as Open}
 use Rattle.nb_traced.specs.Plain.{without_graph}
 use Rattle.nb_traced.proofs.Plain.{plain_behind}
 use Rattle.nb_record.specs.Logged.{Logged}
@@ -21,11 +21,11 @@ use Rattle.nb_runner.specs.declared.errand.Onward.TheVariants as onward
 use Rattle.nb_runner.specs.declared.world.World.{World}
 use Rattle.nb_traced.specs.Outputs.{Traced, apart}
 use Rattle.nb_traced.specs.Pieces.{event_records}
-use Rattle.nb_client.specs.Asked.{asked_onward, job_asked, live_asked}
+use Rattle.nb_client.specs.Asked.{asked_onward, awaited_asked, job_asked, live_asked}
 use Rattle.nb_client.specs.Openings.{IsOpenedIn, OpensNext, opens_it, opens_none, sets_out, turns_back}
 use Rattle.nb_client.specs.Progressing.{LeadsToSnapshot, TracesTo, most_moves}
 use Rattle.nb_client.specs.Snapshots.{Snapshot, at_running, snapshot, state_of_world}
-use Rattle.nb_client.specs.Soundness.{IsSound}
+use Rattle.nb_client.specs.Soundness.{IsSound, kept_drives}
 use Rattle.nb_client.specs.Turning.{MovesOn}
 use Rattle.nb_client.specs.declared.pending.Next.{Next}
 use Rattle.nb_client.specs.declared.site.Site.{Site}
@@ -34,18 +34,26 @@ use Rattle.nb_client.proofs.Moves.{one_move}
 use Rattle.nb_client.proofs.Standing.{stands_at}
 
 -- what is opened next is the machine's, and so is what is done with what comes of it
-live_same : (t : State) (x : Onward) → live_asked t (asked_onward x) ≡ live_onward t (onward_of x)
-live_same t (onward.File wanted) = refl
-live_same t (onward.Echo server) = refl
-live_same t (onward.Name errand name by) = refl
+live_same : (w : World) (live : List Live) (x : Onward) → live_asked (state_of_world w live) (asked_onward w x) ≡ live_onward (state_of_world w live) (onward_of x)
+live_same w live (onward.File wanted) = refl
+live_same w live (onward.Echo server) = refl
+live_same w live (onward.Disk hooking server) = refl
+live_same w live (onward.Name errand name by) = refl
 
-job_same : (x : Onward) → job_asked (asked_onward x) ≡ job_onward (onward_of x)
-job_same (onward.File wanted) = refl
-job_same (onward.Echo server) = refl
-job_same (onward.Name errand name by) = refl
+job_same : (w : World) (x : Onward) → job_asked (asked_onward w x) ≡ job_onward (onward_of x)
+job_same w (onward.File wanted) = refl
+job_same w (onward.Echo server) = refl
+job_same w (onward.Disk hooking server) = refl
+job_same w (onward.Name errand name by) = refl
+
+awaited_same : (w : World) (live : List Live) (x : Onward) → awaited_asked (asked_onward w x) w.opens ≡ awaited_onward (onward_of x) (live_onward (state_of_world w live) (onward_of x)).number
+awaited_same w live (onward.File wanted) = refl
+awaited_same w live (onward.Echo server) = refl
+awaited_same w live (onward.Disk hooking server) = refl
+awaited_same w live (onward.Name errand name by) = refl
 
 leads_opened : (n : ℕ) (w : World) (live : List Live) (s : Running) (next : Next-onward) (put : List Out) (after : Snapshot) → w.opens < 16384 →
-    IsOpenedIn (state_of_world w live) (live_onward (state_of_world w live) next) (job_onward next) s w.outer n put after →
+    IsOpenedIn (state_of_world w live) (live_onward (state_of_world w live) next) (awaited_onward next (live_onward (state_of_world w live) next).number) (job_onward next) s w.outer n put after →
     LeadsToSnapshot [] (stands n (reaching (state_of_world w live) s w.outer next)) put after
 leads_opened n w live s next put after few (sets_out link more to dev first stood) = record {
   progress = stands n (waiting _ _);
@@ -59,12 +67,15 @@ leads_opened n w live s next put after few (turns_back link to dev first stood) 
 }
 
 leads_next : (n : ℕ) (w : World) (live : List Live) (s : Running) (x : Onward) (put : List Out) (after : Snapshot) → w.opens < 16384 →
-    IsOpenedIn (state_of_world w live) (live_asked (state_of_world w live) (asked_onward x)) (job_asked (asked_onward x)) s w.outer n put after →
+    IsOpenedIn (state_of_world w live) (live_asked (state_of_world w live) (asked_onward w x)) (awaited_asked (asked_onward w x) w.opens) (job_asked (asked_onward w x)) s w.outer n put after →
     LeadsToSnapshot [] (stands n (reaching (state_of_world w live) s w.outer (onward_of x))) put after
 leads_next n w live s x put after few o =
     let t = state_of_world w live in
+    let a = asked_onward w x in
+    let for_job : IsOpenedIn t (live_asked t a) (awaited_asked a w.opens) (job_onward (onward_of x)) s w.outer n put after = subst (λ j. IsOpenedIn t (live_asked t a) (awaited_asked a w.opens) j s w.outer n put after) (job_same w x) o in
+    let for_open : IsOpenedIn t (live_onward t (onward_of x)) (awaited_asked a w.opens) (job_onward (onward_of x)) s w.outer n put after = subst (λ l. IsOpenedIn t l (awaited_asked a w.opens) (job_onward (onward_of x)) s w.outer n put after) (live_same w live x) for_job in
     leads_opened n w live s (onward_of x) put after few
-    (subst (λ l. IsOpenedIn t l (job_onward (onward_of x)) s w.outer n put after) (live_same t x) (subst (λ j. IsOpenedIn t (live_asked t (asked_onward x)) j s w.outer n put after) (job_same x) o))
+    (subst (λ (k : Awaited). IsOpenedIn t (live_onward t (onward_of x)) k (job_onward (onward_of x)) s w.outer n put after) (awaited_same w live x) for_open)
 
 with_result_near : (s : Running) (cause : Cause) → moves_in (with_result s cause) < moves_in s + 1
 with_result_near s cause = omega arith
@@ -134,6 +145,7 @@ next_goes {old} {new} s k before after sound (opens_none now full used world is 
           short = sound.short;
           named = sound.named;
           linked = sound.linked;
+          hooked = subst (λ (os : List Open). kept_drives os w.state.drives ≡ w.state.drives) (sym lets.same_list) sound.hooked;
         };
         under_way = tt;
       };

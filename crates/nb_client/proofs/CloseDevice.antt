@@ -6,18 +6,19 @@ use Rattle.nb_record.specs.Logged.{Logged, Puts}
 use Rattle.nb_traced.specs.Plain.{without_graph}
 use Rattle.nb_traced.proofs.Plain.{plain_append}
 use Rattle.nb_machine.specs.CommandRecords.{command_record}
-use Rattle.nb_machine.specs.Courses.{Progress, stands, running, Proceeds, closes_device, down_cause}
+use Rattle.nb_drivecmd.specs.declared.drive.Drive.{Drive}
+use Rattle.nb_machine.specs.Courses.{Progress, stands, running, Proceeds, closes_device, down_cause, drives_first}
 use Rattle.nb_machine.specs.Effects.{shown_as, table_after, up_after}
-use Rattle.nb_machine.specs.Lives.{Live}
+use Rattle.nb_machine.specs.Lives.{Live, close}
 use Rattle.nb_machine.specs.Running.{Running, further}
 use Rattle.nb_machine.specs.Scripts.{doing_by}
-use Rattle.nb_machine.specs.States.{State, with_live}
+use Rattle.nb_machine.specs.States.{State, bare, with_live}
+use Rattle.nb_machine.specs.Takings.{AllTake, Over}
 use Rattle.nb_runner.proofs.Measures.{further_nearer}
 use Rattle.nb_runner.specs.declared.command.Deed.TheVariants as deed
 use Rattle.nb_runner.specs.declared.world.World.{World}
 use Rattle.nb_traced.specs.Holdings.{Holdings}
 use Rattle.nb_traced.specs.Outputs.{Arrived, Traced}
-use Rattle.nb_network.specs.Closings.{closes_with}
 use Rattle.nb_network.specs.Many.{AreOpensOf, FitsHoldings}
 use Rattle.nb_client.specs.Closings.{ClosesDown}
 use Rattle.nb_client.specs.Progressing.{ProceedsTo, TracesTo}
@@ -27,6 +28,7 @@ use Rattle.nb_client.specs.Turning.{IsCarriedOutBy, MovesOn, left_by}
 use Rattle.nb_client.specs.declared.site.Site.{Site}
 use Rattle.nb_client.specs.declared.stage.Stage.TheVariants as stage
 use Rattle.nb_client.proofs.CloseGoes.{closed_sound}
+use Rattle.nb_client.proofs.DriveFirsts.{none_hooked}
 use Rattle.nb_client.proofs.Moves.{one_move}
 use Rattle.nb_client.proofs.Served.{state_is}
 use Rattle.nb_client.proofs.Standing.{stands_at}
@@ -70,9 +72,11 @@ down_move {before} {after} n w s ws live k early d are =
     let words = d.name ∷ d.args in
     let from : State = state_of_world w live in
     let down : State = state_of_world (left_by w words) live in
-    let all = subst (λ (v : World). closes_with (state_of_world v live) down_cause (without_graph k.records)) d.world_is (k.closes (state_of_world before.world live) (state_is before.world before.opens live are)) in
+    let all = subst (λ (v : World). (overs : List Over) × AllTake (bare v.net ∷ []) (close down_cause) (drives_first v.state.drives live) (without_graph k.records) [] overs) d.world_is
+    (k.closes (state_of_world before.world live) (state_is before.world before.opens live are)) in
     let to : stands n (running (with_live down []) (further s ok) w.outer) ≡ stands n (running (state_of_world after.world []) (further s ok) after.world.outer) =
-    ap (λ (v : World). stands n (running (state_of_world v []) (further s ok) v.outer)) (sym d.world_is)
+    ap (λ (ds : List Drive). stands n (running (record (state_of_world (left_by w words) []) { drives = ds }) (further s ok) w.outer)) (none_hooked w.state.drives)
+    ∙ ap (λ (v : World). stands n (running (record (state_of_world v []) { drives = [] }) (further s ok) v.outer)) (sym d.world_is)
     ∙ ap (λ (v : World). stands n (running (state_of_world v []) (further s ok) v.outer)) (sym k.world) in
     subst (λ p. Proceeds (stands n (running from s w.outer)) (down_records s ws (without_graph k.records)) p) to
     (subst (λ x. Proceeds (stands n (running from s w.outer)) (command_record s x ∷ (without_graph k.records ++ (result ok ∷ []))) (stands n (running (with_live down []) (further s ok) w.outer))) d.shows
@@ -105,7 +109,7 @@ down_goes {before} {after} {l0} {l1} {old} {new} n w s ws sound early d k puts =
               traces = λ outs h so_far tr fits. trace_down s next ws n k outs h so_far tr
                   (record { state = fits.state; living = fits.living; waiting = fits.waiting; numbered = subst (λ x. h.begun ≤ x) (sym same) fits.numbered });
             };
-        sound = record { time = c.time; opens = c.opens; serials = c.serials; tied = c.tied; well = tt; short = c.short; named = c.named; linked = c.linked };
+        sound = record { time = c.time; opens = c.opens; serials = c.serials; tied = c.tied; well = tt; short = c.short; named = c.named; linked = c.linked; hooked = c.hooked };
         under_way = tt;
       };
       nearer = λ _.

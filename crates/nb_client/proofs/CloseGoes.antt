@@ -5,12 +5,12 @@ use Rattle.nb_defs.specs.Records.{off, Out, out_texts, step, done}
 use Rattle.nb_record.specs.Logged.{Logged, Puts}
 use Rattle.nb_traced.specs.Plain.{without_graph}
 use Rattle.nb_machine.specs.Courses.{Progress, stands, stopped, StepBegins, switches_off, goes_off}
+use Rattle.nb_machine.specs.Lives.{Live}
 use Rattle.nb_machine.specs.States.{State, with_live}
 use Rattle.nb_runner.specs.declared.world.World.{World}
 use Rattle.nb_traced.specs.Holdings.{GraphObject}
 use Rattle.nb_traced.specs.Outputs.{Traced}
-use Rattle.nb_open.specs.Open.{kin_of}
-use Rattle.nb_network.specs.Many.{FitsHoldings}
+use Rattle.nb_network.specs.Many.{FitsHoldings, kin_of}
 use Rattle.nb_client.specs.Closings.{ClosesBy, ShutsAll}
 use Rattle.nb_client.specs.Progressing.{AwaitsRecord, FinishesBy}
 use Rattle.nb_client.specs.Snapshots.{Snapshot, StandsForProgress, at_stopped, at_waiting, at_yielded, pieces_waiting, snapshot, state_of_world, waiting_for}
@@ -24,9 +24,9 @@ use Rattle.nb_client.proofs.Served.{state_is}
 use Rattle.nb_client.proofs.Traces.{trace_apart}
 
 -- the client is sound where nothing lives
-pub closed_sound : {cause : Cause} {first : List GraphObject} {front : List Out} {before after : Site} {old new : Logged} {used : ℕ} (n : ℕ) (at : Stage) → IsSound used before.world before.opens at → ClosesBy cause first front before after old new →
+pub closed_sound : {order : List Live → List Live} {cause : Cause} {first : List GraphObject} {front : List Out} {before after : Site} {old new : Logged} {used : ℕ} (n : ℕ) (at : Stage) → IsSound used before.world before.opens at → ClosesBy order cause first front before after old new →
     used ≤ n → IsSound n after.world after.opens stage.Stopped
-closed_sound {cause} {first} {front} {before} {after} {old} {new} {used} n at sound k more = record {
+closed_sound {order} {cause} {first} {front} {before} {after} {old} {new} {used} n at sound k more = record {
   time = let same : after.world.time ≡ before.world.time = ap (λ (w : World). w.time) k.world in omega (arith, same, sound.time, more);
   opens = rw (ap (λ (w : World). w.w) k.world, ap (λ (w : World). w.opens) k.world) k.sound;
   serials = let same : after.world.opens ≡ before.world.opens = ap (λ (w : World). w.opens) k.world in omega (arith, same, sound.serials, k.serials);
@@ -35,6 +35,7 @@ closed_sound {cause} {first} {front} {before} {after} {old} {new} {used} n at so
   short = rw k.world sound.short;
   named = rw k.world sound.named;
   linked = rw k.world (record { address = sound.linked.address; up = sound.linked.up });
+  hooked = rw k.world refl;
 }
 
 pub shuts_many : {first : List GraphObject} {front : List Out} {before after : Site} {old new : Logged} (k : ShutsAll first front before after old new) → ShutsMany before.world before.opens k.records

@@ -14,7 +14,7 @@ use Rattle.nb_machine.specs.States.{State}
 use Rattle.nb_machine.specs.Takings.{AllTake, Over, all_have, lives_on, is_over}
 use Rattle.nb_runner.specs.declared.world.World.{World}
 use Rattle.nb_open.specs.Begins.{waiting_pieces}
-use Rattle.nb_open.specs.declared.open.Open.{Open as TheOpen}
+use Rattle.nb_network.specs.declared.living.Living.{Living as TheOpen}
 use Rattle.nb_network.specs.Closings.{closes_with}
 use Rattle.nb_network.specs.Many.{AreOpensOf, IsStateOf, Many, WaitsBeside}
 use Rattle.nb_network.specs.Takes.{ClosesFirst}
@@ -50,8 +50,8 @@ none_waits w m c none is = let no : Some c ≡ None = sym is ∙ none in cc
 
 -- it waits beside the opens that live
 pub beside_at : (st : Stage) (w : WaitingChain) (world : World) (m : Many) (c : Chain) → IsWaitingAt st w → StandsWell st world m → w.chain ≡ Some c → WaitsBeside w.kind c m
-beside_at (stage.Waiting s (Open p)) w world m c at well is = subst (λ k. WaitsBeside k c m) (sym at.0) (well.waiting.beside c (sym at.1 ∙ is))
-beside_at (stage.Reaching s k) w world m c at well is = subst (λ x. WaitsBeside x c m) (sym at.0) (well.1.waiting.beside c (sym at.1 ∙ is))
+beside_at (stage.Waiting s (Open p)) w world m c at well is = subst (λ k. WaitsBeside k c m) (sym at.0) (well.0.waiting.beside c (sym at.1 ∙ is))
+beside_at (stage.Reaching s k) w world m c at well is = subst (λ x. WaitsBeside x c m) (sym at.0) (well.2.waiting.beside c (sym at.1 ∙ is))
 beside_at stage.Ready w world m c at well is = none_waits w m c at is
 beside_at (stage.Running s) w world m c at well is = none_waits w m c at is
 beside_at (stage.Waiting s (Moment time)) w world m c at well is = none_waits w m c at is

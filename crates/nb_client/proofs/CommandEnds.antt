@@ -4,6 +4,7 @@ use Rattle.nb_terms.specs.declared.cause.Cause.{Cause}
 use Rattle.nb_defs.specs.Commands.{CommandOutcome, refused}
 use Rattle.nb_command.specs.declared.command_plan.CommandPlan.{CommandPlan}
 use Rattle.nb_command.specs.declared.command_plan.CommandPlan.TheVariants as plan
+use Rattle.nb_drivecmd.specs.declared.commands.DriveCommand.{DriveCommand}
 use Rattle.nb_imagecmd.specs.declared.commands.ImageCommand.{ImageCommand}
 use Rattle.nb_imagecmd.specs.declared.error.PlanError.{PlanError}
 use Rattle.nb_command.specs.Planning.{planned}
@@ -14,7 +15,7 @@ use Rattle.nb_runner.specs.Intents.{intent_effect}
 use Rattle.nb_runner.specs.declared.images.Conclusion.{Conclusion}
 use Rattle.nb_runner.specs.declared.intent.Intent.{Intent}
 use Rattle.nb_runner.specs.declared.intent.Intent.TheVariants as intent
-use Rattle.nb_machine.specs.Effects.{Surroundings, concludes_at_once, images_effect, settled_effect, says, plan_effect, plan_table, plan_up, words_effect, words_table, words_up, table_after, shown_as, plan_cause}
+use Rattle.nb_machine.specs.Effects.{Surroundings, concludes_at_once, images_effect, settled_effect, says, plan_effect, plan_table, plan_up, words_effect, words_table, words_up, table_after, shown_as, plan_cause, drives_effect}
 use Rattle.nb_runner.specs.CommandWords.{deed_effect}
 use Rattle.nb_runner.specs.declared.command.Deed.{Deed}
 use Rattle.nb_runner.specs.declared.command.Deed.TheVariants as deed
@@ -81,6 +82,8 @@ settled_intent : (x : Surroundings) (i : Intent) → settled_effect x (intent_ef
 settled_intent x (intent.Over cause) = refl
 settled_intent x (intent.Asks query) = refl
 settled_intent x (intent.Fetches wanted) = refl
+settled_intent x (intent.Hooks hooking) = refl
+settled_intent x (intent.LetsGo number cause) = refl
 
 -- a command whose words are expanded intends this, in the world that it leaves
 pub intends_planned : (s : Running) (w : World) (ws : List (List ℕ)) (p : CommandPlan) (i : Intent) (now : World) → IsLinkOfState w → HasCommand s w.state.table ws → planned ws ≡ Ok p →
@@ -126,4 +129,22 @@ concludes_images s w ws command c now h is e world well = record {
   shows = shown_of_words w.state.table (h.name ∷ h.args) ws h.expands;
   world_is = world;
   well = well;
+}
+
+-- a drive command leaves the settings and the device
+drives_stay : (s : Running) (w : World) (ws : List (List ℕ)) (command : DriveCommand) (h : HasCommand s w.state.table ws) → IsLinkOfState w → planned ws ≡ Ok (plan.Drives command) → left_by w (h.name ∷ h.args) ≡ w
+drives_stay s w ws command h linked is = world_stays w _ _ linked (table_of_words w.state.table (h.name ∷ h.args) ws h.expands ∙ table_of_plan w.state.table ws (Ok (plan.Drives command)) is)
+    (up_of_words w.state.table w.state.up (h.name ∷ h.args) ws h.expands ∙ up_of_plan w.state.up ws (Ok (plan.Drives command)) is)
+
+-- it hooks a disk, lets a drive go, or is refused
+pub intends_drives : (s : Running) (w : World) (ws : List (List ℕ)) (command : DriveCommand) (i : Intent) → IsLinkOfState w → HasCommand s w.state.table ws → planned ws ≡ Ok (plan.Drives command) →
+    drives_effect (found_by_script w s) command ≡ intent_effect i → Intends w i s ws w
+intends_drives s w ws command i linked h is e = record {
+  name = h.name;
+  args = h.args;
+  comes = h.comes;
+  intends_so = effect_in_of_plan (found_by_script w s) (h.name ∷ h.args) ws (plan.Drives command) h.expands is ∙ e;
+  shows = shown_of_words w.state.table (h.name ∷ h.args) ws h.expands;
+  world_is = sym (drives_stay s w ws command h linked is);
+  was_linked = linked;
 }

@@ -1,5 +1,5 @@
 -- What comes of a file whose open has ended.
-use Rattle.std.proofs.Common.{◌≡◌, ℕ, ◌<◌, ◌≤◌, Bool, true, false, List, [], ◌∷◌, ◌++◌, length, None, refl, sym, ◌∙◌, ap, subst, arith, append-nil, append_assoc}
+use Rattle.std.proofs.Common.{◌≡◌, ℕ, ◌<◌, ◌≤◌, Bool, true, false, List, [], ◌∷◌, ◌++◌, length, Option, None, refl, sym, ◌∙◌, ap, subst, arith, append-nil, append_assoc}
 use Rattle.std.specs.Prelude.{unwrap_or, Result, Ok, Err, IfOk, OnOk}
 use Rattle.nb_terms.specs.declared.cause.Cause.{Cause}
 use Rattle.nb_defs.specs.Causes.{is_ok_cause, ok}
@@ -8,6 +8,7 @@ use Rattle.nb_record.specs.Logged.{Logged}
 use Rattle.nb_traced.specs.Plain.{without_graph}
 use Rattle.nb_image.specs.Images.{ImageList}
 use Rattle.nb_imagecmd.specs.declared.asking.Asking.{Asking}
+use Rattle.nb_machine.specs.BootTables.{boot_table}
 use Rattle.nb_machine.specs.Conclusions.{conclusion, handoff_records}
 use Rattle.nb_machine.specs.Courses.{ConclusionLeads, LeadsTo, Standing, handing}
 use Rattle.nb_machine.specs.Kinds.{fetched}
@@ -28,12 +29,12 @@ use Rattle.nb_traced.specs.Outputs.{Traced, apart}
 use Rattle.nb_network.specs.Many.{AreSound}
 use Rattle.nb_network.specs.Takes.{IsEndOf}
 use Rattle.nb_network.specs.declared.over.HasEnded.{HasEnded}
-use Rattle.nb_client.specs.Concluding.{handing_of, moved_place}
+use Rattle.nb_client.specs.Concluding.{IsBootTable, handing_of, moved_place}
 use Rattle.nb_client.specs.Closings.{ShutsAll}
 use Rattle.nb_client.specs.Leading.{LeadsOnBy}
 use Rattle.nb_runner.proofs.HandingLemmas.{begins_at, handoff_few}
 use Rattle.nb_client.proofs.Served.{state_is}
-use Rattle.nb_client.specs.Serving.{Concludes}
+use Rattle.nb_client.specs.Serving.{ConcludesEnd}
 use Rattle.nb_client.specs.Snapshots.{Snapshot, at_handing, state_of_world}
 use Rattle.nb_client.specs.Soundness.{IsSound, snapshot_at}
 use Rattle.nb_client.specs.declared.asked.Asked.TheVariants.{File}
@@ -70,13 +71,19 @@ concluded_same : (asking : Asking) (e : HasEnded) (o : Over) (depth : ℕ) (list
 concluded_same asking e o depth list stays is =
     ap (λ c. conclusion c asking (fetched o.live) depth list) is.cause ∙ conclusion_same e.cause asking _ _ depth list (λ fine. is.body fine (rw fine at stays))
 
+-- the boot table says nothing of images
+table_stays : (t : State) (list : ImageList) → boot_table (with_images t list) ≡ boot_table t
+unfolding boot_table
+table_stays t list = refl
+
 -- where it leads doesn't depend on the images before
 pub leads_before : (t : State) (list : ImageList) (depth : ℕ) (s : Running) (outer : List Running) (c : Conclusion) (more : List Out) (to : Standing) → IsConcludedWell c depth t.images list →
     ConclusionLeads (with_images t list) s outer (conclusion_of c list) more to → ConclusionLeads t s outer (conclusion_of c list) more to
 leads_before t list depth s outer concluded.Keeps more to well leads = leads
 leads_before t list depth s outer (concluded.Tells lines) more to well leads = leads
 leads_before t list depth s outer (concluded.Fails cause) more to well leads = subst (λ (l : ImageList). ConclusionLeads (with_images t l) s outer (conclusion_of (concluded.Fails cause) list) more to) well leads
-leads_before t list depth s outer (concluded.Boots kernel) more to well leads = leads
+leads_before t list depth s outer (concluded.Boots kernel) more to well leads =
+    (leads.0, leads.1, leads.2 ∙ ap (λ b. handing (with_live (with_images t list) []) (handoff_records kernel list.images b)) (table_stays t list))
 leads_before t list depth s outer (concluded.Runs script true) more to well leads = leads
 leads_before t list depth s outer (concluded.Runs script false) more to well leads = leads
 
@@ -90,7 +97,7 @@ module _ (before : Site) (s : Running) (wanted : Wanted) (p : Pending) (e : HasE
   -- what the machine concludes is what was concluded, and that was carried on
   pub led_concludes : (c : Conclusion) (after : Snapshot) (old new : Logged) →
       ((live : List Live) (o : Over) → IsEndOf e o → concluded_by (state_of_world w live) s.depth (job_asked p.asked) (by_end o) ≡ concludes (conclusion_of c images)) →
-      IsConcludedWell c s.depth w.state.images images → LeadsOnBy s c mid after old new → Concludes p e s before after old new
+      IsConcludedWell c s.depth w.state.images images → LeadsOnBy s c mid after old new → ConcludesEnd p e s before after old new
   led_concludes c after old new same well l = record {
     rest = l.rest;
     puts = l.puts;
@@ -112,7 +119,7 @@ module _ (before : Site) (s : Running) (wanted : Wanted) (p : Pending) (e : HasE
 
   -- a file was concluded
   pub file_concludes : (c : Conclusion) (after : Snapshot) (old new : Logged) → moved_place e ≡ None → conclusion e.cause wanted.asking (unwrap_or e.body []) s.depth w.state.images ≡ conclusion_of c images →
-      IsConcludedWell c s.depth w.state.images images → LeadsOnBy s c mid after old new → Concludes p e s before after old new
+      IsConcludedWell c s.depth w.state.images images → LeadsOnBy s c mid after old new → ConcludesEnd p e s before after old new
   file_concludes c after old new stays same = led_concludes c after old new (λ live o is.
       let t = state_of_world w live in
       rw asks (ap (upshot_fetched t s.depth (wanted_of wanted) o) (place_same e o is ∙ stays) ∙ ap concludes (concluded_same wanted.asking e o s.depth w.state.images stays is ∙ same)))
@@ -120,9 +127,9 @@ module _ (before : Site) (s : Running) (wanted : Wanted) (p : Pending) (e : HasE
 -- AN IMAGE IS HANDED OFF
 
 -- all that lives was closed, and the image is handed off
-pub boots_leads : {old new : Logged} (before after : Site) (s : Running) (kernel : ℕ) → IsSound before.used before.world before.opens (stage.Running s) → kernel < length before.world.state.images.images → length before.world.state.images.images ≤ 32 →
-    after.used ≡ before.used → ShutsAll [] (result ok ∷ []) before after old new → LeadsOnBy s (concluded.Boots kernel) before (snapshot_at after (stage.HandingOff (handing_of kernel))) old new
-boots_leads {old} {new} before after s kernel sound within few same shut =
+pub boots_leads : {old new : Logged} (before after : Site) (s : Running) (kernel : ℕ) (table : Option (List ℕ)) → IsBootTable before table → IsSound before.used before.world before.opens (stage.Running s) → kernel < length before.world.state.images.images → length before.world.state.images.images ≤ 32 →
+    after.used ≡ before.used → ShutsAll [] (result ok ∷ []) before after old new → LeadsOnBy s (concluded.Boots kernel) before (snapshot_at after (stage.HandingOff (handing_of kernel table))) old new
+boots_leads {old} {new} before after s kernel table told sound within few same shut =
     let w = before.world in
     let images = w.state.images in
     record {
@@ -133,10 +140,11 @@ boots_leads {old} {new} before after s kernel sound within few same shut =
           let z = shut.closes st (state_is w before.opens live are) in
           record {
             more = without_graph shut.records;
-            to = handing (with_live (with_images st images) []) (handoff_records kernel images.images);
+            to = handing (with_live (with_images st images) []) (handoff_records kernel images.images (boot_table st));
             is_put = refl;
             leads = (z.0, z.1, refl);
-            stands_so = rw (sym same) (at_handing after.used after.world after.opens (handing_of kernel) (with_live (with_images st images) []) (handoff_records kernel images.images) refl shut.none (rw shut.world refl));
+            stands_so = rw (sym same) (at_handing after.used after.world after.opens (handing_of kernel table) (with_live (with_images st images) []) (handoff_records kernel images.images (boot_table st)) refl shut.none
+                (rw shut.world (ap (handoff_records kernel images.images) (told.of_state live are))));
           };
       traces = λ outs h so_far traced fits.
           let t = apart outs (result ok ∷ []) h so_far traced (tt, tt) in
@@ -151,13 +159,14 @@ boots_leads {old} {new} before after s kernel sound within few same shut =
         opens = subst (λ z. AreSound z.w z.opens after.world.net after.opens) (sym shut.world) shut.sound;
         serials = rw (shut.serials, shut.world) sound.serials;
         tied = rw shut.none tt;
-        well = (rw shut.world (begins_at images kernel within sound.short), shut.none);
+        well = (rw shut.world (begins_at images kernel table within sound.short told.short), shut.none);
         short = rw shut.world sound.short;
         named = rw shut.world sound.named;
         linked = rw shut.world (record { address = sound.linked.address; up = sound.linked.up });
+        hooked = rw shut.world refl;
       };
       under_way = tt;
-      nearer = λ _. rw shut.world (omega (arith, handoff_few kernel images.images within sound.short few));
+      nearer = λ _. rw shut.world (omega (arith, handoff_few images.images (handing_of kernel table) within sound.short told.short few));
     }
 
 -- what is known of an image that boots

@@ -43,10 +43,10 @@ follows (concluded.Runs script replace) depth before after may well = well.0
 -- the client stays sound with other images
 pub images_sound : (n : ℕ) (w : World) (m : Many) (s : Running) (images : ImageList) → MayFollow images → IsSound n w m (stage.Running s) → IsSound n (world_with_images w images) m (stage.Running s)
 images_sound n w m s images may x =
-    record { time = x.time; opens = x.opens; serials = x.serials; tied = x.tied; well = tt; short = may.short; named = may.named; linked = record { address = x.linked.address; up = x.linked.up } }
+    record { time = x.time; opens = x.opens; serials = x.serials; tied = x.tied; well = tt; short = may.short; named = may.named; linked = record { address = x.linked.address; up = x.linked.up }; hooked = x.hooked }
 
 -- a command that has begun leaves so many moves fewer
-entered_near : (s : Running) → s.begun < 4096 → moves_in (entered s) + moves_between ≤ moves_in s
+pub entered_near : (s : Running) → s.begun < 4096 → moves_in (entered s) + moves_between ≤ moves_in s
 entered_near s early =
     let one : 4096 - s.begun ≡ (4096 - (s.begun + 1)) + 1 = omega (arith, early) in
     let less : (4096 - s.begun) * moves_between ≡ (4096 - (s.begun + 1)) * moves_between + moves_between = ap (λ k. k * moves_between) one ∙ omega arith in

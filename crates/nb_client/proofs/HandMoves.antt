@@ -4,11 +4,11 @@ use Rattle.std.specs.List.{AllByRecursion, flat_map}
 use Rattle.nb_defs.specs.Records.{Out}
 use Rattle.nb_record.specs.Logged.{Logged, Puts}
 use Rattle.nb_image.specs.declared.image.Image.{Image}
-use Rattle.nb_image.specs.Parts.{PartText, PieceText, part_pieces, parts}
+use Rattle.nb_image.specs.Parts.{PartText, PieceText, part_pieces}
 use Rattle.nb_machine.specs.Conclusions.{part_records, piece_record}
 use Rattle.nb_machine.specs.Courses.{stands, handing, handed_off, hands, has_handed}
 use Rattle.nb_runner.proofs.Puts.{Puts-nothing}
-use Rattle.nb_runner.specs.Handings.{HandsOn, records_left}
+use Rattle.nb_runner.specs.Handings.{HandsOn, parts_handed, records_left}
 use Rattle.nb_runner.specs.declared.handing.Handing.{Handing}
 use Rattle.nb_runner.specs.declared.world.World.{World}
 use Rattle.nb_traced.specs.Pieces.{IsApart}
@@ -38,7 +38,7 @@ apart_drop (suc n) (x ∷ xs) a = apart_drop n xs a.1
 
 -- what is left of a hand-off concerns no open
 apart_left : (images : List Image) (h : Handing) → AllByRecursion IsApart (records_left images h)
-apart_left images h = apart_drop h.piece (flat_map part_records (drop h.part (parts h.kernel images))) (apart_parts (drop h.part (parts h.kernel images)))
+apart_left images h = apart_drop h.piece (flat_map part_records (drop h.part (parts_handed images h))) (apart_parts (drop h.part (parts_handed images h)))
 
 first_apart : (xs rest : List Out) (next : Out) → xs ≡ next ∷ rest → AllByRecursion IsApart xs → IsApart next
 first_apart xs rest next is a = let b : AllByRecursion IsApart (next ∷ rest) = subst (λ x. AllByRecursion IsApart x) is a in b.0
@@ -73,7 +73,7 @@ piece_goes {old} {new} n w m h h' sound does =
                 fits = record { state = fits.state; living = fits.living; waiting = fits.waiting; numbered = fits.numbered };
               };
             };
-        sound = record { time = sound.time; opens = sound.opens; serials = sound.serials; tied = sound.tied; well = (does.0, sound.well.1); short = sound.short; named = sound.named; linked = sound.linked };
+        sound = record { time = sound.time; opens = sound.opens; serials = sound.serials; tied = sound.tied; well = (does.0, sound.well.1); short = sound.short; named = sound.named; linked = sound.linked; hooked = sound.hooked };
         under_way = tt;
       };
       nearer = λ _. let fewer : length (records_left images h) ≡ length (k.next ∷ records_left images h') = ap length k.left in omega (arith, fewer);
@@ -105,7 +105,7 @@ handed_goes {old} {new} n w m h h' sound does =
                 fits = record { state = fits.state; living = fits.living; waiting = fits.waiting; numbered = fits.numbered };
               };
             };
-        sound = record { time = sound.time; opens = sound.opens; serials = sound.serials; tied = sound.tied; well = sound.well.1; short = sound.short; named = sound.named; linked = sound.linked };
+        sound = record { time = sound.time; opens = sound.opens; serials = sound.serials; tied = sound.tied; well = sound.well.1; short = sound.short; named = sound.named; linked = sound.linked; hooked = sound.hooked };
         under_way = tt;
       };
       nearer = λ x. absurd x;

@@ -16,6 +16,7 @@ pub mod Settle
 pub mod Settles
 pub mod OpenRecords
 pub mod WebAsks
+pub mod DriveAsks
 pub mod OpenStates
 pub mod OpenSites
 pub mod Nested
@@ -24,6 +25,15 @@ pub mod OpenWaits
 pub mod AskMoves
 pub mod CloseStanding
 pub mod CloseGoes
+pub mod BootTables
+pub mod DriveCloses
+pub mod DriveConcludes
+pub mod DriveDrops
+pub mod DriveFirsts
+pub mod DriveGoes
+pub mod DriveKeeps
+pub mod DriveLists
+pub mod DriveWaits
 pub mod HandMoves
 pub mod CloseDevice
 pub mod AskNext

@@ -1,5 +1,5 @@
 -- What comes of a file that its server has moved: it is asked for at its new place, or its command is over.
-use Rattle.std.proofs.Common.{◌≡◌, ℕ, List, [], ◌∷◌, ◌++◌, Some, None, Result, Ok, Err, refl, sym, ◌∙◌, ap, subst, append-nil}
+use Rattle.std.proofs.Common.{◌≡◌, ℕ, false, List, [], ◌∷◌, ◌++◌, Some, None, Result, Ok, Err, refl, sym, ◌∙◌, ap, subst, append-nil}
 use Rattle.nb_terms.specs.declared.cause.Cause.{Cause}
 use Rattle.nb_defs.specs.Records.{out_texts, result}
 use Rattle.nb_record.specs.Logged.{Logged, Puts}
@@ -11,7 +11,7 @@ use Rattle.nb_machine.specs.Lives.{Live}
 use Rattle.nb_machine.specs.Running.{Running, with_result}
 use Rattle.nb_machine.specs.Scripts.{Upshot, by_end, concluded_by, goes_onward, upshot_fetched, upshot_moved, upshot_records}
 use Rattle.nb_machine.specs.Takings.{Over}
-use Rattle.nb_runner.specs.CommandWords.{FitsOnward, onward_of, wanted_of}
+use Rattle.nb_runner.specs.CommandWords.{FitsOnward, onward_hooks, onward_of, wanted_of}
 use Rattle.nb_runner.specs.declared.errand.Wanted.{Wanted}
 use Rattle.nb_runner.specs.declared.images.Conclusion.TheVariants as concluded
 use Rattle.nb_runner.specs.declared.world.World.{World}
@@ -21,9 +21,9 @@ use Rattle.nb_network.specs.Takes.{IsEndOf}
 use Rattle.nb_network.specs.declared.over.HasEnded.{HasEnded}
 use Rattle.nb_client.specs.Asked.{job_asked, onward_kind}
 use Rattle.nb_client.specs.Concluding.{moved_place}
-use Rattle.nb_client.specs.Serving.{Concludes}
+use Rattle.nb_client.specs.Serving.{ConcludesEnd}
 use Rattle.nb_client.specs.Snapshots.{at_reaching, state_of_world}
-use Rattle.nb_client.specs.Soundness.{IsSound, snapshot_at}
+use Rattle.nb_client.specs.Soundness.{HasRoomIf, IsSound, snapshot_at}
 use Rattle.nb_client.specs.declared.asked.Asked.TheVariants.{File}
 use Rattle.nb_client.specs.declared.pending.Next.{Next}
 use Rattle.nb_client.specs.declared.pending.Pending.{Pending}
@@ -46,15 +46,15 @@ module _ (before : Site) (s : Running) (wanted : Wanted) (text : List ℕ) (p : 
 
   -- nothing is: the command is over
   pub over_concludes : (cause : Cause) (old new : Logged) → next_place ≡ Err cause → IsSound before.used w before.opens (stage.Running s) → Puts old new (out_texts (result cause ∷ [])) →
-      Concludes p e s before (snapshot_at before (stage.Running (with_result s cause))) old new
+      ConcludesEnd p e s before (snapshot_at before (stage.Running (with_result s cause))) old new
   over_concludes cause old new fails sound puts =
       led_concludes before s wanted p e w.state.images asks none (concluded.Fails cause) _ old new (λ live o is. upshot_is live o is ∙ ap upshot_moved fails) refl
       (fails_leads before s sound cause before refl refl refl puts)
 
   -- it is asked for, which nothing has waited for
-  pub next_concludes : (next : Next) (log : Logged) → next_place ≡ Ok (onward_of next.onward) → next.waits ≡ None → FitsOnward next.onward → IsSound before.used w before.opens (stage.Running s) →
-      Concludes p e s before (snapshot_at before (stage.Reaching s next)) log log
-  next_concludes next log follows alone fits sound =
+  pub next_concludes : (next : Next) (log : Logged) → next_place ≡ Ok (onward_of next.onward) → next.waits ≡ None → FitsOnward next.onward → onward_hooks next.onward ≡ false → IsSound before.used w before.opens (stage.Running s) →
+      ConcludesEnd p e s before (snapshot_at before (stage.Reaching s next)) log log
+  next_concludes next log follows alone fits hooks sound =
       let leads_on = onward_of next.onward in
       record {
         rest = [];
@@ -80,10 +80,11 @@ module _ (before : Site) (s : Running) (wanted : Wanted) (text : List ℕ) (p : 
           opens = sound.opens;
           serials = sound.serials;
           tied = sound.tied;
-          well = (fits, record { waiting = rw alone (nothing_waits (onward_kind next.onward) None before.opens); lone = λ c backed. alone });
+          well = (fits, subst (λ b. HasRoomIf b w.state.drives) (sym hooks) tt, record { waiting = rw alone (nothing_waits (onward_kind next.onward) None before.opens); lone = λ c backed. alone });
           short = sound.short;
           named = sound.named;
           linked = sound.linked;
+          hooked = sound.hooked;
         };
         under_way = tt;
       }

@@ -25,7 +25,7 @@ use Rattle.nb_traced.specs.Holdings.{Holdings}
 use Rattle.nb_traced.specs.Outputs.{Arrived, Traced}
 use Rattle.nb_traced.specs.Pieces.{IsApart}
 use Rattle.nb_network.specs.Many.{AreOpensOf, Many}
-use Rattle.nb_network.proofs.Sound.{sound_untied}
+use Rattle.nb_network.proofs.Sound.{sound_over}
 use Rattle.nb_settings.specs.Tables.{TableLists}
 use Rattle.nb_client.specs.Progressing.{IsAtWork, ProceedsTo, most_moves, no_further, one_further}
 use Rattle.nb_client.specs.Snapshots.{StandsForProgress, at_running, at_waiting, at_yielded, at_left, at_returning, pieces_waiting, snapshot, state_of_world, waiting_for}
@@ -80,11 +80,11 @@ quiet_under_way stage.Stopped q = absurd q
 
 -- the client is as sound as it was where a script ran
 pub quiet_sound : {n : ℕ} {w : World} {m : Many} {s : Running} (st : Stage) → IsQuiet st → IsSound n w m (stage.Running s) → IsSound n w m st
-quiet_sound (stage.Running s) q x = record { time = x.time; opens = x.opens; serials = x.serials; tied = x.tied; well = tt; short = x.short; named = x.named; linked = x.linked }
-quiet_sound (stage.Yielded s) q x = record { time = x.time; opens = x.opens; serials = x.serials; tied = x.tied; well = tt; short = x.short; named = x.named; linked = x.linked }
-quiet_sound (stage.Returning s cause) q x = record { time = x.time; opens = x.opens; serials = x.serials; tied = x.tied; well = tt; short = x.short; named = x.named; linked = x.linked }
-quiet_sound (stage.Left cause) q x = record { time = x.time; opens = x.opens; serials = x.serials; tied = x.tied; well = tt; short = x.short; named = x.named; linked = x.linked }
-quiet_sound (stage.Waiting s (Moment time)) q x = record { time = x.time; opens = x.opens; serials = x.serials; tied = x.tied; well = tt; short = x.short; named = x.named; linked = x.linked }
+quiet_sound (stage.Running s) q x = record { time = x.time; opens = x.opens; serials = x.serials; tied = x.tied; well = tt; short = x.short; named = x.named; linked = x.linked; hooked = x.hooked }
+quiet_sound (stage.Yielded s) q x = record { time = x.time; opens = x.opens; serials = x.serials; tied = x.tied; well = tt; short = x.short; named = x.named; linked = x.linked; hooked = x.hooked }
+quiet_sound (stage.Returning s cause) q x = record { time = x.time; opens = x.opens; serials = x.serials; tied = x.tied; well = tt; short = x.short; named = x.named; linked = x.linked; hooked = x.hooked }
+quiet_sound (stage.Left cause) q x = record { time = x.time; opens = x.opens; serials = x.serials; tied = x.tied; well = tt; short = x.short; named = x.named; linked = x.linked; hooked = x.hooked }
+quiet_sound (stage.Waiting s (Moment time)) q x = record { time = x.time; opens = x.opens; serials = x.serials; tied = x.tied; well = tt; short = x.short; named = x.named; linked = x.linked; hooked = x.hooked }
 quiet_sound (stage.Waiting s (Open p)) q x = absurd q
 quiet_sound stage.Ready q x = absurd q
 quiet_sound (stage.Reaching s k) q x = absurd q
@@ -157,11 +157,11 @@ pass_goes n w m s t sound passed = record {
 
 -- the scripts outside are others
 pub within_sound : {n : ℕ} {w : World} {m : Many} {s : Running} (outer : List Running) → IsSound n w m (stage.Running s) → IsSound n (world_within w outer) m (stage.Running s)
-within_sound outer x = record { time = x.time; opens = x.opens; serials = x.serials; tied = x.tied; well = tt; short = x.short; named = x.named; linked = record { address = x.linked.address; up = x.linked.up } }
+within_sound outer x = record { time = x.time; opens = x.opens; serials = x.serials; tied = x.tied; well = tt; short = x.short; named = x.named; linked = record { address = x.linked.address; up = x.linked.up }; hooked = x.hooked }
 
--- the settings are others, and the device follows them: no open is tied to the address that it had
+-- the settings are others, and the device follows them
 pub settings_sound : {n : ℕ} {w : World} {m : Many} {s : Running} (table : TableLists) (up : Bool) → IsSound n w m (stage.Running s) → IsSound n (world_with w table up) m (stage.Running s)
-settings_sound table up x = record { time = x.time; opens = sound_untied _ _ _ _ _ refl x.tied x.opens; serials = x.serials; tied = x.tied; well = tt; short = x.short; named = x.named; linked = record { address = refl; up = refl } }
+settings_sound table up x = record { time = x.time; opens = sound_over _ _ _ _ _ refl x.opens; serials = x.serials; tied = x.tied; well = tt; short = x.short; named = x.named; linked = record { address = refl; up = refl }; hooked = x.hooked }
 
 pub left_stands : (n : ℕ) (w : World) (now : List Running) (m : Many) (gone : Running) (cause : Cause) (st : Stage) (live : List Live) (outer : List Running) → AreOpensOf m.graph m.list live → LeftTo gone.begun cause outer st now →
     StandsForProgress (snapshot n (world_within w now) m st) (stands n (left (state_of_world w live) (counting_on gone outer) cause))
@@ -225,7 +225,7 @@ back_goes {old} {new} n w m s cause sound puts = record {
             fits = record { state = fits.state; living = fits.living; waiting = fits.waiting; numbered = fits.numbered };
           };
         };
-    sound = record { time = sound.time; opens = sound.opens; serials = sound.serials; tied = sound.tied; well = tt; short = sound.short; named = sound.named; linked = sound.linked };
+    sound = record { time = sound.time; opens = sound.opens; serials = sound.serials; tied = sound.tied; well = tt; short = sound.short; named = sound.named; linked = sound.linked; hooked = sound.hooked };
     under_way = tt;
   };
   nearer = λ _. omega arith;

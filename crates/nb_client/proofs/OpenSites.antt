@@ -30,20 +30,22 @@ use Rattle.nb_runner.specs.declared.world.World.{World}
 use Rattle.nb_stack.specs.Client.{Client}
 use Rattle.nb_traced.specs.Outputs.{MayWaitOn, Traced, apart}
 use Rattle.nb_traced.specs.Pieces.{event_records}
-use Rattle.nb_client.specs.Asked.{beside_kind, errand_kind, job_asked, live_asked}
+use Rattle.nb_client.specs.Asked.{awaited_asked, beside_kind, errand_kind, job_asked, live_asked}
 use Rattle.nb_client.specs.Beginnings.{BeginsNext, DropsWaiting, asked_kind}
 use Rattle.nb_client.specs.Openings.{IsOpenedIn, Opened, begun_script, front_records}
 use Rattle.nb_client.specs.Serving.{world_at}
 use Rattle.nb_client.specs.Snapshots.{snapshot, state_of_world}
-use Rattle.nb_client.specs.Soundness.{FitsAsked, HasWaiting, IsBacked, IsSound}
+use Rattle.nb_client.specs.Soundness.{FitsAsked, HasRoomFor, HasWaiting, IsBacked, IsSound}
 use Rattle.nb_client.specs.declared.asked.Asked.{Asked}
-use Rattle.nb_client.specs.declared.asked.Asked.TheVariants.{File, Query as Exchange}
+use Rattle.nb_client.specs.declared.asked.Asked.TheVariants.{File, Query as Exchange, Disk}
 use Rattle.nb_client.specs.declared.opening.NewOpen.{NewOpen}
 use Rattle.nb_client.specs.declared.pending.Expected.TheVariants.{Open}
 use Rattle.nb_client.specs.declared.pending.Pending.{Pending}
 use Rattle.nb_client.specs.declared.site.Site.{Site}
 use Rattle.nb_client.specs.declared.stage.Stage.{Stage}
 use Rattle.nb_client.specs.declared.stage.Stage.TheVariants as stage
+use Rattle.nb_network.proofs.Sound.{some_live}
+use Rattle.nb_client.proofs.DriveLists.{kept_more, kept_none_more}
 use Rattle.nb_client.proofs.OpenRecords.{plain_begun}
 use Rattle.nb_client.proofs.OpenStates.{goes_back, lives_on, state_is, world_begun}
 
@@ -72,17 +74,19 @@ name_number : (o : Opening) → chain_kind o ≡ chain.Name → kind_number (kin
 name_number (opening.Name a) e = refl
 name_number (opening.File a) e = absurd (let no : chain.File ≡ chain.Name = e in cc)
 name_number (opening.Web a) e = absurd (let no : chain.File ≡ chain.Name = e in cc)
+name_number (opening.Drive a) e = absurd (let no : chain.Drive ≡ chain.Name = e in cc)
 name_number (opening.Lease a) e = absurd (let no : chain.Lease ≡ chain.Name = e in cc)
 name_number (opening.Echo a) e = absurd (let no : chain.Echo ≡ chain.Name = e in cc)
 
-errand_number : (e : Errand) → (top_number (errand_kind e) ≡ 1) ⊎ (top_number (errand_kind e) ≡ 7)
+errand_number : (e : Errand) → (top_number (errand_kind e) ≡ 1) ⊎ ((top_number (errand_kind e) ≡ 7) ⊎ (top_number (errand_kind e) ≡ 9))
 errand_number (errand.File f) = inl refl
-errand_number errand.Echo = inr refl
+errand_number errand.Echo = inr (inl refl)
+errand_number (errand.Disk h) = inr (inr refl)
 
 nothing_beside : (n : ℕ) (kind : ChainKind) (left : Option Chain) → left ≡ None → MayWaitOn n (waiting_pieces kind left)
 nothing_beside n kind left e = subst (λ x. MayWaitOn n (waiting_pieces kind x)) (sym e) tt
 
-one_beside : (n : ℕ) (kind : ChainKind) (left : Option Chain) (c : Chain) → left ≡ Some c → c.below ≡ None → n ≡ 4 → (top_number kind ≡ 1) ⊎ (top_number kind ≡ 7) → MayWaitOn n (waiting_pieces kind left)
+one_beside : (n : ℕ) (kind : ChainKind) (left : Option Chain) (c : Chain) → left ≡ Some c → c.below ≡ None → n ≡ 4 → (top_number kind ≡ 1) ⊎ ((top_number kind ≡ 7) ⊎ (top_number kind ≡ 9)) → MayWaitOn n (waiting_pieces kind left)
 one_beside n kind left c e alone name has = subst (λ x. MayWaitOn n (waiting_pieces kind x)) (sym e)
     (subst (λ (d : Option ObjId). MayWaitOn n (record { serial = c.top.0; kind = top_number kind } ∷ pieces_below d)) (sym alone) (name, has))
 
@@ -90,6 +94,7 @@ one_beside n kind left c e alone name has = subst (λ x. MayWaitOn n (waiting_pi
 may_wait : (a : Asked) (o : Opening) (left : Option Chain) (awaited : Option ℕ) (m : Many) → chain_kind o ≡ asked_kind a → IsBacked a left → HasWaiting (beside_kind a) left awaited m →
     MayWaitOn (kind_number (kind_by o)) (waiting_pieces (beside_kind a) left)
 may_wait (File w) o left awaited m is backed h = nothing_beside (kind_number (kind_by o)) chain.File left backed
+may_wait (Disk d) o left awaited m is backed h = nothing_beside (kind_number (kind_by o)) chain.File left backed
 may_wait (Exchange query.Lease) o left awaited m is backed h = nothing_beside (kind_number (kind_by o)) chain.File left backed
 may_wait (Exchange (query.Echo server)) o left awaited m is backed h = nothing_beside (kind_number (kind_by o)) chain.Echo left backed
 may_wait (Exchange (query.Address setting name by)) o left awaited m is backed h = nothing_beside (kind_number (kind_by o)) chain.File left backed
@@ -112,10 +117,10 @@ pending_for w a left = record { number = w.opens; asked = a; waits = left }
 
 -- the command waits
 pub opened_waits : {old new : Logged} {made_text told_text : List ℕ} (a : Asked) (o : Opening) (waits left : Option Chain) (shown : Option (List (List ℕ))) (script : Running) (before : Site) (net : Client) (m : Many) →
-    IsSound before.used before.world before.opens (stage.Running script) → FitsAsked a → IsOpeningFor a o before.world → IsBacked a left → HasBegun a o waits left before net m None made_text told_text →
+    IsSound before.used before.world before.opens (stage.Running script) → FitsAsked a → HasRoomFor a before.world.state.drives → IsOpeningFor a o before.world → IsBacked a left → HasBegun a o waits left before net m None made_text told_text →
     PutsBegun shown script o before.world None made_text told_text old new →
     Opened a (waiting_pieces (asked_kind a) waits) shown script before (snapshot before.used (world_begun before.world net) m (stage.Waiting (begun_script shown script) (Open (pending_for before.world a left)))) old new
-opened_waits {old} {new} a o waits left shown script before net m sound fits is backed h puts =
+opened_waits {old} {new} a o waits left shown script before net m sound fits room is backed h puts =
     let w = before.world in
     let l = live_by o w.opens w.time in
     let records = begun_records h.opens.made l h.opens.told None in
@@ -126,8 +131,8 @@ opened_waits {old} {new} a o waits left shown script before net m sound fits is 
       puts = puts h.opens.made h.opens.told w.time h.opens.made_is h.opens.told_is;
       opens = λ live are.
           let s = state_of_world w live in
-          subst (λ xs. IsOpenedIn s (live_asked s a) (job_asked a) (begun_script shown script) w.outer before.used xs after) (sym plain)
-          (subst (λ x. IsOpenedIn s x (job_asked a) (begun_script shown script) w.outer before.used (open_record l ∷ without_graph h.opens.told) after) (is.live live)
+          subst (λ xs. IsOpenedIn s (live_asked s a) (awaited_asked a w.opens) (job_asked a) (begun_script shown script) w.outer before.used xs after) (sym plain)
+          (subst (λ x. IsOpenedIn s x (awaited_asked a w.opens) (job_asked a) (begun_script shown script) w.outer before.used (open_record l ∷ without_graph h.opens.told) after) (is.live live)
           (lives_on before.used w net m live o (pending_for w a left) (begun_script shown script) (without_graph h.opens.told) refl h.opens.first_put (h.opens.state s (state_is before.opens w live are))));
       traces = λ outs k so_far t stood.
           let on = h.opens.traces outs k so_far t (subst (λ x. FitsHoldings before.opens w.opens (waiting_pieces x waits) k) (sym is.kind) stood) (may_wait a o left _ m is.kind backed h.waiting) in
@@ -137,10 +142,13 @@ opened_waits {old} {new} a o waits left shown script before net m sound fits is 
         opens = h.sound;
         serials = omega (arith, h.serials);
         tied = h.opens.tied sound.tied;
-        well = record { fits = fits; backed = backed; waiting = h.waiting };
+        well = (record { fits = fits; backed = backed; waiting = h.waiting }, room);
         short = sound.short;
         named = sound.named;
         linked = record { address = h.linked.address; up = h.linked.up };
+        hooked =
+            let lives = some_live before.opens.graph before.opens.list sound.opens.lives in
+            kept_more before.opens.graph m.graph before.opens.list m.list lives.0 (l ∷ []) w.state.drives lives.1 (h.opens.state (state_of_world w lives.0) (state_is before.opens w lives.0 lives.1)).live sound.hooked;
       };
       under_way = tt;
       same_script = λ x. absurd x;
@@ -171,8 +179,8 @@ opened_back {old} {mid} {new} a o waits left shown script before begun now cause
       puts = subst (λ xs. Puts old new (out_texts xs)) (append_assoc front records more) (Puts-outs (front ++ records) more (puts h.opens.made h.opens.told w.time h.opens.made_is h.opens.told_is) lets.puts);
       opens = λ live are.
           let s = state_of_world w live in
-          subst (λ xs. IsOpenedIn s (live_asked s a) (job_asked a) inner w.outer before.used xs after) (sym plain)
-          (subst (λ x. IsOpenedIn s x (job_asked a) inner w.outer before.used (open_record l ∷ end_record l cause ∷ result cause ∷ []) after) (is.live live)
+          subst (λ xs. IsOpenedIn s (live_asked s a) (awaited_asked a w.opens) (job_asked a) inner w.outer before.used xs after) (sym plain)
+          (subst (λ x. IsOpenedIn s x (awaited_asked a w.opens) (job_asked a) inner w.outer before.used (open_record l ∷ end_record l cause ∷ result cause ∷ []) after) (is.live live)
           (goes_back before.used w begun.world.net now.opens live o a inner cause (without_graph h.opens.told) h.opens.first_put
           (lets.state begun.world.net w.time s (h.opens.state s (state_is before.opens w live are)))));
       traces = λ outs k so_far t stood.
@@ -195,6 +203,10 @@ opened_back {old} {mid} {new} a o waits left shown script before begun now cause
         short = sound.short;
         named = sound.named;
         linked = record { address = h.linked.address; up = h.linked.up };
+        hooked =
+            let lives = some_live before.opens.graph before.opens.list sound.opens.lives in
+            let left = lets.state begun.world.net w.time (state_of_world w lives.0) (h.opens.state (state_of_world w lives.0) (state_is before.opens w lives.0 lives.1)) in
+            kept_none_more before.opens.graph now.opens.graph before.opens.list now.opens.list lives.0 w.state.drives lives.1 left.live sound.hooked;
       };
       under_way = tt;
       same_script = λ x. (cause, refl, refl);

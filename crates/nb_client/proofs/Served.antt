@@ -13,7 +13,8 @@ use Rattle.nb_machine.specs.Lives.{Live}
 use Rattle.nb_machine.specs.Network.{Network, passes_by, brings, brings_reply, brings_segment, passes_time}
 use Rattle.nb_machine.specs.Running.{Running}
 use Rattle.nb_machine.specs.Scripts.{Waiting}
-use Rattle.nb_machine.specs.States.{State, bare}
+use Rattle.nb_machine.specs.States.{State, bare, still_hooked}
+use Rattle.nb_drivecmd.specs.declared.drive.Drive.{Drive}
 use Rattle.nb_machine.specs.Takings.{Over}
 use Rattle.nb_traced.specs.Holdings.{Holdings}
 use Rattle.nb_traced.specs.Outputs.{Arrived, Traced}
@@ -22,30 +23,33 @@ use Rattle.nb_network.specs.Takes.{AnswersBy, ArrivesAt, BeginsWithEntry, TakesR
 use Rattle.nb_network.specs.declared.over.HasEnded.{HasEnded}
 use Rattle.nb_network.proofs.Sound.{some_live}
 use Rattle.nb_client.specs.Progressing.{AdvancesFrom, BringsTo, StandsFirst, TracesTo}
-use Rattle.nb_client.specs.Serving.{Serves, world_at}
+use Rattle.nb_client.specs.Serving.{Serves, world_after}
 use Rattle.nb_client.specs.Snapshots.{Snapshot, StandsForProgress, pieces_waiting, state_of_world}
-use Rattle.nb_client.specs.Soundness.{IsSound, WasStarted, StandsWell, awaited_at, snapshot_at}
+use Rattle.nb_client.specs.Soundness.{IsSound, WasStarted, StandsWell, awaited_at, kept_drives, snapshot_at}
 use Rattle.nb_client.specs.Turning.{GoesOnBy, IsServed}
 use Rattle.nb_client.specs.declared.site.Site.{Site}
 use Rattle.nb_client.specs.declared.stage.Stage.{Stage}
+use Rattle.nb_client.proofs.DriveLists.{kept_same, kept_twice}
 
 -- the state that they are
 pub state_is : (w : World) (m : Many) (live : List Live) → AreOpensOf m.graph m.list live → IsStateOf m w.net w.time (state_of_world w live)
 state_is w m live are = record { devices = refl; time = refl; live = are }
 
 -- a record leaves all but the time, the devices and the opens
-network_keeps : (s : State) (n : ℕ) (r : In) (put : List Out) (s' : State) (over : List Over) → Network s n r put s' over → s' ≡ record s { now = s'.now; devices = s'.devices; live = s'.live }
-network_keeps s n r put s' over (passes_by _ device bytes link m on get brought none) = refl
-network_keeps s n r put s' over (brings _ device bytes link p d before behind after l _ _ on get brought live is no_before no_behind take) = refl
-network_keeps s n r put s' over (brings_reply _ device bytes link p e before behind after l _ _ on get brought live is no_before no_behind take) = refl
-network_keeps s n r put s' over (brings_segment _ device bytes link from p g before behind after l _ _ on get brought live is no_before no_behind take) = refl
-network_keeps s n r put s' over (passes_time ms after _ _ take) = refl
+network_keeps : (s : State) (n : ℕ) (r : In) (put : List Out) (s' : State) (over : List Over) → still_hooked s.live s.drives ≡ s.drives → Network s n r put s' over →
+    s' ≡ record s { now = s'.now; devices = s'.devices; live = s'.live; drives = still_hooked s'.live s.drives }
+network_keeps s n r put s' over hooked (passes_by _ device bytes link m on get brought none) = ap (λ (ds : List Drive). record s' { drives = ds }) (sym hooked)
+network_keeps s n r put s' over hooked (brings _ device bytes link p d before behind after l _ _ on get brought live is no_before no_behind take) = refl
+network_keeps s n r put s' over hooked (brings_reply _ device bytes link p e before behind after l _ _ on get brought live is no_before no_behind take) = refl
+network_keeps s n r put s' over hooked (brings_segment _ device bytes link from p g before behind after l _ _ on get brought live is no_before no_behind take) = refl
+network_keeps s n r put s' over hooked (passes_time ms after _ _ take) = refl
 
-after_state : (w : World) (live : List Live) (net : Client) (now : ℕ) (s : State) → s ≡ record (state_of_world w live) { now = s.now; devices = s.devices; live = s.live } →
-    s.devices ≡ bare net ∷ [] → s.now ≡ now → s ≡ state_of_world (world_at w net now) s.live
-after_state w live net now s e d t =
-    e ∙ (ap (λ x. record (state_of_world w live) { now = s.now; devices = x; live = s.live }) d
-    ∙ ap (λ x. record (state_of_world w live) { now = x; devices = bare net ∷ []; live = s.live }) t)
+after_state : (w : World) (live : List Live) (net : Client) (now : ℕ) (m : Many) (s : State) → s ≡ record (state_of_world w live) { now = s.now; devices = s.devices; live = s.live; drives = still_hooked s.live w.state.drives } →
+    s.devices ≡ bare net ∷ [] → s.now ≡ now → AreOpensOf m.graph m.list s.live → s ≡ state_of_world (world_after w net now m) s.live
+after_state w live net now m s e d t are =
+    e ∙ (ap (λ x. record (state_of_world w live) { now = s.now; devices = x; live = s.live; drives = still_hooked s.live w.state.drives }) d
+    ∙ (ap (λ x. record (state_of_world w live) { now = x; devices = bare net ∷ []; live = s.live; drives = still_hooked s.live w.state.drives }) t
+    ∙ ap (λ (x : List Drive). record (state_of_world w live) { now = now; devices = bare net ∷ []; live = s.live; drives = x }) (sym (kept_same m.graph m.list s.live are w.state.drives))))
 
 -- What a record has done, where these opens lived.
 pub record HasServed (r : In) (awaited : Option ℕ) (answer : Option HasEnded) (before mid : Site) (old new : Logged) (live : List Live) : Type 0 where
@@ -68,7 +72,9 @@ served {r} {awaited} {answer} {before} {mid} {old} {new} live v are =
     let t = v.takes s (state_is before.world before.opens live are) in
     let does = t.does in
     let same : does.after ≡ state_of_world mid.world does.after.live =
-    after_state before.world live mid.world.net mid.world.time does.after (network_keeps s (before.used + 1) r (without_graph t.records) does.after does.overs does.network) does.is_state.devices does.is_state.time
+    after_state before.world live mid.world.net mid.world.time mid.opens does.after
+    (network_keeps s (before.used + 1) r (without_graph t.records) does.after does.overs (sym (kept_same before.opens.graph before.opens.list live are before.world.state.drives) ∙ v.hooked) does.network)
+    does.is_state.devices does.is_state.time does.is_state.live
     ∙ ap (λ (w : World). state_of_world w does.after.live) (sym v.world) in
     record {
       after = does.after.live;
@@ -110,6 +116,7 @@ served_sound {r} {awaited} {answer} {before} {mid} at st sound v leases well =
       short = subst (λ (w : World). AreShortImages w.state.images.images) (sym v.world) sound.short;
       named = subst (λ (w : World). HasShortNames w.state.images) (sym v.world) sound.named;
       linked = v.linked;
+      hooked = subst (λ (w : World). kept_drives mid.opens.list w.state.drives ≡ w.state.drives) (sym v.world) (kept_twice mid.opens.list before.world.state.drives);
     }
 
 pub brings_waiting : (r : In) (n : ℕ) (s : State) (w : Waiting) (came : List Arrived) → IsServed r → ArrivesAt s n r came → BringsTo r n (waiting s w) came

@@ -21,6 +21,7 @@ use Rattle.nb_runner.specs.declared.errand.Errand.TheVariants as named
 use Rattle.nb_runner.specs.declared.errand.Onward.{Onward as Next-onward}
 use Rattle.nb_runner.specs.declared.errand.Onward.TheVariants as then_onward
 use Rattle.nb_runner.specs.declared.query.Query.{Query as Asking}
+use Rattle.nb_runner.specs.declared.world.World.{World}
 use Rattle.nb_client.specs.Asked.{asked_onward, errand_kind, onward_kind}
 use Rattle.nb_client.specs.Soundness.{IsBacked}
 use Rattle.nb_client.specs.declared.asked.Asked.TheVariants.{Query as Exchange}
@@ -43,17 +44,25 @@ finds_server errand name by e fine = of e.address refl
 pub kinds_agree : (errand : Named) (o : Next-onward) (server : ℕ) → onward_of o ≡ onward (errand_of errand) server → onward_kind o ≡ errand_kind errand
 kinds_agree (named.File f) (then_onward.File w) server e = refl
 kinds_agree named.Echo (then_onward.Echo s) server e = refl
+kinds_agree (named.Disk h) (then_onward.Disk k s) server e = refl
+kinds_agree (named.Disk h) (then_onward.File w) server e = cc
+kinds_agree (named.Disk h) (then_onward.Echo s) server e = cc
+kinds_agree (named.Disk h) (then_onward.Name other name by) server e = cc
+kinds_agree (named.File f) (then_onward.Disk k s) server e = cc
+kinds_agree named.Echo (then_onward.Disk k s) server e = cc
 kinds_agree (named.File f) (then_onward.Echo s) server e = cc
 kinds_agree (named.File f) (then_onward.Name other name by) server e = cc
 kinds_agree named.Echo (then_onward.Name other name by) server e = cc
 kinds_agree named.Echo (then_onward.File w) server e = cc
 
 -- of a server that was found no other name is looked up, beside which something would wait
-pub next_lone : (errand : Named) (o : Next-onward) (waits : Option Chain) (server : ℕ) → onward_of o ≡ onward (errand_of errand) server → (c : Chain) → IsBacked (asked_onward o) (Some c) → waits ≡ None
-next_lone errand (then_onward.File w) waits server e c backed = absurd (cc)
-next_lone errand (then_onward.Echo s) waits server e c backed = absurd (cc)
-next_lone (named.File f) (then_onward.Name other name by) waits server e c backed = absurd (cc)
-next_lone named.Echo (then_onward.Name other name by) waits server e c backed = absurd (cc)
+pub next_lone : (errand : Named) (o : Next-onward) (waits : Option Chain) (server : ℕ) → onward_of o ≡ onward (errand_of errand) server → (w : World) (c : Chain) → IsBacked (asked_onward w o) (Some c) → waits ≡ None
+next_lone errand (then_onward.File x) waits server e w c backed = absurd (cc)
+next_lone errand (then_onward.Echo s) waits server e w c backed = absurd (cc)
+next_lone errand (then_onward.Disk h s) waits server e w c backed = absurd (cc)
+next_lone (named.File f) (then_onward.Name other name by) waits server e w c backed = absurd (cc)
+next_lone named.Echo (then_onward.Name other name by) waits server e w c backed = absurd (cc)
+next_lone (named.Disk h) (then_onward.Name other name by) waits server e w c backed = absurd (cc)
 
 -- a look-up of a server's name has something that waits
 pub backed_host : (q : Asking) (errand : Errand) (waits : Option Chain) → IsHostOf (query_of q) errand → IsBacked (Exchange q) waits → (c : Chain) × (waits ≡ Some c)

@@ -27,9 +27,9 @@ use Rattle.nb_runner.specs.World.{world_with}
 use Rattle.nb_network.specs.declared.over.HasEnded.{HasEnded}
 use Rattle.nb_client.specs.Asked.{beside_kind, errand_kind, job_asked, onward_kind, pieces_beside}
 use Rattle.nb_client.specs.Concluding.{FindsServer, ReachesAt, SettlesAt, next_found, settled_so}
-use Rattle.nb_client.specs.Serving.{Concludes}
+use Rattle.nb_client.specs.Serving.{ConcludesEnd}
 use Rattle.nb_client.specs.Snapshots.{at_reaching, at_running, state_of_world}
-use Rattle.nb_client.specs.Soundness.{HasWaiting, IsBacked, IsSound, snapshot_at}
+use Rattle.nb_client.specs.Soundness.{HasRoomFor, HasRoomIf, HasWaiting, IsBacked, IsSound, snapshot_at}
 use Rattle.nb_client.specs.declared.asked.Asked.TheVariants.{Query as Exchange}
 use Rattle.nb_client.specs.declared.pending.Expected.TheVariants.{Open}
 use Rattle.nb_client.specs.declared.pending.Pending.{Pending}
@@ -48,9 +48,9 @@ module _ (before : Site) (s : Running) (e : HasEnded) (p : Pending) (waits : Opt
   -- the server's own open is next: of the look-up of its name
   reaches_host : (errand : Named) (name : Text) (by : Ip4) (server : Ip4) (c : Chain) (st : Stage) (old : Logged) →
       p.asked ≡ Exchange (asked.Host errand name by) → p.waits ≡ waits → waits ≡ Some c → FindsServer (Some server) e (query_of (asked.Host errand name by)) →
-      ReachesAt s (asked.Host errand name by) server c st → HasWaiting (errand_kind errand) waits None before.opens → IsSound before.used before.world before.opens (stage.Running s) →
-      Concludes p e s before (snapshot_at before st) old old
-  reaches_host errand name by server c st old asks same some finds reaches waiting sound =
+      ReachesAt s (asked.Host errand name by) server c st → HasWaiting (errand_kind errand) waits None before.opens → HasRoomFor (Exchange (asked.Host errand name by)) before.world.state.drives → IsSound before.used before.world before.opens (stage.Running s) →
+      ConcludesEnd p e s before (snapshot_at before st) old old
+  reaches_host errand name by server c st old asks same some finds reaches waiting room sound =
       let w = before.world in
       let next = reaches.next in
       let leads_on = onward (errand_of errand) server.0 in
@@ -78,7 +78,7 @@ module _ (before : Site) (s : Running) (e : HasEnded) (p : Pending) (waits : Opt
             numbered = fits.numbered;
           };
         };
-        sound = record { time = sound.time; opens = sound.opens; serials = sound.serials; tied = sound.tied; well = (reaches.fits, record { waiting = subst (λ k. HasWaiting k next.waits None before.opens) (sym kind_is) (subst (λ x. HasWaiting (errand_kind errand) x None before.opens) (some ∙ sym reaches.waits) waiting); lone = next_lone errand next.onward next.waits server.0 next_is }); short = sound.short; named = sound.named; linked = sound.linked };
+        sound = record { time = sound.time; opens = sound.opens; serials = sound.serials; tied = sound.tied; well = (reaches.fits, subst (λ b. HasRoomIf b w.state.drives) (sym reaches.hooks) room, record { waiting = subst (λ k. HasWaiting k next.waits None before.opens) (sym kind_is) (subst (λ x. HasWaiting (errand_kind errand) x None before.opens) (some ∙ sym reaches.waits) waiting); lone = next_lone errand next.onward next.waits server.0 next_is w }); short = sound.short; named = sound.named; linked = sound.linked; hooked = sound.hooked };
         under_way = tt;
       })
     where
@@ -91,7 +91,7 @@ module _ (before : Site) (s : Running) (e : HasEnded) (p : Pending) (waits : Opt
   -- the command was settled
   pub settled_goes : (q : Asking) (kind : ChainKind) (after : Site) (st : Stage) (old new : Logged) → p.asked ≡ Exchange q → p.waits ≡ waits → kind ≡ beside_kind (Exchange q) → FindsServer None e (query_of q) →
       SettlesAt s kind waits (settled_so e (query_of q) before.world.state.table) before after st old new → IsSound before.used before.world before.opens (stage.Running s) →
-      Concludes p e s before (snapshot_at after st) old new
+      ConcludesEnd p e s before (snapshot_at after st) old new
   settled_goes q kind after st old new asks same kind_is finds l sound =
       let w = before.world in
       let x = settled_so e (query_of q) w.state.table in
@@ -127,6 +127,7 @@ module _ (before : Site) (s : Running) (e : HasEnded) (p : Pending) (waits : Opt
           short = sound.short;
           named = sound.named;
           linked = record { address = refl; up = refl };
+          hooked = rw (lets.same_list, l.same_opens) sound.hooked;
         });
         under_way = tt;
       })
@@ -136,10 +137,10 @@ module _ (before : Site) (s : Running) (e : HasEnded) (p : Pending) (waits : Opt
 
   -- the server was found that the command has named
   pub found_goes : (q : Asking) (kind : ChainKind) (server : Ip4) (st : Stage) (old : Logged) → p.asked ≡ Exchange q → p.waits ≡ waits → kind ≡ beside_kind (Exchange q) → FindsServer (Some server) e (query_of q) →
-      ((c : Chain) → waits ≡ Some c → ReachesAt s q server c st) → IsBacked (Exchange q) waits → HasWaiting kind waits None before.opens → IsSound before.used before.world before.opens (stage.Running s) →
-      Concludes p e s before (snapshot_at before st) old old
-  found_goes (asked.Host errand name by) kind server st old asks same kind_is finds reaches backed waiting sound =
-      reaches_host errand name by server backed.0 st old asks same backed.1 finds (reaches backed.0 backed.1) (subst (λ k. HasWaiting k waits None before.opens) kind_is waiting) sound
-  found_goes asked.Lease kind server st old asks same kind_is finds reaches backed waiting sound = absurd finds.1
-  found_goes (asked.Echo host) kind server st old asks same kind_is finds reaches backed waiting sound = absurd finds.1
-  found_goes (asked.Address setting name by) kind server st old asks same kind_is finds reaches backed waiting sound = absurd finds.1
+      ((c : Chain) → waits ≡ Some c → ReachesAt s q server c st) → IsBacked (Exchange q) waits → HasWaiting kind waits None before.opens → HasRoomFor (Exchange q) before.world.state.drives → IsSound before.used before.world before.opens (stage.Running s) →
+      ConcludesEnd p e s before (snapshot_at before st) old old
+  found_goes (asked.Host errand name by) kind server st old asks same kind_is finds reaches backed waiting room sound =
+      reaches_host errand name by server backed.0 st old asks same backed.1 finds (reaches backed.0 backed.1) (subst (λ k. HasWaiting k waits None before.opens) kind_is waiting) room sound
+  found_goes asked.Lease kind server st old asks same kind_is finds reaches backed waiting room sound = absurd finds.1
+  found_goes (asked.Echo host) kind server st old asks same kind_is finds reaches backed waiting room sound = absurd finds.1
+  found_goes (asked.Address setting name by) kind server st old asks same kind_is finds reaches backed waiting room sound = absurd finds.1

@@ -44,6 +44,7 @@ start_goes {old} {new} s before after st rest to valid sound used world opens qu
       short = tt;
       named = All-nil IsShortName;
       linked = record { address = refl; up = refl };
+      hooked = refl;
     } in
     let plain : without_graph (step n ∷ rest) ≡ step n ∷ rest = plain_apart (step n ∷ rest) (tt, apart) in
     let goes : GoesOnBy (start s ∷ []) (snapshot_at before stage.Ready) end old new = record {

@@ -1,7 +1,7 @@
 -- What comes of a record while a command waits, or a script has had all the commands of a step.
 use Rattle.std.proofs.Common.{◌≡◌, ℕ, ◌+◌, ◌≤◌, true, false, List, [], ◌∷◌, ◌++◌, Option, Some, None, refl, sym, ◌∙◌, ap, subst, append-nil, append_assoc, arith, nat_le}
 use Rattle.std.proofs.lemmas.Bool.Decides.{nat_tests}
-use Rattle.std.specs.Prelude.{find, option_map, cond}
+use Rattle.std.specs.Prelude.{find, cond}
 use Rattle.nb_defs.specs.Causes.{ok}
 use Rattle.nb_defs.specs.Records.{In, IsIn, Out, out_texts, result, step}
 use Rattle.nb_record.specs.Logged.{Logged, Puts}
@@ -9,18 +9,24 @@ use Rattle.nb_runner.proofs.Puts.{Puts-outs}
 use Rattle.nb_traced.specs.Plain.{without_graph}
 use Rattle.nb_machine.specs.Courses.{Progress, stands, running, waiting, yielded, StepBegins, waits_on, is_answered, resumes}
 use Rattle.nb_machine.specs.Running.{Running, anew, with_result}
-use Rattle.nb_machine.specs.Scripts.{answer, answer_in, by_end, by_time, concluded_by, is_number, moment, upshot_records}
+use Rattle.nb_machine.specs.Scripts.{answer_in, by_time, concluded_by, is_number, moment, upshot_records}
 use Rattle.nb_machine.specs.States.{State}
 use Rattle.nb_machine.specs.Takings.{Over}
 use Rattle.nb_traced.specs.Holdings.{Holdings}
 use Rattle.nb_traced.specs.Outputs.{Arrived, Traced}
-use Rattle.nb_network.specs.Takes.{AnswersBy, IsEndOf, awaited_over}
+use Rattle.nb_network.specs.Many.{Many}
+use Rattle.nb_network.specs.Takes.{AnswersBy, IsEndOf, awaited_over, still_awaited}
 use Rattle.nb_network.specs.declared.over.HasEnded.{HasEnded}
 use Rattle.nb_client.specs.Asked.{job_asked}
 use Rattle.nb_client.specs.Progressing.{TracesTo}
-use Rattle.nb_client.specs.Serving.{Concludes, IsSoundAfter, Serves, WaitsOrEnds, WakesBy, sleeps_still, wakes_now}
+use Rattle.nb_client.specs.Serving.{Concludes, FitsAnswer, IsAnswerBy, IsDriveAnswered, IsSoundAfter, LivesOn, Serves, WaitsOrEnds, WakesBy, sleeps_still, wakes_now}
 use Rattle.nb_client.specs.Snapshots.{FitsOutput, Snapshot, StandsForProgress, at_running, at_waiting, state_of_world, waiting_for, waiting_within}
-use Rattle.nb_client.specs.Soundness.{IsClean, IsSound, snapshot_at}
+use Rattle.nb_client.specs.Soundness.{HasRoomFor, IsBacked, IsClean, IsPendingWell, IsSound, asked_hooks, has_its_open, snapshot_at}
+use Rattle.nb_runner.specs.declared.world.World.{World}
+use Rattle.nb_client.specs.declared.asked.Asked.{Asked}
+use Rattle.nb_client.specs.declared.asked.Asked.TheVariants.{File, Query as Exchange, Disk}
+use Rattle.nb_client.specs.declared.pending.Answer.{Answer as TheAnswer}
+use Rattle.nb_client.specs.declared.pending.Answer.TheVariants.{End, Drive as Lives}
 use Rattle.nb_client.specs.Turning.{GoesOnBy, IsServed}
 use Rattle.nb_client.specs.declared.pending.Pending.{Pending}
 use Rattle.nb_client.specs.declared.pending.Expected.{Expected}
@@ -31,6 +37,7 @@ use Rattle.nb_client.specs.declared.stage.Stage.TheVariants as stage
 use Rattle.nb_client.proofs.Standing.{stands_at}
 use Rattle.nb_client.proofs.Arrivals.{none_ends}
 use Rattle.nb_client.proofs.Traces.{trace_apart}
+use Rattle.nb_client.proofs.DriveWaits.{found_answer, lives_untied, none_asked, room_if_kept, same_end}
 use Rattle.nb_client.proofs.Served.{Place, brings_waiting, brings_yielded, served_sound, step_goes, takes_some}
 
 -- the scripts outside stay
@@ -105,14 +112,15 @@ none_found k overs a = is_none (find (is_number k) overs) a
 
 -- the command waits on for its open
 pub waits_goes : {r : In} {before mid : Site} {l0 l1 old new : Logged} (s : Running) (p : Pending) → IsIn r → IsServed r → IsSound before.used before.world before.opens (stage.Waiting s (Open p)) → Serves r (Some p.number) None before mid l0 l1 →
+    IsDriveAnswered p.asked p.number mid.opens false →
     ((records : List Out) → Puts l0 l1 (out_texts (step (before.used + 1) ∷ records)) → Puts old new (out_texts ((step (before.used + 1) ∷ records) ++ []))) →
     IsSound mid.used mid.world mid.opens (stage.Waiting (anew s) (Open p)) →
     GoesOnBy (r ∷ []) (snapshot_at before (stage.Waiting s (Open p))) (snapshot_at mid (stage.Waiting (anew s) (Open p))) old new
-waits_goes {r} {before} {mid} {l0} {l1} {old} {new} s p valid is sound v puts after_sound =
+waits_goes {r} {before} {mid} {l0} {l1} {old} {new} s p valid is sound v silent puts after_sound =
     step_goes (stage.Waiting s (Open p)) (place_waiting before s (Open p) r is) (snapshot_at mid (stage.Waiting (anew s) (Open p))) [] v puts
     (λ live h.
     let to = waiting (state_of_world mid.world h.after) (waiting_for mid.world (anew s) (Open p)) in
-    let none : answer_in (state_of_world mid.world h.after) r h.overs (answer p.number) ≡ None = ap (option_map by_end) (none_found p.number h.overs h.answers) in (
+    let none = none_asked p.asked p.number mid.opens (state_of_world mid.world h.after) r h.overs (none_found p.number h.overs h.answers) h.are silent in (
       to,
       from_within s (Open p) mid.world.outer before.world.outer (ap (λ w. w.outer) v.world) (subst (λ x. StepBegins (stands before.used (waiting (state_of_world before.world live) (waiting_for mid.world s (Open p)))) r (step (before.used + 1) ∷ x) (stands (before.used + 1) to)) (sym (append-nil (without_graph h.records)))
           (waits_on before.used (state_of_world before.world live) (state_of_world mid.world h.after) (waiting_for mid.world s (Open p)) r (without_graph h.records) h.overs valid h.network none)),
@@ -138,28 +146,34 @@ none_is_found {e} k overs none f =
     let gone : find (is_number k) overs ≡ None = ap (find (is_number k)) none in
     let no : Some f.0 ≡ None = sym f.1 ∙ gone in cc
 
--- the open has ended that the command has waited for
-pub ends_goes : {r : In} {before mid : Site} {l0 l1 l2 old new : Logged} (s : Running) (p : Pending) (e : HasEnded) (after : Snapshot) → IsIn r → IsServed r → Serves r (Some p.number) (Some e) before mid l0 l1 →
-    (c : Concludes p e (anew s) mid after l1 l2) →
+-- where nothing comes to an open, the command gets no end
+plain_answer : (p : Pending) (ended : Option HasEnded) (x : TheAnswer) (m : Many) (overs : List Over) (rest : List Out) → (overs ≡ []) → AnswersBy ended (awaited_over (Some p.number) overs) → IsAnswerBy p ended m (Some x) →
+    (LivesOn x → without_graph rest ≡ rest) → without_graph rest ≡ rest
+plain_answer p (Some e) x m overs rest none answers is plain = absurd (none_is_found p.number overs none (some_found p.number overs e answers))
+plain_answer p None (End e) m overs rest none answers is plain = absurd is
+plain_answer p None Lives m overs rest none answers is plain = plain tt
+
+-- the command got what it has waited for
+pub comes_goes : {r : In} {before mid : Site} {l0 l1 l2 old new : Logged} (s : Running) (p : Pending) (ended : Option HasEnded) (x : TheAnswer) (after : Snapshot) → IsIn r → IsServed r → Serves r (Some p.number) ended before mid l0 l1 →
+    IsAnswerBy p ended mid.opens (Some x) → (c : Concludes p x (anew s) mid after l1 l2) →
     ((records : List Out) → Puts l0 l1 (out_texts (step (before.used + 1) ∷ records)) → Puts old new (out_texts ((step (before.used + 1) ∷ records) ++ c.rest))) →
     GoesOnBy (r ∷ []) (snapshot_at before (stage.Waiting s (Open p))) after old new
-ends_goes {r} {before} {mid} {l0} {l1} {l2} {old} {new} s p e after valid is v c puts =
+comes_goes {r} {before} {mid} {l0} {l1} {l2} {old} {new} s p ended x after valid is v by c puts =
     let same : mid.world.opens ≡ before.world.opens = ap (λ w. w.opens) v.world in
     step_goes (stage.Waiting s (Open p)) (place_waiting before s (Open p) r is) after c.rest v puts
     (λ live h.
-    let f = some_found p.number h.overs e h.answers in
-    let o = f.0 in
     let s' = state_of_world mid.world h.after in
-    let d = c.comes h.after h.are o f.2 in
-    let is_answer : answer_in s' r h.overs (answer p.number) ≡ Some (by_end o) = ap (option_map by_end) f.1 in (
+    let f = found_answer p ended x mid.opens s' r h.overs h.answers h.are by in
+    let a = f.0 in
+    let d = c.comes h.after h.are a f.1 in (
       d.to,
       from_within s (Open p) mid.world.outer before.world.outer (ap (λ w. w.outer) v.world) (subst (λ x. StepBegins (stands before.used (waiting (state_of_world before.world live) (waiting_for mid.world s (Open p)))) r (step (before.used + 1) ∷ x) (stands (before.used + 1) d.to))
-          (append_assoc (without_graph h.records) (upshot_records (concluded_by s' s.depth (job_asked p.asked) (by_end o))) d.more ∙ ap (λ z. without_graph h.records ++ z) (sym d.is_put))
-          (is_answered before.used (state_of_world before.world live) s' (waiting_for mid.world s (Open p)) r (without_graph h.records) d.more h.overs (by_end o) d.to valid h.network is_answer d.leads)),
+          (append_assoc (without_graph h.records) (upshot_records (concluded_by s' s.depth (job_asked p.asked) a)) d.more ∙ ap (λ z. without_graph h.records ++ z) (sym d.is_put))
+          (is_answered before.used (state_of_world before.world live) s' (waiting_for mid.world s (Open p)) r (without_graph h.records) d.more h.overs a d.to valid h.network f.2 d.leads)),
       subst (λ k. StandsForProgress after (stands k d.to)) v.used d.stands_so,
     ))
     (λ outs h so_far tr fits. c.traces outs h so_far tr (record { state = fits.state; living = fits.living; waiting = fits.waiting; numbered = subst (λ k. h.begun ≤ k) (sym same) fits.numbered }))
-    (λ live h none. absurd (none_is_found p.number h.overs (none_ends _ _ r _ _ h.overs h.came h.arrives none h.network) (some_found p.number h.overs e h.answers)))
+    (λ live h none. plain_answer p ended x mid.opens h.overs c.rest (none_ends _ _ r _ _ h.overs h.came h.arrives none h.network) h.answers by c.plain)
     c.sound c.under_way
 
 -- the command sleeps on, or wakes
@@ -216,41 +230,80 @@ pub gathered_puts : {g0 g1 old new : Logged} (bytes : List ℕ) → IsClean g0 �
 gathered_puts {g0} {g1} {old} {new} bytes clean whole p q =
     subst (λ x. Puts old new x) ((p.whole whole).1 ∙ ap (λ x. x ++ bytes) clean.empty) q
 
--- the client is sound, whether the open that a command waits for lives on or has ended
-pub sound_after : {r : In} {before mid : Site} {old new : Logged} (s : Running) (p : Pending) (e : Option HasEnded) → IsSound before.used before.world before.opens (stage.Waiting s (Open p)) → Serves r (Some p.number) e before mid old new → IsSoundAfter e mid s p
-sound_after s p None sound v =
+-- what a command has asked for fits still, where its open has ended or not
+asked_well : {r : In} {before mid : Site} {old new : Logged} (s : Running) (p : Pending) (ended : Option HasEnded) (k : Option ℕ) → k ≡ still_awaited (Some p.number) ended → IsSound before.used before.world before.opens (stage.Waiting s (Open p)) →
+    Serves r (Some p.number) ended before mid old new → IsPendingWell p k mid.opens
+asked_well {r} {before} {mid} s p ended k is sound v =
     let t = takes_some sound.opens v in
-    served_sound (stage.Waiting s (Open p)) (stage.Waiting s (Open p)) sound v (t.takes.tied sound.tied) (record {
-      fits = sound.well.fits;
-      backed = sound.well.backed;
+    subst (λ (j : Option ℕ). IsPendingWell p j mid.opens) (sym is) (record {
+      fits = sound.well.0.fits;
+      backed = sound.well.0.backed;
       waiting = record {
-        beside = λ c is. t.takes.waiting _ c (sound.well.waiting.beside c is);
-        newest = λ c is. t.takes.newest c (sound.well.waiting.newest c is);
+        beside = λ c is. t.takes.waiting _ c (sound.well.0.waiting.beside c is);
+        newest = λ c is. t.takes.newest c (sound.well.0.waiting.newest c is);
       };
     })
-sound_after s p (Some e) sound v =
+
+-- and a drive more may be hooked still
+room_still : {r : In} {ended : Option HasEnded} {before mid : Site} {old new : Logged} (s : Running) (p : Pending) → IsSound before.used before.world before.opens (stage.Waiting s (Open p)) → Serves r (Some p.number) ended before mid old new →
+    HasRoomFor p.asked mid.world.state.drives
+room_still {r} {ended} {before} {mid} s p sound v =
+    let ds = before.world.state.drives in
+    let test = has_its_open mid.opens.list in
+    subst (λ (w : World). HasRoomFor p.asked w.state.drives) (sym v.world) (room_if_kept (asked_hooks p.asked) test ds sound.well.1)
+
+-- nothing waits beside a disk's open, so none is the newest
+lives_well : (a : Asked) (p : Pending) (m : Many) → p.asked ≡ a → IsDriveAnswered a p.number m true → IsPendingWell p (Some p.number) m → IsPendingWell p None m
+lives_well (File w) p m same spoke h = absurd (let no : true ≡ false = spoke in cc)
+lives_well (Exchange q) p m same spoke h = absurd (let no : true ≡ false = spoke in cc)
+lives_well (Disk d) p m same spoke h =
+    let alone : p.waits ≡ None = subst (λ (x : Asked). IsBacked x p.waits) same h.backed in
+    record {
+      fits = h.fits;
+      backed = h.backed;
+      waiting = record { beside = h.waiting.beside; newest = λ c is. absurd (let no : None ≡ Some c = sym alone ∙ is in cc) };
+    }
+
+lives_fits : (a : Asked) (k : ℕ) (m : Many) → IsDriveAnswered a k m true → FitsAnswer Lives a
+lives_fits (File w) k m spoke = let no : true ≡ false = spoke in cc
+lives_fits (Exchange q) k m spoke = let no : true ≡ false = spoke in cc
+lives_fits (Disk d) k m spoke = tt
+
+-- the client is sound, whether the command waits on or got what it waited for
+pub sound_after : {r : In} {before mid : Site} {old new : Logged} (s : Running) (p : Pending) (ended : Option HasEnded) (x : Option TheAnswer) → IsSound before.used before.world before.opens (stage.Waiting s (Open p)) →
+    Serves r (Some p.number) ended before mid old new → IsAnswerBy p ended mid.opens x → IsSoundAfter x mid s p
+sound_after s p (Some e) None sound v by = absurd (let no : None ≡ Some (End e) = by in cc)
+sound_after {r} {before} {mid} s p (Some e) (Some x) sound v by =
     let t = takes_some sound.opens v in
-    let f = some_found p.number t.takes.does.overs e t.takes.does.answers in (
+    let f = some_found p.number t.takes.does.overs e t.takes.does.answers in
+    let left = room_still s p sound v in
+    subst (λ (y : TheAnswer). IsSoundAfter (Some y) mid s p) (sym (same_end x e by)) (
       served_sound (stage.Waiting s (Open p)) (stage.Running s) sound v (t.takes.tied sound.tied) tt,
-      record {
-        fits = sound.well.fits;
-        backed = sound.well.backed;
-        waiting = record {
-          beside = λ c is. t.takes.waiting _ c (sound.well.waiting.beside c is);
-          newest = λ c is. t.takes.newest c (sound.well.waiting.newest c is);
-        };
-      },
-      f.2.message,
+      record { asked = asked_well s p (Some e) None refl sound v; room = left; fits = f.2.message },
     )
+sound_after s p None (Some (End e)) sound v by = absurd by
+sound_after {r} {before} {mid} s p None (Some Lives) sound v by =
+    let t = takes_some sound.opens v in
+    let left = room_still s p sound v in
+    let none = lives_untied p.asked p.number mid.world.w mid.world.opens mid.world.net mid.opens v.opens by (t.takes.tied sound.tied) in (
+      served_sound (stage.Waiting s (Open p)) (stage.Running s) sound v none tt,
+      record { asked = lives_well p.asked p mid.opens refl by (asked_well s p None (Some p.number) refl sound v); room = left; fits = lives_fits p.asked p.number mid.opens by },
+    )
+sound_after s p None None sound v by =
+    let t = takes_some sound.opens v in
+    let left = room_still s p sound v in
+    served_sound (stage.Waiting s (Open p)) (stage.Waiting s (Open p)) sound v (t.takes.tied sound.tied) (asked_well s p None (Some p.number) refl sound v, left)
 
 -- a step in which a command waits for an open
-pub waited_goes : {r : In} {before mid : Site} {old l1 new : Logged} (s : Running) (p : Pending) (e : Option HasEnded) (after : Snapshot) → IsIn r → IsServed r → IsSound before.used before.world before.opens (stage.Waiting s (Open p)) →
-    Serves r (Some p.number) e before mid old l1 → WaitsOrEnds e p s mid after l1 new → GoesOnBy (r ∷ []) (snapshot_at before (stage.Waiting s (Open p))) after old new
-waited_goes {r} {before} {mid} {old} {l1} {new} s p None after valid is sound v does =
-    let one = sound_after s p None sound v in
+pub waited_goes : {r : In} {before mid : Site} {old l1 new : Logged} (s : Running) (p : Pending) (ended : Option HasEnded) (x : Option TheAnswer) (after : Snapshot) → IsIn r → IsServed r →
+    IsSound before.used before.world before.opens (stage.Waiting s (Open p)) → Serves r (Some p.number) ended before mid old l1 → IsAnswerBy p ended mid.opens x → WaitsOrEnds x p s mid after l1 new →
+    GoesOnBy (r ∷ []) (snapshot_at before (stage.Waiting s (Open p))) after old new
+waited_goes s p (Some e) None after valid is sound v by does = absurd (let no : None ≡ Some (End e) = by in cc)
+waited_goes {r} {before} {mid} {old} {l1} {new} s p None None after valid is sound v by does =
+    let one = sound_after s p None None sound v by in
     subst (λ (l : Logged). GoesOnBy (r ∷ []) (snapshot_at before (stage.Waiting s (Open p))) after old l) (sym does.1)
     (subst (λ x. GoesOnBy (r ∷ []) (snapshot_at before (stage.Waiting s (Open p))) x old l1) (sym does.0)
-    (waits_goes s p valid is sound v (nothing_more old l1 (before.used + 1))
-    (record { time = one.time; opens = one.opens; serials = one.serials; tied = one.tied; well = one.well; short = one.short; named = one.named; linked = one.linked })))
-waited_goes {r} {before} {mid} {old} {l1} {new} s p (Some e) after valid is sound v does =
-    ends_goes s p e after valid is v does (λ records u. Puts-outs (step (before.used + 1) ∷ records) does.rest u does.puts)
+    (waits_goes s p valid is sound v by (nothing_more old l1 (before.used + 1))
+    (record { time = one.time; opens = one.opens; serials = one.serials; tied = one.tied; well = one.well; short = one.short; named = one.named; linked = one.linked; hooked = one.hooked })))
+waited_goes {r} {before} {mid} {old} {l1} {new} s p ended (Some x) after valid is sound v by does =
+    comes_goes s p ended x after valid is v by does (λ records u. Puts-outs (step (before.used + 1) ∷ records) does.rest u does.puts)

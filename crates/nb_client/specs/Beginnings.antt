@@ -30,13 +30,14 @@ use Rattle.nb_client.specs.Asked.{beside_kind}
 use Rattle.nb_client.specs.Serving.{world_at}
 use Rattle.nb_client.specs.Soundness.{HasWaiting, IsBacked}
 use Rattle.nb_client.specs.declared.asked.Asked.{Asked}
-use Rattle.nb_client.specs.declared.asked.Asked.TheVariants.{File, Query as Exchange}
+use Rattle.nb_client.specs.declared.asked.Asked.TheVariants.{File, Query as Exchange, Disk}
 use Rattle.nb_client.specs.declared.opening.NewOpen.{NewOpen}
 use Rattle.nb_client.specs.declared.site.Site.{Site}
 
 -- the objects of its open
 abbrev pub asked_kind : Asked → ChainKind
 asked_kind (File w) = chain.File
+asked_kind (Disk disk) = chain.Drive
 asked_kind (Exchange query.Lease) = chain.Lease
 asked_kind (Exchange (query.Echo server)) = chain.Echo
 asked_kind (Exchange (query.Address setting name by)) = chain.Name

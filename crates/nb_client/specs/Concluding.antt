@@ -8,23 +8,27 @@ use Rattle.nb_wire.specs.declared.address.Ip4.{Ip4}
 use Rattle.nb_image.specs.Images.{ImageList}
 use Rattle.nb_imagecmd.specs.declared.arriving.Arrival.{Arrival}
 use Rattle.nb_imagecmd.specs.declared.arriving.Arrival.TheVariants as arrival
-use Rattle.nb_runner.specs.Handings.{AreShortImages}
+use Rattle.nb_runner.specs.Handings.{AreShortImages, IsShortTable}
 use Rattle.nb_settings.specs.Tables.{TableLists}
 use Rattle.nb_command.specs.Settings.{Change}
 use Rattle.nb_command.specs.Addresses.{address_table}
+use Rattle.nb_machine.specs.BootTables.{boot_table}
 use Rattle.nb_machine.specs.Errands.{Errand, Onward, onward}
 use Rattle.nb_machine.specs.Findings.{Settlement, lease_change, settled_by}
+use Rattle.nb_machine.specs.Lives.{Live}
 use Rattle.nb_machine.specs.Queries.{Query, for_lease, for_echo, for_host, for_address}
 use Rattle.nb_machine.specs.Running.{Running, with_result}
-use Rattle.nb_runner.specs.CommandWords.{FitsOnward, onward_of}
-use Rattle.nb_runner.specs.Intents.{query_of}
+use Rattle.nb_runner.specs.CommandWords.{FitsOnward, onward_hooks, onward_of}
+use Rattle.nb_runner.specs.Intents.{query_hooks, query_of}
 use Rattle.nb_runner.specs.World.{world_with}
 use Rattle.nb_runner.specs.declared.handing.Handing.{Handing}
 use Rattle.nb_runner.specs.declared.query.Query.{Query as Asking}
 use Rattle.nb_chains.specs.declared.chain.Chain.{Chain}
 use Rattle.nb_chains.specs.declared.kind.ChainKind.{ChainKind}
 use Rattle.nb_network.specs.declared.over.HasEnded.{HasEnded}
+use Rattle.nb_network.specs.Many.{AreOpensOf}
 use Rattle.nb_client.specs.Beginnings.{DropsWaiting}
+use Rattle.nb_client.specs.Snapshots.{state_of_world}
 use Rattle.nb_client.specs.declared.pending.Next.{Next}
 use Rattle.nb_client.specs.declared.site.Site.{Site}
 use Rattle.nb_client.specs.declared.stage.Stage.{Stage}
@@ -37,9 +41,14 @@ ArrivesWell depth arrival.Kept left = AreShortImages left.images
 ArrivesWell depth (arrival.Run script replace) left = AreShortImages left.images × (replace ≡ false → depth < 8)
 ArrivesWell depth arrival.Boot left = AreShortImages left.images × (i : ℕ) × (left.selected ≡ Some i)
 
--- the hand-off of the image at this place, of which nothing was put
-abbrev pub handing_of : ℕ → Handing
-handing_of kernel = record { kernel = kernel; part = 0; piece = 0 }
+-- the hand-off of the image at this place and of this boot table, of which nothing was put
+abbrev pub handing_of : ℕ → Option (List ℕ) → Handing
+handing_of kernel table = record { kernel = kernel; table = table; part = 0; piece = 0 }
+
+-- the boot table of these opens and of the drives of this world, which is short
+pub record IsBootTable (c : Site) (table : Option (List ℕ)) : Type 0 where
+  pub of_state : (live : List Live) → AreOpensOf c.opens.graph c.opens.list live → boot_table (state_of_world c.world live) ≡ table
+  pub short : IsShortTable table
 
 -- the place to which the file was moved whose open has ended so, if it was
 abbrev pub moved_place : HasEnded → Option (List ℕ)
@@ -85,6 +94,7 @@ pub record ReachesAt (s : Running) (q : Asking) (server : Ip4) (c : Chain) (st :
   pub waits : next.waits ≡ Some c
   pub asks : (errand : Errand) → IsHostOf (query_of q) errand → onward_of next.onward ≡ onward errand server.0
   pub fits : FitsOnward next.onward
+  pub hooks : onward_hooks next.onward ≡ query_hooks q
 
 -- The command was settled so, and the device follows its settings; what has waited was let go.
 pub record SettlesAt (s : Running) (kind : ChainKind) (waits : Option Chain) (x : Settlement) (before after : Site) (st : Stage) (old new : Logged) : Type 0 where

@@ -7,5 +7,6 @@ pub mod Leading
 pub mod Serving
 pub mod Beginnings
 pub mod Concluding
+pub mod Drives
 pub mod Closings
 pub mod Openings

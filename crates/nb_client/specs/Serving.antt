@@ -1,28 +1,35 @@
 -- A record comes to the opens that live, and what comes of the one that a command waits for.
-use Rattle.std.specs.Prelude.{◌≡◌, ◌<◌, ◌≤◌, ◌+◌, ◌*◌, ℕ, List, [], ◌∷◌, ◌++◌, Option, Some, None}
+use Rattle.std.specs.Prelude.{◌≡◌, ◌<◌, ◌≤◌, ◌+◌, ◌*◌, ℕ, Bool, true, false, List, [], ◌∷◌, ◌++◌, find, Option, Some, None, if◌then◌else◌}
+use Rattle.std.specs.Option.{is_some, option_and_then}
+use Rattle.nb_terms.specs.declared.cause.Cause.{Cause}
 use Rattle.nb_defs.specs.Causes.{ok}
 use Rattle.nb_defs.specs.Records.{In, Out, out_texts, result}
 use Rattle.nb_record.specs.Logged.{Logged, Puts}
 use Rattle.nb_traced.specs.Plain.{without_graph}
 use Rattle.nb_runner.specs.declared.world.World.{World}
-use Rattle.nb_runner.specs.World.{IsLinkOfState}
+use Rattle.nb_runner.specs.World.{IsLinkOfState, world_with_drives}
 use Rattle.nb_stack.specs.Client.{Client}
 use Rattle.nb_machine.specs.Courses.{LeadsTo, Standing, stands}
 use Rattle.nb_machine.specs.Lives.{Live}
 use Rattle.nb_machine.specs.Running.{Running, anew, with_result}
-use Rattle.nb_machine.specs.Scripts.{Job, by_end, concluded_by, upshot_records}
+use Rattle.nb_machine.specs.Kinds.{answered}
+use Rattle.nb_machine.specs.Scripts.{Job, Answer, answer_of_over, by_end, by_drive, concluded_by, has_number, upshot_records}
 use Rattle.nb_machine.specs.States.{State}
 use Rattle.nb_machine.specs.Takings.{Over}
 use Rattle.nb_traced.specs.Holdings.{Holdings}
 use Rattle.nb_traced.specs.Outputs.{Arrived, Traced}
-use Rattle.nb_network.specs.Many.{AreOpensOf, AreSound, FitsHoldings, IsStateOf}
+use Rattle.nb_network.specs.Many.{AreOpensOf, AreSound, FitsHoldings, IsStateOf, Many}
 use Rattle.nb_network.specs.Takes.{IsEndOf, TakesRecord}
 use Rattle.nb_open.specs.Exchanges.{IsLeaseMessage}
 use Rattle.nb_network.specs.declared.over.HasEnded.{HasEnded}
 use Rattle.nb_client.specs.Asked.{job_asked, pieces_beside}
 use Rattle.nb_client.specs.Progressing.{TracesTo}
 use Rattle.nb_client.specs.Snapshots.{Snapshot, StandsForProgress, state_of_world}
-use Rattle.nb_client.specs.Soundness.{IsPendingWell, IsSound, WasStarted, snapshot_at}
+use Rattle.nb_client.specs.Soundness.{HasRoomFor, IsPendingWell, IsSound, WasStarted, kept_drives, snapshot_at}
+use Rattle.nb_client.specs.declared.asked.Asked.{Asked}
+use Rattle.nb_client.specs.declared.asked.Asked.TheVariants.{File, Query as Exchange, Disk}
+use Rattle.nb_client.specs.declared.pending.Answer.{Answer as TheAnswer}
+use Rattle.nb_client.specs.declared.pending.Answer.TheVariants.{End, Drive as Lives}
 use Rattle.nb_client.specs.declared.pending.Pending.{Pending}
 use Rattle.nb_client.specs.declared.pending.Expected.TheVariants.{Open, Moment}
 use Rattle.nb_client.specs.declared.site.Site.{Site}
@@ -33,26 +40,64 @@ use Rattle.nb_client.specs.declared.stage.Stage.TheVariants as stage
 abbrev pub world_at : World → Client → ℕ → World
 world_at w net time = record { w = w.w; machine = w.machine; time = time; net = net; opens = w.opens; state = w.state; outer = w.outer }
 
+-- and with the drives whose open lives
+abbrev pub world_after : World → Client → ℕ → Many → World
+world_after w net time m = world_with_drives (world_at w net time) (kept_drives m.list w.state.drives)
+
 -- A record was used, and what comes of it at the opens that live was put; where the awaited one has ended, that is answered.
 pub record Serves (r : In) (awaited : Option ℕ) (answer : Option HasEnded) (before after : Site) (old new : Logged) : Type 0 where
   pub takes : (s : State) → IsStateOf before.opens before.world.net before.world.time s →
       TakesRecord before.opens before.world.net before.world.time before.world.opens (before.used + 1) r after.opens after.world.net after.world.time awaited answer old new s
+  pub hooked : kept_drives before.opens.list before.world.state.drives ≡ before.world.state.drives
   pub used : after.used ≡ before.used + 1
-  pub world : after.world ≡ world_at before.world after.world.net after.world.time
+  pub world : after.world ≡ world_after before.world after.world.net after.world.time after.opens
   pub time : after.world.time ≤ 60000 * after.used
   pub opens : AreSound after.world.w after.world.opens after.world.net after.opens
   pub linked : IsLinkOfState after.world
 
--- A command waited for an open that has ended: what comes of it in this state, the records put for that, and where the run stands then.
-pub record EndsIn (s : State) (inner : Running) (outer : List Running) (job : Job) (o : Over) (put : List Out) (n : ℕ) (after : Snapshot) : Type 0 where
+-- A command got what it waited for: what comes of it in this state, the records put for that, and where the run stands then.
+pub record ComesIn (s : State) (inner : Running) (outer : List Running) (job : Job) (x : Answer) (put : List Out) (n : ℕ) (after : Snapshot) : Type 0 where
   pub more : List Out
   pub to : Standing
-  pub is_put : put ≡ upshot_records (concluded_by s inner.depth job (by_end o)) ++ more
-  pub leads : LeadsTo s inner outer (concluded_by s inner.depth job (by_end o)) more to
+  pub is_put : put ≡ upshot_records (concluded_by s inner.depth job x) ++ more
+  pub leads : LeadsTo s inner outer (concluded_by s inner.depth job x) more to
   pub stands_so : StandsForProgress after (stands n to)
 
--- An open that a command waited for has ended: these records were put after those of its end.
-pub record Concludes (p : Pending) (e : HasEnded) (inner : Running) (before : Site) (after : Snapshot) (old new : Logged) : Type 0 where
+abbrev pub EndsIn : State → Running → List Running → Job → Over → List Out → ℕ → Snapshot → Type 0
+EndsIn s inner outer job o put n after = ComesIn s inner outer job (by_end o) put n after
+
+-- what the machine's command gets of its open, which has ended so
+abbrev pub answer_over : Asked → Over → Answer
+answer_over (File w) o = by_end o
+answer_over (Exchange q) o = by_end o
+answer_over (Disk disk) o = answer_of_over o
+
+-- what a command of the machine's gets, where the code's gets this
+abbrev pub IsAnswerOf : TheAnswer → Asked → ℕ → Answer → Type 0
+IsAnswerOf (End e) asked number x = (o : Over) × IsEndOf e o × (o.live.number ≡ number) × (x ≡ answer_over asked o)
+IsAnswerOf Lives (Disk disk) number x = (l : Live) × (l.number ≡ number) × (x ≡ by_drive l)
+IsAnswerOf Lives (File w) number x = ⊥
+IsAnswerOf Lives (Exchange q) number x = ⊥
+
+-- its open lives on
+abbrev pub LivesOn : TheAnswer → Type 0
+LivesOn Lives = Unit {0}
+LivesOn (End e) = ⊥
+
+-- A command got what it waited for: these records were put after those of the opens.
+pub record Concludes (p : Pending) (answer : TheAnswer) (inner : Running) (before : Site) (after : Snapshot) (old new : Logged) : Type 0 where
+  pub rest : List Out
+  pub puts : Puts old new (out_texts rest)
+  pub comes : (live : List Live) → AreOpensOf before.opens.graph before.opens.list live → (x : Answer) → IsAnswerOf answer p.asked p.number x →
+      ComesIn (state_of_world before.world live) inner before.world.outer (job_asked p.asked) x (without_graph rest) before.used after
+  pub plain : LivesOn answer → without_graph rest ≡ rest
+  pub traces : (outs : List Out) (h : Holdings) (so_far : List Arrived) → Traced outs h so_far → FitsHoldings before.opens before.world.opens (pieces_beside (Open p)) h →
+      TracesTo after (outs ++ rest) so_far
+  pub sound : IsSound after.used after.world after.many after.stage
+  pub under_way : WasStarted after.stage
+
+-- So it is where its open has ended, that is no drive's.
+pub record ConcludesEnd (p : Pending) (e : HasEnded) (inner : Running) (before : Site) (after : Snapshot) (old new : Logged) : Type 0 where
   pub rest : List Out
   pub puts : Puts old new (out_texts rest)
   pub comes : (live : List Live) → AreOpensOf before.opens.graph before.opens.list live → (o : Over) → IsEndOf e o →
@@ -62,30 +107,75 @@ pub record Concludes (p : Pending) (e : HasEnded) (inner : Running) (before : Si
   pub sound : IsSound after.used after.world after.many after.stage
   pub under_way : WasStarted after.stage
 
--- it is sound, where the open that a command waited for lives on, or where that has ended
-abbrev pub IsSoundAfter : Option HasEnded → Site → Running → Pending → Type 0
-IsSoundAfter None c s p = IsSound c.used c.world c.opens (stage.Waiting s (Open p))
-IsSoundAfter (Some e) c s p = IsSound c.used c.world c.opens (stage.Running s) × IsPendingWell p None c.opens × IsLeaseMessage e.bytes
+-- the message of an open that has ended may be a lease's; a drive that lives on is a disk's
+abbrev pub FitsAnswer : TheAnswer → Asked → Type 0
+FitsAnswer (End e) asked = IsLeaseMessage e.bytes
+FitsAnswer Lives (Disk disk) = Unit {0}
+FitsAnswer Lives (File w) = ⊥
+FitsAnswer Lives (Exchange q) = ⊥
 
--- the command waits on, and nothing more is put, or what it has waited for has ended
-abbrev pub WaitsOrEnds : Option HasEnded → Pending → Running → Site → Snapshot → Logged → Logged → Type 0
+-- what a command has asked for and got fits
+pub record IsAnsweredWell (answer : TheAnswer) (p : Pending) (c : Site) : Type 0 where
+  pub asked : IsPendingWell p None c.opens
+  pub room : HasRoomFor p.asked c.world.state.drives
+  pub fits : FitsAnswer answer p.asked
+
+-- it is sound, where a command waits on, or where it got what it waited for
+abbrev pub IsSoundAfter : Option TheAnswer → Site → Running → Pending → Type 0
+IsSoundAfter None c s p = IsSound c.used c.world c.opens (stage.Waiting s (Open p))
+IsSoundAfter (Some x) c s p = IsSound c.used c.world c.opens (stage.Running s) × IsAnsweredWell x p c
+
+-- the command waits on, and nothing more is put, or it got what it waited for
+abbrev pub WaitsOrEnds : Option TheAnswer → Pending → Running → Site → Snapshot → Logged → Logged → Type 0
 WaitsOrEnds None p s before after old new = (after ≡ snapshot_at before (stage.Waiting (anew s) (Open p))) × (new ≡ old)
-WaitsOrEnds (Some e) p s before after old new = Concludes p e (anew s) before after old new
+WaitsOrEnds (Some x) p s before after old new = Concludes p x (anew s) before after old new
+
+-- whether the drive of this number has answered, whatever state these opens are
+abbrev pub HasAnsweredAs : Bool → ℕ → Many → Type 0
+HasAnsweredAs is number m = (live : List Live) → AreOpensOf m.graph m.list live → is ≡ is_some (option_and_then answered (find (has_number number) live))
+
+-- whether what was asked for is a disk's, which has answered
+abbrev pub IsDriveAnswered : Asked → ℕ → Many → Bool → Type 0
+IsDriveAnswered (Disk disk) number m is = HasAnsweredAs is number m
+IsDriveAnswered (File w) number m is = is ≡ false
+IsDriveAnswered (Exchange q) number m is = is ≡ false
+
+-- what a command gets that has asked for this open, where that has ended so or lives on
+abbrev pub IsAnswerBy : Pending → Option HasEnded → Many → Option TheAnswer → Type 0
+IsAnswerBy p (Some e) m x = x ≡ Some (End e)
+IsAnswerBy p None m (Some (End e)) = ⊥
+IsAnswerBy p None m (Some Lives) = IsDriveAnswered p.asked p.number m true
+IsAnswerBy p None m None = IsDriveAnswered p.asked p.number m false
+
+-- the same by where the run stands
+abbrev pub IsAnswerAt : Stage → Option HasEnded → Many → Option TheAnswer → Type 0
+IsAnswerAt (stage.Waiting s (Open p)) ended m x = IsAnswerBy p ended m x
+IsAnswerAt _ ended m x = ⊥
+
+-- a command waits for an open
+abbrev pub IsWaitingFor : Stage → Type 0
+IsWaitingFor (stage.Waiting s (Open p)) = Unit {0}
+IsWaitingFor _ = ⊥
+
+-- why a disk isn't hooked that has answered so; where it is, nothing
+abbrev pub drive_failure : TheAnswer → Option Cause
+drive_failure Lives = None
+drive_failure (End e) = if e.answered then None else Some e.cause
 
 -- where a run stands after a step in which its command has waited on
 abbrev pub rested : Stage → Stage
 rested (stage.Waiting s e) = stage.Waiting (anew s) e
 rested st = st
 
--- the open has ended that the command of this stage waits for, and that can be answered
-abbrev pub IsAnswerable : Stage → HasEnded → Site → Type 0
-IsAnswerable (stage.Waiting s (Open p)) e c = IsSoundAfter (Some e) c s p
-IsAnswerable _ e c = ⊥
+-- what the command of this stage waits for has come, and it can be answered
+abbrev pub IsAnswerable : Stage → TheAnswer → Site → Type 0
+IsAnswerable (stage.Waiting s (Open p)) x c = IsSoundAfter (Some x) c s p
+IsAnswerable _ x c = ⊥
 
 -- it was answered
-abbrev pub ConcludesAt : Stage → HasEnded → Site → Snapshot → Logged → Logged → Type 0
-ConcludesAt (stage.Waiting s (Open p)) e before after old new = Concludes p e (anew s) before after old new
-ConcludesAt _ e before after old new = ⊥
+abbrev pub ConcludesAt : Stage → TheAnswer → Site → Snapshot → Logged → Logged → Type 0
+ConcludesAt (stage.Waiting s (Open p)) x before after old new = Concludes p x (anew s) before after old new
+ConcludesAt _ x before after old new = ⊥
 
 -- The command sleeps on, or wakes.
 pub data WakesBy (until now : ℕ) (s : Running) (st : Stage) (old new : Logged) : Type 0 where

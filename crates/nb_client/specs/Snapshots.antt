@@ -36,7 +36,7 @@ at_stage c stage = snapshot c.used c.world c.many stage
 
 -- the state of the machine that it has, with these opens that live
 abbrev pub state_of_world : World → List Live → State
-state_of_world w live = record { w = w.w; machine = w.machine; now = w.time; devices = bare w.net ∷ []; up = w.state.up; table = w.state.table; images = w.state.images; opens = w.opens; live = live }
+state_of_world w live = record { w = w.w; machine = w.machine; now = w.time; devices = bare w.net ∷ []; up = w.state.up; table = w.state.table; images = w.state.images; drives = w.state.drives; opens = w.opens; live = live }
 
 -- a command of this script waits, for this
 abbrev pub waiting_within : List Running → Running → Expected → Waiting

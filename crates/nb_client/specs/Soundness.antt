@@ -1,13 +1,18 @@
 -- What holds of a client between two calls, by where its run stands.
-use Rattle.std.specs.Prelude.{◌≡◌, ◌≤◌, ◌*◌, ℕ, Bool, true, false, [], Option, Some, None}
+use Rattle.std.specs.Prelude.{◌≡◌, ◌<◌, ◌≤◌, ◌*◌, ℕ, ◌==◌, Bool, true, false, List, [], ◌∷◌, ◌++◌, length, filter, Option, Some, None}
+use Rattle.std.specs.List.{list_any}
 use Rattle.nb_record.specs.Logged.{Logged}
 use Rattle.nb_imagecmd.specs.Promises.{HasShortNames}
+use Rattle.nb_drivecmd.specs.declared.drive.Drive.{Drive}
+use Rattle.nb_drivelogin.specs.DriveLogins.{FitsTable}
+use Rattle.nb_login.specs.Refusals.{zero_name}
+use Rattle.nb_network.specs.declared.living.Living.{Living as TheOpen}
 use Rattle.nb_runner.specs.declared.world.World.{World}
 use Rattle.nb_runner.specs.declared.errand.Onward.{Onward}
 use Rattle.nb_runner.specs.declared.query.Query.TheVariants as query
-use Rattle.nb_runner.specs.CommandWords.{IsAskedWell, FitsOnward}
+use Rattle.nb_runner.specs.CommandWords.{IsAskedWell, FitsOnward, onward_hooks}
 use Rattle.nb_runner.specs.Handings.{AreShortImages, IsAtPiece}
-use Rattle.nb_runner.specs.Intents.{CanAsk}
+use Rattle.nb_runner.specs.Intents.{CanAsk, query_hooks}
 use Rattle.nb_runner.specs.World.{IsLinkOfState}
 use Rattle.nb_chains.specs.declared.chain.Chain.{Chain}
 use Rattle.nb_chains.specs.declared.kind.ChainKind.{ChainKind}
@@ -15,7 +20,8 @@ use Rattle.nb_network.specs.Many.{AreSound, HasTiedOnlyOf, IsNewestBut, Many, Wa
 use Rattle.nb_client.specs.Asked.{asked_onward, beside_kind, onward_kind}
 use Rattle.nb_client.specs.Snapshots.{Snapshot, snapshot}
 use Rattle.nb_client.specs.declared.asked.Asked.{Asked}
-use Rattle.nb_client.specs.declared.asked.Asked.TheVariants.{File, Query as Exchange}
+use Rattle.nb_client.specs.declared.asked.Asked.TheVariants.{File, Query as Exchange, Disk}
+use Rattle.nb_client.specs.declared.asked.AskedDisk.{AskedDisk}
 use Rattle.nb_client.specs.declared.pending.Pending.{Pending}
 use Rattle.nb_client.specs.declared.pending.Expected.TheVariants.{Open, Moment}
 use Rattle.nb_client.specs.declared.site.Site.{Site}
@@ -40,14 +46,48 @@ awaited_at (stage.Left cause) = None
 awaited_at stage.HandedOff = None
 awaited_at stage.Stopped = None
 
+-- A disk that is asked for has a short name, and a login whose texts fit a boot table and of whose names each may be sent.
+pub record FitsDisk (disk : AskedDisk) : Type 0 where
+  pub target : disk.target ≡ disk.login.target ++ 0 ∷ disk.login.lun
+  pub short : length disk.login.target ≤ 223
+  pub unit : length disk.login.lun ≡ 8
+  pub texts : FitsTable disk.login
+  pub sendable : zero_name disk.login ≡ None
+
 -- what is asked for may be
 abbrev pub FitsAsked : Asked → Type 0
 FitsAsked (File w) = IsAskedWell w.asking
 FitsAsked (Exchange q) = CanAsk q
+FitsAsked (Disk disk) = FitsDisk disk
+
+-- a drive more may be hooked, where a command is to hook one
+abbrev pub HasRoomIf : Bool → List Drive → Type 0
+HasRoomIf false drives = Unit {0}
+HasRoomIf true drives = length drives < 2
+
+-- a disk is hooked by it
+abbrev pub asked_hooks : Asked → Bool
+asked_hooks (File w) = false
+asked_hooks (Exchange q) = query_hooks q
+asked_hooks (Disk disk) = true
+
+abbrev pub HasRoomFor : Asked → List Drive → Type 0
+HasRoomFor a drives = HasRoomIf (asked_hooks a) drives
+
+abbrev pub HasRoomOnward : Onward → List Drive → Type 0
+HasRoomOnward next drives = HasRoomIf (onward_hooks next) drives
+
+-- the drives whose open is one of these
+abbrev pub has_its_open : List TheOpen → Drive → Bool
+has_its_open list d = list_any (λ o. o.speaker.number == d.open_number) list
+
+abbrev pub kept_drives : List TheOpen → List Drive → List Drive
+kept_drives list drives = filter (has_its_open list) drives
 
 -- an object waits beside the look-up of a server's name, and beside nothing else
 abbrev pub IsBacked : Asked → Option Chain → Type 0
 IsBacked (File w) waits = waits ≡ None
+IsBacked (Disk disk) waits = waits ≡ None
 IsBacked (Exchange query.Lease) waits = waits ≡ None
 IsBacked (Exchange (query.Echo server)) waits = waits ≡ None
 IsBacked (Exchange (query.Address setting name by)) waits = waits ≡ None
@@ -65,17 +105,17 @@ pub record IsPendingWell (p : Pending) (awaited : Option ℕ) (m : Many) : Type 
   pub waiting : HasWaiting (beside_kind p.asked) p.waits awaited m
 
 -- What has waited for the open that is next, if anything has: for the look-up of another server's name nothing has.
-pub record HasWaited (next : Onward) (waits : Option Chain) (m : Many) : Type 0 where
+pub record HasWaited (w : World) (next : Onward) (waits : Option Chain) (m : Many) : Type 0 where
   pub waiting : HasWaiting (onward_kind next) waits None m
-  pub lone : (c : Chain) → IsBacked (asked_onward next) (Some c) → waits ≡ None
+  pub lone : (c : Chain) → IsBacked (asked_onward w next) (Some c) → waits ≡ None
 
 -- what holds by where the run stands
 abbrev pub StandsWell : Stage → World → Many → Type 0
 StandsWell stage.Ready w m = (m.list ≡ []) × (w.opens ≡ 0)
 StandsWell (stage.Running s) w m = Unit {0}
-StandsWell (stage.Waiting s (Open p)) w m = IsPendingWell p (Some p.number) m
+StandsWell (stage.Waiting s (Open p)) w m = IsPendingWell p (Some p.number) m × HasRoomFor p.asked w.state.drives
 StandsWell (stage.Waiting s (Moment time)) w m = Unit {0}
-StandsWell (stage.Reaching s k) w m = FitsOnward k.onward × HasWaited k.onward k.waits m
+StandsWell (stage.Reaching s k) w m = FitsOnward k.onward × HasRoomOnward k.onward w.state.drives × HasWaited w k.onward k.waits m
 StandsWell (stage.Yielded s) w m = Unit {0}
 StandsWell (stage.Returning s cause) w m = Unit {0}
 StandsWell (stage.HandingOff h) w m = IsAtPiece w.state.images h × (m.list ≡ [])
@@ -93,6 +133,7 @@ pub record IsSound (used : ℕ) (w : World) (m : Many) (st : Stage) : Type 0 whe
   pub short : AreShortImages w.state.images.images
   pub named : HasShortNames w.state.images
   pub linked : IsLinkOfState w
+  pub hooked : kept_drives m.list w.state.drives ≡ w.state.drives
 
 -- or it has, and does nothing more
 abbrev pub IsUsable : (lost : Bool) → Snapshot → Type 0

@@ -2,16 +2,15 @@ ghost use Rattle.std.specs.Prelude.{◌≡◌, ◌-◌, ◌<◌, ◌^◌, [], �
 ghost use Rattle.nb_defs.specs.Records.{IsIn, In};
 ghost use Rattle.nb_record.specs.Logged.{Logged};
 ghost use Rattle.nb_record.specs.View.{in_of};
-ghost use Rattle.nb_client.specs.Serving.{Concludes, ConcludesAt, IsAnswerable, WaitsOrEnds, IsSoundAfter, WakesBy};
-ghost use Rattle.nb_client.specs.Soundness.{IsPendingWell, IsSound, awaited_at, snapshot_at};
-ghost use Rattle.nb_open.specs.Exchanges.{IsLeaseMessage};
+ghost use Rattle.nb_client.specs.Serving.{Concludes, ConcludesAt, IsAnswerAt, IsAnswerBy, IsAnswerable, IsAnsweredWell, IsDriveAnswered, IsSoundAfter, IsWaitingFor, WaitsOrEnds, WakesBy};
+ghost use Rattle.nb_client.specs.Soundness.{IsSound, awaited_at, snapshot_at};
 ghost use Rattle.nb_client.specs.Turning.{GoesOnBy, IsServed, IsTurnOf};
 ghost use Rattle.nb_client.specs.declared.pending.Expected.TheVariants as expected;
 ghost use Rattle.nb_client.specs.declared.stage.Stage.TheVariants as stage;
 
 use crate::site::{Site, lent_log};
 use crate::stage::turn_of;
-use crate::{Expected, KeptPending, Stage, Turn};
+use crate::{Answer, Asked, Expected, KeptPending, Pending, Stage, Turn};
 use nb_network::KeptEnd;
 use nb_record::{InRec, Log, NoMemory};
 use nb_runner::RunningScript;
@@ -63,7 +62,8 @@ impl Site {
         let place = log.place();
         let awaited = Some(pending.get().number);
         let ended = self.serve(entry, awaited, log)?;
-        match self.answer(script, pending, ended, log) {
+        let answer = self.answer_by(pending.get(), ended);
+        match self.answer(script, pending, answer, log) {
             Ok(stage) => Ok(stage),
             Err(NoMemory) => {
                 log.go_back(place);
@@ -93,12 +93,13 @@ impl Site {
         ensures nothing { OnErr result (log.new ≡ log.old) }
     {
         let place = log.place();
-        match self.serve(entry, Some(number), log)? {
+        let ended = self.serve(entry, Some(number), log)?;
+        match self.answer_at(stage, ended) {
             None => {
                 stage.rest();
                 Ok(Turn::Waiting)
             }
-            Some(ended) => match self.answer_in(stage, ended, log) {
+            Some(answer) => match self.answer_in(stage, answer, log) {
                 Ok(turn) => Ok(turn),
                 Err(NoMemory) => {
                     log.go_back(place);
@@ -108,16 +109,49 @@ impl Site {
         }
     }
 
-    /// What the command of this stage waits for has ended.
+    /// What a command gets that has asked for this open, where that has ended or not.
+    fn answer_by(&self, pending: &Pending, ended: Option<KeptEnd>) -> Option<Answer>
+        ensures { IsAnswerBy pending.now ended self.now.opens result }
+    {
+        match ended {
+            Some(ended) => Some(Answer::End(ended)),
+            None if self.is_answered(pending) => Some(Answer::Drive),
+            None => None,
+        }
+    }
+
+    /// Whether it is a drive's, which has answered.
+    fn is_answered(&self, pending: &Pending) -> bool
+        ensures { IsDriveAnswered pending.now.asked pending.now.number self.now.opens result }
+    {
+        match pending.asked {
+            Asked::Disk(_) => self.opens.answered(pending.number),
+            Asked::File(_) | Asked::Query(_) => false,
+        }
+    }
+
+    /// The same by where the run stands.
+    #[inline(always)]
+    fn answer_at(&self, stage: &Stage, ended: Option<KeptEnd>) -> Option<Answer>
+        requires { IsWaitingFor stage.now }
+        ensures { IsAnswerAt stage.now ended self.now.opens result }
+    {
+        match stage {
+            Stage::Waiting(_, Expected::Open(pending)) => self.answer_by(pending.get(), ended),
+            _ => unreachable!(),
+        }
+    }
+
+    /// What the command of this stage waits for has come.
     #[inline(never)]
     fn answer_in(
         &mut self,
         stage: &mut Stage,
-        ended: KeptEnd,
+        answer: Answer,
         log: &mut Log,
     ) -> Result<Turn, NoMemory>
-        requires ready { IsAnswerable stage.old ended self.old }
-        ensures concludes { OnOk result (ConcludesAt stage.old ended self.old (snapshot_at self.new stage.new) log.old log.new) }
+        requires ready { IsAnswerable stage.old answer self.old }
+        ensures concludes { OnOk result (ConcludesAt stage.old answer self.old (snapshot_at self.new stage.new) log.old log.new) }
         ensures turn { IfOk result (λ t. IsTurnOf t stage.new) }
         ensures nothing { OnErr result (log.new ≡ log.old) }
     {
@@ -128,48 +162,48 @@ impl Site {
             unreachable!()
         };
         script.begin_step();
-        let next = self.conclude_apart(script, pending, ended, log)?;
+        let next = self.conclude_apart(script, pending, answer, log)?;
         let turn = turn_of(&next);
         *stage = next;
         Ok(turn)
     }
 
-    /// The command waits on, or what it waits for has ended.
+    /// The command waits on, or what it waits for has come.
     #[inline(always)]
     fn answer(
         &mut self,
         mut script: RunningScript,
         pending: KeptPending,
-        ended: Option<KeptEnd>,
+        answer: Option<Answer>,
         log: &mut Log,
     ) -> Result<Stage, NoMemory>
-        requires { IsSoundAfter ended self.old script pending }
-        ensures answers { IfOk result (λ st. WaitsOrEnds ended pending script self.old (snapshot_at self.new st) log.old log.new) }
+        requires { IsSoundAfter answer self.old script pending }
+        ensures answers { IfOk result (λ st. WaitsOrEnds answer pending script self.old (snapshot_at self.new st) log.old log.new) }
         ensures nothing { OnErr result (log.new ≡ log.old) }
     {
         script.begin_step();
-        match ended {
+        match answer {
             None => Ok(Stage::Waiting(script, Expected::Open(pending))),
-            Some(ended) => self.conclude_apart(script, pending, ended, log),
+            Some(answer) => self.conclude_apart(script, pending, answer, log),
         }
     }
 
-    /// What the command waits for has ended. What comes of it is gathered until nothing can fail any more.
+    /// What the command waits for has come. What comes of it is gathered until nothing can fail any more.
     #[inline(never)]
     fn conclude_apart(
         &mut self,
         script: RunningScript,
         pending: KeptPending,
-        ended: KeptEnd,
+        answer: Answer,
         log: &mut Log,
     ) -> Result<Stage, NoMemory>
         requires { IsSound self.old.used self.old.world self.old.opens (stage.Running script)
-            × IsPendingWell pending None self.old.opens × IsLeaseMessage ended.bytes }
-        ensures concludes { IfOk result (λ st. Concludes pending ended script self.old (snapshot_at self.new st) log.old log.new) }
+            × IsAnsweredWell answer pending self.old }
+        ensures concludes { IfOk result (λ st. Concludes pending answer script self.old (snapshot_at self.new st) log.old log.new) }
         ensures nothing { OnErr result (log.new ≡ log.old) }
     {
         let mut out = lent_log(self.alloc, self.gathered.take())?;
-        let stage = self.conclude(script, pending.into_inner(), ended.into_inner(), &mut out)?;
+        let stage = self.conclude(script, pending.into_inner(), answer, &mut out)?;
         self.put_gathered(out, log)?;
         Ok(stage)
     }

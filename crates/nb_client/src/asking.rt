@@ -3,26 +3,28 @@ ghost use Rattle.nb_command.specs.Planning.{planned};
 ghost use Rattle.nb_defs.specs.Records as defs;
 ghost use Rattle.nb_machine.specs.Running.{with_result};
 ghost use Rattle.nb_machine.specs.Effects.{full_opens};
-ghost use Rattle.nb_runner.specs.CommandWords.{IsForInquiry};
+ghost use Rattle.nb_runner.specs.CommandWords.{FitsOnward, IsForInquiry};
 ghost use Rattle.nb_runner.specs.Intents.{IsAskable};
 ghost use Rattle.nb_runner.specs.NextCommand.{HasCommand, IsReady};
 ghost use Rattle.nb_runner.specs.declared.world.World.{World as TheWorld};
 ghost use Rattle.nb_client.specs.Asked.{asked_onward, onward_kind};
 ghost use Rattle.nb_client.specs.Beginnings.{DropsWaiting};
-ghost use Rattle.nb_client.specs.Openings.{AsksFor, Intends, OpensNext};
+ghost use Rattle.nb_client.specs.Openings.{AsksFor, Intends, IsNoDisk, OpensNext};
 ghost use Rattle.nb_client.specs.Snapshots.{snapshot};
-ghost use Rattle.nb_client.specs.Soundness.{FitsAsked, IsSound, snapshot_at};
+ghost use Rattle.nb_client.specs.Soundness.{FitsAsked, HasRoomFor, IsSound, snapshot_at};
 ghost use Rattle.nb_client.specs.Turning.{MovesOn};
 ghost use Rattle.nb_client.specs.declared.stage.Stage.TheVariants as stage;
 
+use crate::drives::asked_disk;
 use crate::site::{Site, lent_log};
 use crate::{Asked, KeptNext, Next, Stage};
 use nb_chains::ChainKind;
 use nb_command::CommandPlan;
 use nb_record::{Log, NoMemory};
-use nb_runner::{Deed, Done, Intent, MAX_OPENS, Onward, Query, RunningScript, full_opens};
+use nb_runner::{Deed, Done, Intent, MAX_OPENS, Onward, Query, RunningScript, World, full_opens};
 use nb_teller::{lent, put_result};
 use nb_wire::Word;
+use std::alloc::Global;
 
 impl Site {
     /// Does a command that asks for a lease, an echo or a name's address.
@@ -63,6 +65,8 @@ impl Site {
             Intent::Over(cause) => self.go_by(script, words, &Deed::Ends(Done::with(cause)), log),
             Intent::Asks(query) => self.ask(script, words, Asked::Query(query), log),
             Intent::Fetches(wanted) => self.ask(script, words, Asked::File(wanted), log),
+            Intent::Hooks(hooking) => self.go_to_hook(script, words, hooking, log),
+            Intent::LetsGo(number, cause) => self.let_drive_go(script, words, number, cause, log),
         }
     }
 
@@ -78,6 +82,7 @@ impl Site {
         requires words { IsReady script words.now }
         requires few { self.old.world.opens < 16384 }
         requires fits { FitsAsked asked }
+        requires room { IsNoDisk asked × HasRoomFor asked self.old.world.state.drives }
         ensures moves { IfOk result (λ st. (w : TheWorld) → AsksFor w asked script words.now self.old.world
             → MovesOn (snapshot self.old.used w self.old.opens (stage.Running script)) (snapshot_at self.new st) log.old log.new) }
         ensures nothing { OnErr result (log.new ≡ log.old) }
@@ -119,7 +124,8 @@ impl Site {
             return self.open_no_more(script, &next, out);
         }
         let Next { onward, waits } = next.into_inner();
-        self.open(script, None, asked_onward(onward), waits, out)
+        let asked = asked_onward(self.alloc, &self.world, onward)?;
+        self.open(script, None, asked, waits, out)
     }
 
     /// No more opens may be made: what has waited is let go, and the script goes on.
@@ -144,14 +150,19 @@ impl Site {
     }
 }
 
-/// What is asked for next.
-fn asked_onward(onward: Onward) -> Asked
-    ensures { result ≡ asked_onward onward }
+/// What is asked for next, in this world.
+fn asked_onward(alloc: Global, world: &World, onward: Onward) -> Result<Asked, NoMemory>
+    requires { world.now.opens < 16384 }
+    ensures asks { IfOk result (λ a. a ≡ asked_onward world.now onward) }
+    ensures fits { FitsOnward onward → IfOk result FitsAsked }
 {
     match onward {
-        Onward::File(wanted) => Asked::File(wanted),
-        Onward::Echo(server) => Asked::Query(Query::Echo(server)),
-        Onward::Name { errand, name, by } => Asked::Query(Query::Host { errand, name, by }),
+        Onward::File(wanted) => Ok(Asked::File(wanted)),
+        Onward::Echo(server) => Ok(Asked::Query(Query::Echo(server))),
+        Onward::Disk { hooking, server } => {
+            Ok(Asked::Disk(asked_disk(alloc, world, hooking, server)?))
+        }
+        Onward::Name { errand, name, by } => Ok(Asked::Query(Query::Host { errand, name, by })),
     }
 }
 
@@ -162,6 +173,7 @@ pub(crate) fn kind_onward(onward: &Onward) -> ChainKind
     match onward {
         Onward::File(_) => ChainKind::File,
         Onward::Echo(_) => ChainKind::Echo,
+        Onward::Disk { .. } => ChainKind::Drive,
         Onward::Name { .. } => ChainKind::Name,
     }
 }

@@ -3,6 +3,7 @@ ghost use Rattle.nb_chains.specs.declared.chain.Chain.{Chain as TheChain};
 ghost use Rattle.nb_defs.specs.Records.{off};
 ghost use Rattle.nb_network.specs.Many.{AreSound, WaitsBeside};
 ghost use Rattle.nb_open.specs.Begins.{waiting_pieces};
+ghost use Rattle.nb_machine.specs.Running.{Running};
 ghost use Rattle.nb_runner.specs.NextCommand.{IsReady};
 ghost use Rattle.nb_runner.specs.StatusNumber.{status_number};
 ghost use Rattle.nb_runner.specs.declared.command.Deed.TheVariants as deed;
@@ -122,6 +123,7 @@ impl Site {
             .opens
             .shut_all(net, waits, kind, beside, &stopped, now, desk, out)?;
         self.desk = Some(desk);
+        self.forget_ended();
         Ok(())
     }
 
@@ -148,16 +150,19 @@ impl Site {
         Ok(Stage::Running(script))
     }
 
-    /// Closes all that lives, since the device went down.
+    /// Closes all that lives, since the device went down: the drives first, by rising number.
     fn close_all(&mut self, out: &mut Log) -> Result<(), NoMemory>
-        requires { AreSound self.old.world.w self.old.world.opens self.old.world.net self.old.opens }
+        requires { (s : Running) × IsSound self.old.used self.old.world self.old.opens (stage.Running s) }
         ensures used { OnOk result (self.new.used ≡ self.old.used) }
         ensures closes { OnOk result (ClosesDown self.old self.new out.old out.new) }
     {
+        let down = Plain::Down.cause();
+        self.close_drives(&down, out)?;
         let desk = lent(self.alloc, self.desk.take())?;
-        let (now, down, net) = (self.world.time, Plain::Down.cause(), &mut self.world.net);
+        let (now, net) = (self.world.time, &mut self.world.net);
         let desk = self.opens.close_all(net, &down, now, desk, out)?;
         self.desk = Some(desk);
+        self.forget_ended();
         Ok(())
     }
 }

@@ -1,11 +1,10 @@
-ghost use Rattle.std.specs.Prelude.{◌≡◌, ◌<◌, ◌≤◌, ℕ, [], ◌∷◌, None, Some, All, length, map, unwrap_or, IfOk, OnOk};
+ghost use Rattle.std.specs.Prelude.{◌≡◌, ◌<◌, ◌≤◌, ℕ, List, [], ◌∷◌, Option, None, Some, All, length, map, unwrap_or, IfOk, OnOk};
 ghost use Rattle.std.specs.Option.{option_copied};
 ghost use Rattle.nb_defs.specs.Causes.{ok};
 ghost use Rattle.nb_defs.specs.Records.{out_texts};
 ghost use Rattle.nb_defs.specs.Records as defs;
 ghost use Rattle.nb_record.specs.Logged.{Puts};
-ghost use Rattle.nb_network.specs.Many.{AreSound};
-ghost use Rattle.nb_machine.specs.Running.{with_result};
+ghost use Rattle.nb_machine.specs.Running.{Running, with_result};
 ghost use Rattle.nb_image.specs.Images.{ImageList};
 ghost use Rattle.nb_imagecmd.specs.Promises.{HasShortNames, IsShortLine};
 ghost use Rattle.nb_machine.specs.Conclusions.{arrival_conclusion, conclusion};
@@ -13,18 +12,17 @@ ghost use Rattle.nb_network.specs.declared.over.HasEnded.{HasEnded as TheEnd};
 ghost use Rattle.nb_runner.specs.CommandWords.{IsAskedWell};
 ghost use Rattle.nb_runner.specs.ImageDeeds.{IsConcludedWell, MayFollow, conclusion_of};
 ghost use Rattle.nb_client.specs.Closings.{ShutsAll};
-ghost use Rattle.nb_client.specs.Concluding.{ArrivesWell, handing_of, moved_place};
+ghost use Rattle.nb_client.specs.Concluding.{ArrivesWell, IsBootTable, handing_of, moved_place};
 ghost use Rattle.nb_client.specs.Leading.{LeadsOnBy};
-ghost use Rattle.nb_client.specs.Serving.{Concludes};
-ghost use Rattle.nb_open.specs.Exchanges.{IsLeaseMessage};
-ghost use Rattle.nb_client.specs.Soundness.{IsPendingWell, IsSound, snapshot_at};
+ghost use Rattle.nb_client.specs.Serving.{Concludes, ConcludesEnd, IsAnsweredWell, drive_failure};
+ghost use Rattle.nb_client.specs.Soundness.{IsSound, snapshot_at};
 ghost use Rattle.nb_client.specs.declared.pending.Pending.{Pending as ThePending};
 ghost use Rattle.nb_client.specs.declared.asked.Asked.TheVariants as asked;
 ghost use Rattle.nb_client.specs.declared.stage.Stage.TheVariants as stage;
 
 use crate::opening::kind_beside;
 use crate::site::Site;
-use crate::{Asked, KeptNext, Next, Pending, Stage};
+use crate::{Answer, Asked, AskedDisk, KeptNext, Next, Pending, Stage};
 use nb_chains::ChainKind;
 use nb_image::{Body, Images};
 use nb_imagecmd::{Arrival, Asking, ImageFailure, arrive};
@@ -96,6 +94,23 @@ fn moved_place(ended: &HasEnded) -> Option<&Text>
     ended.moved.as_ref()
 }
 
+/// Why a disk isn't hooked that has answered so; where it is, None.
+fn failure_of(answer: Answer) -> Option<Cause>
+    ensures { result ≡ drive_failure answer }
+{
+    match answer {
+        Answer::Drive => None,
+        Answer::End(ended) => {
+            let ended = ended.into_inner();
+            if ended.answered {
+                None
+            } else {
+                Some(ended.cause)
+            }
+        }
+    }
+}
+
 /// Puts these lines.
 fn put_lines(lines: &[Text], out: &mut Log)
     requires { All IsShortLine lines.now }
@@ -117,26 +132,55 @@ pub(crate) fn go_on_with(mut script: RunningScript, cause: Cause, out: &mut Log)
 }
 
 impl Site {
-    /// The open has ended that the script's command has waited for: puts what comes of that. Where memory runs out, what was
+    /// What the script's command has waited for has come: puts what comes of that. Where memory runs out, what was
     /// put counts for nothing.
     #[inline(never)]
     pub(crate) fn conclude(
         &mut self,
         script: RunningScript,
         pending: Pending,
-        ended: HasEnded,
+        answer: Answer,
         out: &mut Log,
     ) -> Result<Stage, NoMemory>
         requires sound { IsSound self.old.used self.old.world self.old.opens (stage.Running script) }
-        requires well { IsPendingWell pending None self.old.opens }
-        requires message { IsLeaseMessage ended.bytes }
-        ensures { IfOk result (λ st. Concludes pending ended script self.old (snapshot_at self.new st) out.old out.new) }
+        requires well { IsAnsweredWell answer pending self.old }
+        ensures { IfOk result (λ st. Concludes pending answer script self.old (snapshot_at self.new st) out.old out.new) }
     {
-        let Pending { asked, waits, .. } = pending;
+        let Pending {
+            number,
+            asked,
+            waits,
+        } = pending;
         let kind = kind_beside(&asked);
-        match asked {
-            Asked::File(wanted) => self.take_file(script, wanted, ended, out),
-            Asked::Query(query) => self.take_found(script, query, kind, waits, ended, out),
+        match (asked, answer) {
+            (Asked::File(wanted), Answer::End(ended)) => {
+                self.take_file(script, wanted, ended.into_inner(), out)
+            }
+            (Asked::Query(query), Answer::End(ended)) => {
+                self.take_found(script, query, kind, waits, ended.into_inner(), out)
+            }
+            (Asked::Disk(disk), answer) => Ok(self.take_drive(script, number, &disk, answer, out)),
+            (Asked::File(_) | Asked::Query(_), Answer::Drive) => unreachable!(),
+        }
+    }
+
+    /// A disk has answered, or its open has ended before that.
+    fn take_drive(
+        &mut self,
+        script: RunningScript,
+        number: u16,
+        disk: &AskedDisk,
+        answer: Answer,
+        out: &mut Log,
+    ) -> Stage
+        requires sound { IsSound self.old.used self.old.world self.old.opens (stage.Running script) }
+        requires room { length self.old.world.state.drives < 2 }
+        ensures { (p : ThePending) → p.asked ≡ asked.Disk disk.now → p.number ≡ number → p.waits ≡ None
+            → Concludes p answer script self.old (snapshot_at self.new result) out.old out.new }
+    {
+        match failure_of(answer) {
+            Some(cause) => go_on_with(script, cause, out),
+            None => self.hook(script, number, &disk.hooking, out),
         }
     }
 
@@ -151,7 +195,7 @@ impl Site {
         requires sound { IsSound self.old.used self.old.world self.old.opens (stage.Running script) }
         requires fits { IsAskedWell wanted.asking }
         ensures { IfOk result (λ st. (p : ThePending) → p.asked ≡ asked.File wanted → p.waits ≡ None
-            → Concludes p ended script self.old (snapshot_at self.new st) out.old out.new) }
+            → ConcludesEnd p ended script self.old (snapshot_at self.new st) out.old out.new) }
     {
         match moved_place(&ended) {
             Some(text) => self.follow_move(script, wanted, text.as_slice(), out),
@@ -171,7 +215,7 @@ impl Site {
         requires fits { IsAskedWell wanted.now.asking }
         requires stays { moved_place ended ≡ None }
         ensures { IfOk result (λ st. (p : ThePending) → p.asked ≡ asked.File wanted.now → p.waits ≡ None
-            → Concludes p ended script self.old (snapshot_at self.new st) out.old out.new) }
+            → ConcludesEnd p ended script self.old (snapshot_at self.new st) out.old out.new) }
     {
         let body = file_of(self.alloc, ended.body);
         let depth = usize::from(script.depth());
@@ -191,7 +235,7 @@ impl Site {
         requires sound { IsSound self.old.used self.old.world self.old.opens (stage.Running script) }
         requires fits { IsAskedWell wanted.asking }
         ensures { IfOk result (λ st. (p : ThePending) (e : TheEnd) → p.asked ≡ asked.File wanted → p.waits ≡ None
-            → moved_place e ≡ Some text.now → Concludes p e script self.old (snapshot_at self.new st) out.old out.new) }
+            → moved_place e ≡ Some text.now → ConcludesEnd p e script self.old (snapshot_at self.new st) out.old out.new) }
     {
         match self.world.move_file(self.alloc, wanted.asking, text)? {
             Following::Over(cause) => Ok(go_on_with(script, cause, out)),
@@ -232,13 +276,14 @@ impl Site {
 
     /// The image at this place is to be handed off: all that lives is closed first.
     fn begin_handing(&mut self, kernel: usize, out: &mut Log) -> Result<Stage, NoMemory>
-        requires { AreSound self.old.world.w self.old.world.opens self.old.world.net self.old.opens }
-        ensures stage { IfOk result (λ st. st ≡ stage.HandingOff (handing_of kernel)) }
+        requires { (s : Running) × IsSound self.old.used self.old.world self.old.opens (stage.Running s) }
+        ensures stage { IfOk result (λ st. (table : Option (List ℕ)) × (st ≡ stage.HandingOff (handing_of kernel table)) × IsBootTable self.old table) }
         ensures used { OnOk result (self.new.used ≡ self.old.used) }
         ensures shuts { OnOk result (ShutsAll [] (defs.result ok ∷ []) self.old self.new out.old out.new) }
     {
         put_result(Plain::Ok.cause(), out);
+        let table = self.boot_table()?;
         self.shut_down(ChainKind::File, None, 0, out)?;
-        Ok(Stage::HandingOff(Handing::of(kernel)))
+        Ok(Stage::HandingOff(Handing::of(kernel, table)))
     }
 }

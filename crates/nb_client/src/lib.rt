@@ -10,6 +10,7 @@ mod asking;
 mod client;
 mod closing;
 mod concluding;
+mod drives;
 mod handing;
 mod images;
 mod nesting;
@@ -23,7 +24,7 @@ mod site;
 mod stage;
 mod starting;
 
-pub use asked::Asked;
+pub use asked::{Asked, AskedDisk};
 pub use client::{Client, Turn};
-pub use pending::{Expected, KeptNext, KeptPending, Next, Pending};
+pub use pending::{Answer, Expected, KeptNext, KeptPending, Next, Pending};
 pub use stage::Stage;

@@ -2,8 +2,9 @@
 
 ghost use Rattle.std.specs.Prelude.{◌≡◌, ◌<◌, List};
 ghost use Rattle.nb_chains.specs.declared.kind.ChainKind.TheVariants as chain;
+ghost use Rattle.nb_drivenodes.specs.DriveAsks.{info_of};
 ghost use Rattle.nb_imagecmd.specs.Asking.{target_port, target_text};
-ghost use Rattle.nb_machine.specs.Findings.{asker_at, first_word, query_id};
+ghost use Rattle.nb_machine.specs.Findings.{asker_at, first_word, open_words, query_id};
 ghost use Rattle.nb_machine.specs.Lives.{Live};
 ghost use Rattle.nb_machine.specs.Scripts.{transfer_for};
 ghost use Rattle.nb_machine.specs.Starting.{own_port};
@@ -17,11 +18,12 @@ ghost use Rattle.nb_client.specs.Beginnings.{IsConnectionBy, IsLookupBy, asked_k
 ghost use Rattle.nb_client.specs.Snapshots.{state_of_world};
 ghost use Rattle.nb_client.specs.Soundness.{FitsAsked};
 
-use crate::Asked;
+use crate::{Asked, AskedDisk};
 use nb_conns::ConnAsk;
+use nb_drivenodes::{DriveAsk, DriveNames};
 use nb_machine::Identity;
 use nb_nodes::{Ask, LeaseAsk, LookupAsk, PingAsk};
-use nb_open::{Opening, WebOpening};
+use nb_open::{DriveOpening, Opening, WebOpening};
 use nb_runner::{Query, Wanted, World, own_port};
 use nb_uri::UriTarget;
 use nb_webnodes::WebAsk;
@@ -38,6 +40,25 @@ fn first_word(machine: &Identity, number: u16) -> u32
     let mut words = ChaCha8Rng::from_seed(machine.key);
     words.set_word_pos(16 * u128::from(number));
     words.next_word()
+}
+
+/// The eight words that the open of this number takes from START's key.
+#[tactic(auto, unfolding(nb_machine::specs::Findings::open_words))]
+pub(crate) fn open_words(machine: &Identity, number: u16) -> [u32; 8]
+    ensures { result ≡ open_words machine.now number }
+{
+    let mut words = ChaCha8Rng::from_seed(machine.key);
+    words.set_word_pos(16 * u128::from(number));
+    [
+        words.next_word(),
+        words.next_word(),
+        words.next_word(),
+        words.next_word(),
+        words.next_word(),
+        words.next_word(),
+        words.next_word(),
+        words.next_word(),
+    ]
 }
 
 /// The number of an open's query: the low half of its first word.
@@ -146,6 +167,35 @@ fn connection_ask(world: &World, server: Ip4, port: u16) -> ConnAsk
     }
 }
 
+/// What the next open asks a disk's server for.
+fn drive_opening<'a>(world: &World, disk: &'a AskedDisk) -> DriveOpening<'a>
+    requires w { world.now.w < 16384 }
+    requires few { world.now.opens < 16384 }
+    ensures conn { IsConnectionBy world.now disk.now.server disk.now.hooking.disk.port result.ask.conn }
+    ensures info { info_of result.ask ≡ disk.now.login }
+    ensures target { result.target.now ≡ disk.now.target }
+    ensures lun { result.ask.lun ≡ disk.now.login.lun }
+    ensures name { result.ask.names.target.now ≡ disk.now.login.target }
+{
+    let login = &disk.login;
+    DriveOpening {
+        ask: DriveAsk {
+            conn: connection_ask(world, disk.server, disk.hooking.disk.port),
+            lun: login.lun,
+            words: login.words,
+            names: DriveNames {
+                initiator: login.initiator.as_slice(),
+                target: login.target.as_slice(),
+                user: login.user.as_slice(),
+                secret: login.secret.as_slice(),
+                reverse_user: login.reverse_user.as_slice(),
+                reverse_secret: login.reverse_secret.as_slice(),
+            },
+        },
+        target: disk.target.as_slice(),
+    }
+}
+
 /// The client's own address; 0.0.0.0 where it has none, and no way to any server.
 fn own_address(world: &World) -> Ip4
     ensures { result ≡ own_address world.now.net.address }
@@ -168,6 +218,7 @@ pub(crate) fn opening_of<'a>(world: &World, asked: &'a Asked) -> Opening<'a>
 {
     match asked {
         Asked::File(wanted) => file_opening(world, wanted),
+        Asked::Disk(disk) => Opening::Drive(drive_opening(world, disk)),
         Asked::Query(Query::Lease) => Opening::Lease(lease_ask(world)),
         Asked::Query(Query::Echo(host)) => Opening::Echo(PingAsk {
             host: *host,

@@ -16,7 +16,7 @@ ghost use Rattle.nb_open.specs.Opening.{CanOpen, chain_kind, live_by, own_by};
 ghost use Rattle.nb_client.specs.Asked.{beside_kind, errand_kind};
 ghost use Rattle.nb_client.specs.Beginnings.{BeginsNext, IsKindBeside, DropsWaiting, asked_kind};
 ghost use Rattle.nb_client.specs.Openings.{IsShownWell, Opened, begun_script, front_records};
-ghost use Rattle.nb_client.specs.Soundness.{FitsAsked, HasWaiting, IsBacked, IsSound, snapshot_at};
+ghost use Rattle.nb_client.specs.Soundness.{FitsAsked, HasRoomFor, HasWaiting, IsBacked, IsSound, snapshot_at};
 ghost use Rattle.nb_client.specs.declared.pending.Expected.TheVariants as expected;
 ghost use Rattle.nb_client.specs.declared.stage.Stage.TheVariants as stage;
 
@@ -48,8 +48,9 @@ fn beside(asked: &Asked) -> Option<ChainKind>
 {
     match asked {
         Asked::Query(Query::Host { errand, .. }) => Some(errand_kind(errand)),
-        Asked::Query(Query::Lease | Query::Echo(_) | Query::Address { .. }) | Asked::File(_) =>
-            None,
+        Asked::Query(Query::Lease | Query::Echo(_) | Query::Address { .. })
+        | Asked::File(_)
+        | Asked::Disk(_) => None,
     }
 }
 
@@ -60,7 +61,9 @@ pub(crate) fn kind_beside(asked: &Asked) -> ChainKind
     match asked {
         Asked::Query(Query::Host { errand, .. }) => errand_kind(errand),
         Asked::Query(Query::Echo(_)) => ChainKind::Echo,
-        Asked::Query(Query::Lease | Query::Address { .. }) | Asked::File(_) => ChainKind::File,
+        Asked::Query(Query::Lease | Query::Address { .. }) | Asked::File(_) | Asked::Disk(_) => {
+            ChainKind::File
+        }
     }
 }
 
@@ -71,6 +74,7 @@ fn errand_kind(errand: &Errand) -> ChainKind
     match errand {
         Errand::File(_) => ChainKind::File,
         Errand::Echo => ChainKind::Echo,
+        Errand::Disk(_) => ChainKind::Drive,
     }
 }
 
@@ -123,6 +127,7 @@ impl Site {
         requires shown { IsShownWell (option_copied shown) script }
         requires few { self.old.world.opens < 16384 }
         requires fits { FitsAsked asked }
+        requires room { HasRoomFor asked self.old.world.state.drives }
         requires waiting { HasWaiting (asked_kind asked) waits None self.old.opens }
         requires lone { (c : TheChain) → IsBacked asked (Some c) → waits ≡ None }
         ensures { IfOk result (λ st. Opened asked (waiting_pieces (asked_kind asked) waits) (option_copied shown.entry) script self.old

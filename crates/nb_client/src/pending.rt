@@ -2,6 +2,7 @@ ghost use Rattle.std.specs.Prelude.{◌≡◌, IfOk};
 
 use crate::Asked;
 use nb_chains::Chain;
+use nb_network::KeptEnd;
 use nb_record::NoMemory;
 use nb_runner::Onward;
 use std::alloc::Global;
@@ -38,10 +39,19 @@ pub struct KeptNext {
     place: Box<Next>,
 }
 
+/// What a command gets that has waited for an open.
+#[derive(Drop)]
+pub enum Answer {
+    /// The open has ended.
+    End(KeptEnd),
+    /// The open is a drive's, which has answered and lives on.
+    Drive,
+}
+
 /// What a command waits for.
 #[derive(Drop)]
 pub enum Expected {
-    /// The end of an open.
+    /// The end of an open, or what a drive answers.
     Open(KeptPending),
     /// A time, in milliseconds since the run's start.
     Moment(u64),

@@ -61,6 +61,7 @@ impl Site {
     {
         match plan(self.alloc, words) {
             Ok(CommandPlan::Images(command)) => self.do_images(script, words, &command, log),
+            Ok(CommandPlan::Drives(command)) => self.do_drives(script, words, &command, log),
             Ok(
                 plan @ (CommandPlan::Dhcp(_)
                 | CommandPlan::Ping { .. }

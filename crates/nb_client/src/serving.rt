@@ -57,6 +57,7 @@ impl Site {
             .opens
             .take_frame(self.alloc, net, rec, now, bytes, awaited, desk, log)?;
         self.desk = Some(desk);
+        self.forget_ended();
         Ok(ended)
     }
 
@@ -82,6 +83,7 @@ impl Site {
             .opens
             .pass_time(self.alloc, net, rec, ms, now, awaited, desk, log)?;
         self.desk = Some(desk);
+        self.forget_ended();
         Ok(ended)
     }
 }

@@ -4,13 +4,13 @@ ghost use Rattle.nb_command.specs.Addresses.{address_table};
 ghost use Rattle.nb_machine.specs.Findings.{lease_change, settled_by};
 ghost use Rattle.nb_open.specs.Exchanges.{IsLeaseMessage};
 ghost use Rattle.nb_machine.specs.Errands.{Errand as TheErrand, onward};
-ghost use Rattle.nb_runner.specs.CommandWords.{FitsOnward, onward_of};
-ghost use Rattle.nb_runner.specs.Intents.{CanAsk, query_of};
+ghost use Rattle.nb_runner.specs.CommandWords.{FitsOnward, onward_hooks, onward_of};
+ghost use Rattle.nb_runner.specs.Intents.{CanAsk, query_hooks, query_of};
 ghost use Rattle.nb_chains.specs.declared.chain.Chain.{Chain as TheChain};
 ghost use Rattle.nb_client.specs.Asked.{beside_kind};
 ghost use Rattle.nb_client.specs.Concluding.{FindsServer, IsHostOf, ReachesAt, SettlesAt, settled_so};
-ghost use Rattle.nb_client.specs.Serving.{Concludes};
-ghost use Rattle.nb_client.specs.Soundness.{HasWaiting, IsBacked, IsSound, snapshot_at};
+ghost use Rattle.nb_client.specs.Serving.{ConcludesEnd};
+ghost use Rattle.nb_client.specs.Soundness.{HasRoomFor, HasWaiting, IsBacked, IsSound, snapshot_at};
 ghost use Rattle.nb_client.specs.declared.asked.Asked.TheVariants as asked;
 ghost use Rattle.nb_client.specs.declared.pending.Pending.{Pending as ThePending};
 ghost use Rattle.nb_client.specs.declared.stage.Stage.TheVariants as stage;
@@ -111,6 +111,7 @@ fn onward_of(query: Query, server: Ip4) -> Onward
     requires { (errand : TheErrand) × IsHostOf (query_of query) errand }
     ensures value { (errand : TheErrand) → IsHostOf (query_of query) errand → onward_of result ≡ onward errand server.0 }
     ensures fits { CanAsk query → FitsOnward result }
+    ensures hooks { onward_hooks result ≡ query_hooks query }
 {
     match query {
         Query::Host { errand, .. } => errand.at(server),
@@ -135,8 +136,9 @@ impl Site {
         requires waiting { HasWaiting kind waits None self.old.opens }
         requires kind { kind ≡ beside_kind (asked.Query query) }
         requires message { IsLeaseMessage ended.bytes }
+        requires room { HasRoomFor (asked.Query query) self.old.world.state.drives }
         ensures { IfOk result (λ st. (p : ThePending) → p.asked ≡ asked.Query query → p.waits ≡ waits
-            → Concludes p ended script self.old (snapshot_at self.new st) out.old out.new) }
+            → ConcludesEnd p ended script self.old (snapshot_at self.new st) out.old out.new) }
     {
         match found_host(&query, &ended) {
             Some(server) => self.reach(script, query, server, waits),

@@ -1,25 +1,12 @@
 -- A test's client is well before any open, and stays so.
-use Rattle.std.proofs.Common.{◌≡◌, ℕ, false, List, [], ◌∷◌, Option, refl, arith}
+use Rattle.std.proofs.Common.{◌≡◌, ℕ, false, List, [], ◌∷◌, refl, arith}
 use Rattle.nb_machine.specs.Lives.{Live}
 use Rattle.nb_machine.specs.Starting.{no_images}
 use Rattle.nb_machine.specs.States.{State, bare}
-use Rattle.nb_open.specs.declared.opening.Opening.{Opening}
-use Rattle.nb_open.specs.declared.opening.Opening.TheVariants.{File, Web, Name, Lease, Echo}
-use Rattle.nb_open.specs.Opening.{is_web}
 use Rattle.nb_stack.specs.Client.{Client}
-use Rattle.nb_stack.specs.declared.address.Addr.{Addr}
 use Rattle.nb_network.specs.Many.{AreSound, IsStateOf, Many}
-use Rattle.nb_network.specs.Openings.{AsksFrom}
 use Rattle.nb_network.proofs.Sound.{some_live}
 use Rattle.nb_client_tests.specs.Benches.{AreWell}
-
--- an open that is none by HTTP is asked for from whatever address
-pub asks_from_any : (address : Option Addr) (a : Opening) → is_web a ≡ false → AsksFrom address a
-asks_from_any address (File a) plain = tt
-asks_from_any address (Web a) plain = absurd (cc)
-asks_from_any address (Name a) plain = tt
-asks_from_any address (Lease a) plain = tt
-asks_from_any address (Echo a) plain = tt
 
 -- a state of the machine that has them
 abbrev state_of : Client → ℕ → List Live → State
@@ -31,6 +18,7 @@ state_of net now live = record {
   up = false;
   table = record { blocks = []; settings = [] };
   images = no_images;
+  drives = [];
   opens = 0;
   live = live;
 }

@@ -4,7 +4,7 @@ ghost use Rattle.std.specs.Prelude.{◌≡◌, ◌+◌, ◌<◌, [], false, IfOk
 ghost use Rattle.nb_chains.specs.declared.kind.ChainKind.TheVariants as kind;
 ghost use Rattle.nb_defs.specs.Records.{IsTick};
 ghost use Rattle.nb_network.specs.Many.{HasNoneTied, port_for};
-ghost use Rattle.nb_open.specs.Opening.{CanOpen, chain_kind, is_web, own_by};
+ghost use Rattle.nb_open.specs.Opening.{CanOpen, chain_kind, own_by};
 
 use crate::frames::Frame;
 use crate::rows::{Row, rows_of};
@@ -116,7 +116,6 @@ impl Bench {
     fn begin(self, opening: &Opening<'_>) -> Result<Bench, NoMemory>
         requires can { CanOpen opening.now }
         requires own { own_by opening.now ≡ port_for (chain_kind opening.now) 0 self.made }
-        requires plain { is_web opening.now ≡ false }
         requires tied { chain_kind opening.now ≡ kind.Lease → HasNoneTied self.many }
     {
         let Bench {

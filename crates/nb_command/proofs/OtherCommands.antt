@@ -9,15 +9,18 @@ use Rattle.nb_command.specs.declared.command_plan.CommandPlan.{CommandPlan}
 use Rattle.nb_command.specs.declared.command_plan.CommandPlan.TheVariants as plan
 use Rattle.nb_command.specs.declared.error.ApplyError.{ApplyError}
 use Rattle.nb_image.specs.Images.{ImageList}
+use Rattle.nb_drivecmd.specs.declared.error.DriveRefusal.{DriveRefusal}
+use Rattle.nb_drivecmd.specs.declared.outcome.DriveOutcome.{DriveOutcome}
+use Rattle.nb_drivecmd.specs.DriveEffect.{drive_effect}
 use Rattle.nb_imagecmd.specs.declared.error.ImageFailure.{ImageFailure}
 use Rattle.nb_imagecmd.specs.declared.outcome.ImageOutcome.{ImageOutcome}
 use Rattle.nb_imagecmd.specs.CarryingOut.{image_effect}
 use Rattle.nb_command.specs.Bases.{base_by}
 use Rattle.nb_command.specs.declared.outcome.Outcome.{Outcome}
 use Rattle.nb_command.specs.declared.outcome.Job.TheVariants as job
-use Rattle.nb_command.specs.declared.outcome.Outcome.TheVariants.{Done, Wait, Down, Images}
+use Rattle.nb_command.specs.declared.outcome.Outcome.TheVariants.{Done, Wait, Down, Images, Drives}
 use Rattle.nb_command.specs.declared.state.State.{State}
-use Rattle.nb_command.specs.Applying.{carried_out, in_state, with_table, with_up, with_images}
+use Rattle.nb_command.specs.Applying.{carried_out, in_state, with_table, with_up, with_images, with_drives}
 use Rattle.nb_command.specs.Inc.{named_count, sum_put, increased_table}
 use Rattle.nb_command.specs.Others.{is_meant, may_change}
 use Rattle.nb_command.specs.Set.{set_value, set_table}
@@ -51,6 +54,10 @@ with_images_stays s (Ok done) after is block key =
     subst (λ (x : Outcome × State). Finds s x.1 block key) (same_Ok (Images done.0, record s { images = done.1 }) after is) refl
 with_images_stays s (Err why) after is block key = absurd cc
 
+with_drives_stays : (s : State) (answer : Result DriveOutcome DriveRefusal) (after : Outcome × State) → with_drives s answer ≡ Ok after → (block : List ℕ) (key : OwnedKey) → Finds s after.1 block key
+with_drives_stays s (Ok outcome) after is block key = as_it_was s (Drives outcome) after is block key
+with_drives_stays s (Err why) after is block key = absurd cc
+
 pub others_stay : (p : CommandPlan) (own : Option (List ℕ)) (s : State) (after : Outcome × State) → carried_out p own s ≡ Ok after → (block : List ℕ) (key : OwnedKey) → may_change p block key ≡ false → own_value block key after.1.table ≡ own_value block key s.table
 others_stay (plan.Echo newline text) own s after is block key off = as_it_was s _ after is block key
 others_stay (plan.Goto label) own s after is block key off = as_it_was s _ after is block key
@@ -59,6 +66,7 @@ others_stay (plan.Isset word) own s after is block key off = in_state_stays s _ 
 others_stay (plan.Iseq a b) own s after is block key off = in_state_stays s _ after is block key
 others_stay (plan.Show name) own s after is block key off = in_state_stays s _ after is block key
 others_stay (plan.Images command) own s after is block key off = with_images_stays s (image_effect command (base_by own s.table) s.images) after is block key
+others_stay (plan.Drives command) own s after is block key off = with_drives_stays s (drive_effect command (base_by own s.table) s.table s.drives) after is block key
 others_stay (plan.Ifopen device) own s after is block key off = with_up_stays s Done _ after is block key
 others_stay (plan.Ifclose device) own s after is block key off = with_up_stays s Down _ after is block key
 others_stay (plan.Dhcp device) own s after is block key off = with_up_stays s (Wait job.Lease) _ after is block key

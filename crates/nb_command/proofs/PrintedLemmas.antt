@@ -163,6 +163,7 @@ prints_less (plan.Set name value) = omega arith
 prints_less (plan.Clear name) = omega arith
 prints_less (plan.Inc name by) = omega arith
 prints_less (plan.Images command) = omega arith
+prints_less (plan.Drives command) = omega arith
 prints_less (plan.Ifopen device) = omega arith
 prints_less (plan.Ifclose device) = omega arith
 prints_less (plan.Dhcp device) = omega arith

@@ -5,6 +5,9 @@ use Rattle.std.specs.Str.{bytes_eq}
 use Rattle.nb_terms.specs.declared.cause.Cause.{Cause}
 use Rattle.nb_settings.specs.Tables.{TableLists}
 use Rattle.nb_image.specs.Images.{ImageList}
+use Rattle.nb_drivecmd.specs.declared.error.DriveRefusal.{DriveRefusal}
+use Rattle.nb_drivecmd.specs.declared.outcome.DriveOutcome.{DriveOutcome}
+use Rattle.nb_drivecmd.specs.DriveEffect.{drive_effect}
 use Rattle.nb_imagecmd.specs.declared.error.ImageFailure.{ImageFailure}
 use Rattle.nb_imagecmd.specs.declared.outcome.ImageOutcome.{ImageOutcome}
 use Rattle.nb_imagecmd.specs.CarryingOut.{image_effect, IfAsks}
@@ -16,10 +19,10 @@ use Rattle.nb_command.specs.declared.error.ApplyError.TheVariants.{False, NoMemo
 use Rattle.nb_command.specs.declared.outcome.Job.{Job}
 use Rattle.nb_command.specs.declared.outcome.Job.TheVariants as job
 use Rattle.nb_command.specs.declared.outcome.Outcome.{Outcome}
-use Rattle.nb_command.specs.declared.outcome.Outcome.TheVariants.{Done, Text, Goto, Leave, Wait, Down, Images}
+use Rattle.nb_command.specs.declared.outcome.Outcome.TheVariants.{Done, Text, Goto, Leave, Wait, Down, Images, Drives}
 use Rattle.nb_command.specs.declared.state.State.{State}
 use Rattle.nb_command.specs.Bases.{base_by}
-use Rattle.nb_command.specs.Failures.{apply_cause, image_failure}
+use Rattle.nb_command.specs.Failures.{apply_cause, image_failure, drive_failure}
 use Rattle.nb_command.specs.Echo.{echoed}
 use Rattle.nb_command.specs.Isset.{is_word_set}
 use Rattle.nb_command.specs.Set.{set_table}
@@ -61,6 +64,10 @@ abbrev pub with_images : State → Result (ImageOutcome × ImageList) ImageFailu
 with_images s answer =
     result_map_both (λ done. (Images done.0, record s { images = done.1 })) image_failure answer
 
+-- a drive command leaves the state as it was: who carries the outcome out changes the drives
+abbrev pub with_drives : State → Result DriveOutcome DriveRefusal → Result (Outcome × State) ApplyError
+with_drives s answer = result_map_both (λ outcome. (Drives outcome, s)) (λ refusal. drive_failure refusal.why) answer
+
 -- the script was fetched from that URI, if it was
 abbrev pub carried_out : CommandPlan → Option (List ℕ) → State → Result (Outcome × State) ApplyError
 carried_out (plan.Echo newline text) own s = Ok (Text (echoed newline text), s)
@@ -73,6 +80,7 @@ carried_out (plan.Clear name) own s = with_table s (cleared_table name s.table)
 carried_out (plan.Show name) own s = in_state s (text_outcome (setting_shown name s.table))
 carried_out (plan.Inc name by) own s = with_table s (increased_table name by s.table)
 carried_out (plan.Images command) own s = with_images s (image_effect command (base_by own s.table) s.images)
+carried_out (plan.Drives command) own s = with_drives s (drive_effect command (base_by own s.table) s.table s.drives)
 carried_out (plan.Ifopen device) own s = with_up Done s (device_change device true)
 carried_out (plan.Ifclose device) own s = with_up Down s (device_change device false)
 carried_out (plan.Dhcp device) own s = with_up (Wait job.Lease) s (device_change device true)
@@ -87,6 +95,7 @@ applied p own s = result_map_both (λ after. after) apply_cause (carried_out p o
 -- a file that it asks for may be fetched
 abbrev pub AsksRightly : Outcome → Type 0
 AsksRightly (Images outcome) = IfAsks outcome MayBeFetched
+AsksRightly (Drives outcome) = Unit {0}
 AsksRightly Done = Unit {0}
 AsksRightly (Text text) = Unit {0}
 AsksRightly (Goto label) = Unit {0}

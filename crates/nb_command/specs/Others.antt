@@ -25,6 +25,7 @@ may_change (plan.Isset word) block key = false
 may_change (plan.Iseq a b) block key = false
 may_change (plan.Show name) block key = false
 may_change (plan.Images command) block key = false
+may_change (plan.Drives command) block key = false
 may_change (plan.Ifopen device) block key = false
 may_change (plan.Ifclose device) block key = false
 may_change (plan.Dhcp device) block key = false
@@ -35,6 +36,7 @@ may_change (plan.Sleep seconds) block key = false
 -- it is a command on images
 abbrev pub is_on_images : CommandPlan → Bool
 is_on_images (plan.Images command) = true
+is_on_images (plan.Drives command) = false
 is_on_images (plan.Echo newline text) = false
 is_on_images (plan.Goto label) = false
 is_on_images (plan.Exit n) = false

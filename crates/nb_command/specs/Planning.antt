@@ -8,9 +8,12 @@ use Rattle.nb_command.specs.declared.command_name.CommandName.TheVariants.{Sleep
 use Rattle.nb_command.specs.declared.command_name.CommandName.TheVariants.{Ifopen, Ifclose, Dhcp, Ping, Nslookup}
 use Rattle.nb_command.specs.declared.command_plan.CommandPlan.{CommandPlan}
 use Rattle.nb_command.specs.declared.command_plan.CommandPlan.TheVariants as plan
+use Rattle.nb_drivecmd.specs.declared.commands.DriveCommand.{DriveCommand}
+use Rattle.nb_drivecmd.specs.declared.commands.DriveCommand.TheVariants as drives
+use Rattle.nb_drivecmd.specs.DriveReading.{drive_command}
 use Rattle.nb_imagecmd.specs.declared.commands.ImageCommand.{ImageCommand}
 use Rattle.nb_imagecmd.specs.declared.error.PlanError.{PlanError}
-use Rattle.nb_imagecmd.specs.declared.error.PlanError.TheVariants.{Unknown}
+use Rattle.nb_imagecmd.specs.declared.error.PlanError.TheVariants.{Unknown, Usage, NoMemory}
 use Rattle.nb_imagecmd.specs.Reading.{image_command}
 use Rattle.nb_command.specs.CommandNames.{command_named}
 use Rattle.nb_command.specs.Echo.{echo_plan}
@@ -51,9 +54,22 @@ abbrev pub images_planned : Result ImageCommand PlanError → Result CommandPlan
 images_planned (Ok command) = Ok (plan.Images command)
 images_planned (Err why) = Err why
 
--- all other names are those of commands on images, or of none
+-- a drive command; no drive is booted yet
+abbrev pub drive_planned : DriveCommand → Result CommandPlan PlanError
+drive_planned (drives.Hook number describe uri) = Ok (plan.Drives (drives.Hook number describe uri))
+drive_planned (drives.Boot number describe keep uri) = Err Unknown
+drive_planned (drives.Unhook number) = Ok (plan.Drives (drives.Unhook number))
+
+-- words that are no drive command are one on images, or none
+abbrev pub others_planned : Result DriveCommand PlanError → List (List ℕ) → Result CommandPlan PlanError
+others_planned (Ok command) words = drive_planned command
+others_planned (Err Unknown) words = images_planned (image_command words)
+others_planned (Err Usage) words = Err Usage
+others_planned (Err NoMemory) words = Err NoMemory
+
+-- all other names are those of commands on drives or images, or of none
 abbrev pub plan_where : Option CommandName → List ℕ → List (List ℕ) → Result CommandPlan PlanError
-plan_where None name args = images_planned (image_command (name ∷ args))
+plan_where None name args = others_planned (drive_command (name ∷ args)) (name ∷ args)
 plan_where (Some command) name args = plan_named command args
 
 -- the command, or why the words are none

@@ -4,7 +4,7 @@ use Rattle.nb_command.specs.declared.command_plan.CommandPlan.{CommandPlan}
 use Rattle.nb_command.specs.declared.command_plan.CommandPlan.TheVariants as plan
 use Rattle.nb_imagecmd.specs.Promises.{args_len}
 use Rattle.nb_command.specs.declared.outcome.Outcome.{Outcome}
-use Rattle.nb_command.specs.declared.outcome.Outcome.TheVariants.{Done, Text, Goto, Leave, Wait, Down, Images}
+use Rattle.nb_command.specs.declared.outcome.Outcome.TheVariants.{Done, Text, Goto, Leave, Wait, Down, Images, Drives}
 
 -- The most bytes that a command prints as one text. Of `echo` the words, a byte after each, and a line feed; of
 -- `show` a name of 201 bytes, ` = `, the text of a value, 3,108 bytes, and a line feed.
@@ -19,6 +19,7 @@ most_printed (plan.Set name value) = 0
 most_printed (plan.Clear name) = 0
 most_printed (plan.Inc name by) = 0
 most_printed (plan.Images command) = 0
+most_printed (plan.Drives command) = 0
 most_printed (plan.Ifopen device) = 0
 most_printed (plan.Ifclose device) = 0
 most_printed (plan.Dhcp device) = 0
@@ -38,6 +39,7 @@ most_text (plan.Set name value) = 0
 most_text (plan.Clear name) = 0
 most_text (plan.Inc name by) = 0
 most_text (plan.Images command) = args_len command
+most_text (plan.Drives command) = 0
 most_text (plan.Ifopen device) = 0
 most_text (plan.Ifclose device) = 0
 most_text (plan.Dhcp device) = 0
@@ -54,3 +56,4 @@ IfText (Leave n) P = Unit {0}
 IfText (Wait job) P = Unit {0}
 IfText Down P = Unit {0}
 IfText (Images outcome) P = Unit {0}
+IfText (Drives outcome) P = Unit {0}

@@ -4,7 +4,8 @@ ghost use Rattle.nb_settings.specs.Tables.{own_value};
 ghost use Rattle.nb_settings.specs.declared.setting.OwnedKey.{OwnedKey};
 ghost use Rattle.std.specs.Option.{option_copied};
 ghost use Rattle.nb_imagecmd.specs.CarryingOut.{image_effect};
-ghost use Rattle.nb_command.specs.Applying.{out_of_memory, truth, carried_out, applied, with_images, AsksRightly};
+ghost use Rattle.nb_drivecmd.specs.DriveEffect.{drive_effect};
+ghost use Rattle.nb_command.specs.Applying.{out_of_memory, truth, carried_out, applied, with_images, with_drives, AsksRightly};
 ghost use Rattle.nb_command.specs.Bases.{base_by};
 ghost use Rattle.nb_command.specs.Failures.{image_failure};
 ghost use Rattle.nb_command.specs.Others.{may_change, is_on_images};
@@ -25,6 +26,7 @@ use crate::ping::ping_job;
 use crate::set::set_setting;
 use crate::show::show_setting;
 use crate::{CommandPlan, Job, Outcome, State};
+use nb_drivecmd::DriveCommand;
 use nb_imagecmd::{ImageCommand, ImageFailure, ImageOutcome, copy_word};
 use nb_terms::Cause;
 use std::alloc::Global;
@@ -88,6 +90,7 @@ fn carry_out(
         CommandPlan::Show(name) => Ok(Outcome::Text(show_setting(alloc, name, table)?)),
         CommandPlan::Inc { name, by } => done(inc_setting(alloc, name, *by, table)),
         CommandPlan::Images(command) => Ok(on_images(alloc, command, own, s)?),
+        CommandPlan::Drives(command) => on_drives(alloc, command, own, s),
         CommandPlan::Ifopen(device) => done(set_device(device, true, &mut s.up)),
         CommandPlan::Ifclose(device) => down(set_device(device, false, &mut s.up)),
         CommandPlan::Dhcp(device) => leasing(set_device(device, true, &mut s.up)),
@@ -122,6 +125,33 @@ fn on_images(
         None => nb_imagecmd::carry_out(alloc, command, None, &mut s.images)?,
     };
     Ok(Outcome::Images(outcome))
+}
+
+/// Carries a drive command out. What it comes to is for who keeps the opens: the drives stay as they were.
+fn on_drives(
+    alloc: Global,
+    command: &DriveCommand,
+    own: Option<&[u8]>,
+    s: &State,
+) -> Result<Outcome, ApplyError>
+    ensures value { IfOk result (λ outcome. with_drives s.now
+        (drive_effect command.now (base_by (option_copied own.entry) s.now.table) s.now.table s.now.drives) ≡ Ok (outcome, s.now)) }
+    ensures cause { IfErr result (λ why. (why ≡ failure.NoMemory) ⊎ (with_drives s.now
+        (drive_effect command.now (base_by (option_copied own.entry) s.now.table) s.now.table s.now.drives) ≡ Err why)) }
+    ensures fits { IfOk result (λ outcome. IfText outcome (λ text. length text ≤ 0)) }
+    ensures fetched { IfOk result AsksRightly }
+{
+    let base = script_base(alloc, own, &s.table)?;
+    let answer = match base {
+        Some(ref uri) => {
+            nb_drivecmd::carry_out(alloc, command, Some(uri.as_slice()), &s.table, &s.drives)
+        }
+        None => nb_drivecmd::carry_out(alloc, command, None, &s.table, &s.drives),
+    };
+    match answer {
+        Ok(outcome) => Ok(Outcome::Drives(outcome)),
+        Err(refusal) => Err(ApplyError::from(refusal.why)),
+    }
 }
 
 /// Done where it is true.

@@ -1,3 +1,4 @@
+use nb_drivecmd::DriveCommand;
 use nb_imagecmd::ImageCommand;
 use nb_wire::{Word, Words};
 
@@ -24,6 +25,8 @@ pub enum CommandPlan {
     Inc { name: Word, by: i32 },
     /// Fetches, finds, frees or executes images.
     Images(ImageCommand),
+    /// Hooks or unhooks drives.
+    Drives(DriveCommand),
     /// Sets a device up; net0 where none is named.
     Ifopen(Option<Word>),
     /// Sets a device down, and closes what is open there; net0 where none is named.

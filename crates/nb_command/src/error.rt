@@ -1,7 +1,8 @@
 ghost use Rattle.std.specs.Prelude.{◌≡◌};
-ghost use Rattle.nb_command.specs.Failures.{apply_cause, set_failure, parse_failure, image_failure};
+ghost use Rattle.nb_command.specs.Failures.{apply_cause, set_failure, parse_failure, image_failure, drive_failure};
 ghost use Rattle.nb_command.specs.declared.error.ApplyError.TheVariants as failure;
 
+use nb_drivecmd::DriveFailure;
 use nb_expand::ParseError;
 use nb_imagecmd::ImageFailure;
 use nb_settings::SetError;
@@ -23,6 +24,8 @@ pub enum ApplyError {
     ManySettings,
     /// It is a command on images, and fails for this.
     Images(ImageFailure),
+    /// It is a drive command, and fails for this.
+    Drives(DriveFailure),
     /// Memory ran out.
     NoMemory,
 }
@@ -39,6 +42,7 @@ impl ApplyError {
             ApplyError::LongValue => Cause::from(Reason::TooLong(Long::Value)),
             ApplyError::ManySettings => Cause::from(Reason::TooMany(Many::Settings)),
             ApplyError::Images(why) => why.cause(),
+            ApplyError::Drives(why) => why.cause(),
             ApplyError::NoMemory => Plain::NoMemory.cause(),
         }
     }
@@ -91,6 +95,17 @@ impl From<ImageFailure> for ApplyError {
         match why {
             ImageFailure::NoMemory => ApplyError::NoMemory,
             why => ApplyError::Images(why),
+        }
+    }
+}
+
+impl From<DriveFailure> for ApplyError {
+    ghost from_gives = { λ why e. e ≡ drive_failure why };
+
+    fn from(why: DriveFailure) -> ApplyError {
+        match why {
+            DriveFailure::NoMemory => ApplyError::NoMemory,
+            why => ApplyError::Drives(why),
         }
     }
 }

@@ -1,3 +1,4 @@
+use nb_drivecmd::DriveOutcome;
 use nb_imagecmd::ImageOutcome;
 use nb_wire::{Text, Word};
 
@@ -18,6 +19,8 @@ pub enum Outcome {
     Down,
     /// It is a command on images, and comes to this.
     Images(ImageOutcome),
+    /// It is a drive command, and comes to this.
+    Drives(DriveOutcome),
 }
 
 /// What a command waits for.

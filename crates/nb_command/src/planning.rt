@@ -1,7 +1,8 @@
 ghost use Rattle.std.specs.Prelude.{◌≡◌, ◌≤◌, Ok, Err, IfOk, IsErrOf, length, sum_by};
 ghost use Rattle.nb_command.specs.Plans.{PlansAs};
-ghost use Rattle.nb_command.specs.Planning.{plan_named, images_planned, planned};
+ghost use Rattle.nb_command.specs.Planning.{plan_named, images_planned, drive_planned, others_planned, planned};
 ghost use Rattle.nb_imagecmd.specs.Reading.{image_command};
+ghost use Rattle.nb_drivecmd.specs.DriveReading.{drive_command};
 ghost use Rattle.nb_command.specs.Printed.{most_printed, most_text};
 
 use crate::clear::plan_clear;
@@ -21,6 +22,7 @@ use crate::set::plan_set;
 use crate::show::plan_show;
 use crate::sleep::plan_sleep;
 use crate::{CommandPlan, PlanError};
+use nb_drivecmd::DriveCommand;
 use nb_imagecmd::read_command;
 use nb_wire::Word;
 use std::alloc::Global;
@@ -44,7 +46,33 @@ pub fn plan(alloc: Global, words: &[Word]) -> Result<CommandPlan, PlanError>
     };
     match CommandName::named(name.as_slice()) {
         Some(command) => plan_named(alloc, command, args),
-        None => plan_images(alloc, words),
+        None => plan_others(alloc, words),
+    }
+}
+
+/// The command on drives or images that words say.
+fn plan_others(alloc: Global, words: &[Word]) -> Result<CommandPlan, PlanError>
+    ensures value { PlansAs result (others_planned (drive_command words.now) words.now) }
+    ensures small { IfOk result (λ plan. most_printed plan ≡ 0) }
+    ensures args { length words.now ≤ 64 → sum_by length words.now ≤ 4096
+        → IfOk result (λ plan. most_text plan ≤ 4160) }
+{
+    match nb_drivecmd::read_command(alloc, words) {
+        Ok(command) => plan_drive(command),
+        Err(PlanError::Unknown) => plan_images(alloc, words),
+        Err(why) => Err(why),
+    }
+}
+
+/// A drive is hooked or unhooked; none is booted yet.
+fn plan_drive(command: DriveCommand) -> Result<CommandPlan, PlanError>
+    ensures value { result ≡ drive_planned command }
+    ensures small { IfOk result (λ plan. most_printed plan ≡ 0) }
+    ensures args { IfOk result (λ plan. most_text plan ≡ 0) }
+{
+    match command {
+        DriveCommand::Boot { .. } => Err(PlanError::Unknown),
+        command => Ok(CommandPlan::Drives(command)),
     }
 }
 

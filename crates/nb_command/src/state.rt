@@ -1,3 +1,4 @@
+use nb_drivecmd::Drives;
 use nb_image::Images;
 use nb_settings::Table;
 
@@ -6,6 +7,8 @@ use nb_settings::Table;
 pub struct State {
     pub table: Table,
     pub images: Images,
+    /// The drives that are hooked.
+    pub drives: Drives,
     /// Whether the device net0 is up.
     pub up: bool,
 }

@@ -1,10 +1,10 @@
 -- The parts of a hand-off, as a function of the list and the place of the image to boot.
-use Rattle.std.specs.Prelude.{ℕ, ◌+◌, ◌*◌, ◌/◌, ◌==◌, List, [], ◌∷◌, ◌++◌, length, take, drop, map, slice_get, if◌then◌else◌}
+use Rattle.std.specs.Prelude.{ℕ, ◌+◌, ◌*◌, ◌/◌, ◌==◌, List, [], ◌∷◌, ◌++◌, length, take, drop, map, Option, Some, None, slice_get, if◌then◌else◌}
 use Rattle.std.specs.List.{remove, flat_map, enumerate_from, range_with_len}
 use Rattle.std.specs.Option.{option_to_list}
 use Rattle.nb_image.specs.declared.image.Image.{Image}
 use Rattle.nb_image.specs.declared.part.PartKind.{PartKind}
-use Rattle.nb_image.specs.declared.part.PartKind.TheVariants.{Kernel, Initrd, CommandLine, KernelName, InitrdName}
+use Rattle.nb_image.specs.declared.part.PartKind.TheVariants.{Kernel, Initrd, CommandLine, Table, KernelName, InitrdName}
 use Rattle.nb_image.specs.declared.part.PartBytes.{PartBytes}
 use Rattle.nb_image.specs.declared.part.PartBytes.TheVariants.{Text, Pages}
 use Rattle.nb_image.specs.declared.part.Part.{Part}
@@ -15,6 +15,7 @@ abbrev pub part_number : PartKind → ℕ
 part_number Kernel = 0
 part_number Initrd = 1
 part_number CommandLine = 2
+part_number Table = 3
 part_number KernelName = 5
 part_number InitrdName = 6
 
@@ -58,6 +59,11 @@ others_parts others = flat_map initrd_parts (enumerate_from 0 others)
 -- the image at this place, and then all others
 abbrev pub parts : ℕ → List Image → List PartText
 parts kernel images = flat_map kernel_parts (option_to_list (slice_get images kernel)) ++ others_parts (remove images kernel)
+
+-- the boot table, where there is one
+abbrev pub table_parts : Option (List ℕ) → List PartText
+table_parts None = []
+table_parts (Some bytes) = part Table 0 bytes ∷ []
 
 -- how many pieces so many bytes have: of 65,536 bytes each, the last shorter, and one of none
 abbrev pub piece_count : ℕ → ℕ

@@ -13,6 +13,8 @@ pub enum PartKind {
     Initrd,
     /// The arguments of the image to boot.
     CommandLine,
+    /// The boot table of drives.
+    Table,
     KernelName,
     InitrdName,
 }
@@ -26,6 +28,7 @@ impl PartKind {
             PartKind::Kernel => 0,
             PartKind::Initrd => 1,
             PartKind::CommandLine => 2,
+            PartKind::Table => 3,
             PartKind::KernelName => 5,
             PartKind::InitrdName => 6,
         }

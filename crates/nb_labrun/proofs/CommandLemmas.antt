@@ -21,10 +21,10 @@ use Rattle.nb_imagecmd.specs.declared.error.ImageFailure.{ImageFailure}
 use Rattle.nb_imagecmd.specs.declared.error.ImageFailure.TheVariants.{NoImage}
 use Rattle.nb_imagecmd.specs.Executing.{ImageAnswer}
 use Rattle.nb_machine.specs.Conclusions.{Conclusion, keeps, tells, fails, boots, runs_script}
-use Rattle.nb_machine.specs.Effects.{Effect, says, asks, goes, sleeps, shuts_device, inquires, on_images, concludes_at_once, Surroundings, next_open, next_look_up, next_by_name, next_at_host, next_effect, asked_effect, image_answer_effect, images_effect, settled_effect, planned_effect, words_effect, expanded_effect, effect, effect_in, table_after, up_after}
-use Rattle.nb_machine.specs.Errands.{Errand, fetches_then, echoes_then, Onward, fetches_now, echoes_now, looks_up_now, onward}
+use Rattle.nb_machine.specs.Effects.{Effect, says, asks, goes, sleeps, shuts_device, inquires, on_images, on_drives, hooks_disk, unhooks_drive, concludes_at_once, Surroundings, next_open, next_look_up, next_by_name, next_at_host, next_effect, asked_effect, image_answer_effect, images_effect, settled_effect, planned_effect, words_effect, expanded_effect, effect, effect_in, table_after, up_after}
+use Rattle.nb_machine.specs.Errands.{Errand, fetches_then, echoes_then, hooks_then, Onward, fetches_now, echoes_now, hooks_now, looks_up_now, onward}
 use Rattle.nb_machine.specs.Queries.{with_domain, Query, for_lease, for_echo, for_host, for_address}
-use Rattle.nb_machine.specs.Scripts.{Doing, ends, opens, goes_to, waits_until, shuts, concludes_now, doing_by, doing, surroundings}
+use Rattle.nb_machine.specs.Scripts.{Doing, ends, opens, goes_to, waits_until, shuts, concludes_now, hooks_one, lets_go, doing_by, doing, surroundings}
 use Rattle.nb_machine.specs.Running.{Running}
 use Rattle.nb_machine.specs.States.{State}
 use Rattle.nb_command.specs.Bases.{base_by}
@@ -39,6 +39,8 @@ use Rattle.nb_expand.specs.Values.{named_text}
 use Rattle.nb_expand.specs.WordsExpansion.{expanded_words, short_words, word_before}
 use Rattle.nb_expand.specs.declared.error.ExpandError.{ExpandError}
 use Rattle.nb_expand.specs.declared.error.ExpandError.TheVariants.{TooLong}
+use Rattle.nb_drivecmd.specs.DriveCommandNames.{drive_command_named}
+use Rattle.nb_drivecmd.specs.DriveReading.{drive_command}
 use Rattle.nb_imagecmd.specs.CommandNames.{image_command_named}
 use Rattle.nb_imagecmd.specs.Reading.{SourceRead, fetch_of, image_command, imgfree_read, source_read}
 use Rattle.nb_imagecmd.specs.declared.commands.ImageCommand.{ImageCommand}
@@ -70,6 +72,9 @@ IsEffectKept (sleeps seconds) = Unit {0}
 IsEffectKept shuts_device = Unit {0}
 IsEffectKept (inquires q) = IsQueryKept q
 IsEffectKept (on_images command) = Unit {0}
+IsEffectKept (on_drives command) = Unit {0}
+IsEffectKept (hooks_disk hooking) = ⊥
+IsEffectKept (unhooks_drive number cause) = ⊥
 IsEffectKept (concludes_at_once c) = GoesOn c
 
 abbrev pub IsDoingKept : Doing → Type 0
@@ -79,6 +84,8 @@ IsDoingKept (goes_to name) = Unit {0}
 IsDoingKept (waits_until time) = Unit {0}
 IsDoingKept (shuts s) = Unit {0}
 IsDoingKept (concludes_now c) = GoesOn c
+IsDoingKept (hooks_one hooking) = ⊥
+IsDoingKept (lets_go number cause) = ⊥
 
 query_does : (s : State) (table : TableLists) (up : Bool) (q : Query) → IsQueryKept q → IsDoingKept (doing_by s table up (inquires q))
 query_does s table up for_lease h = tt
@@ -94,6 +101,9 @@ effect_does s table up (sleeps seconds) h = tt
 effect_does s table up shuts_device h = tt
 effect_does s table up (inquires q) h = query_does s table up q h
 effect_does s table up (on_images command) h = tt
+effect_does s table up (on_drives command) h = tt
+effect_does s table up (hooks_disk hooking) h = absurd h
+effect_does s table up (unhooks_drive number cause) h = absurd h
 effect_does s table up (concludes_at_once c) h = h
 
 -- of two values
@@ -106,6 +116,7 @@ either P false x y p q = q
 pub onward_kept : (errand : Errand) (server : ℕ) → IsErrandKept errand → IsNextKept (onward errand server)
 onward_kept (fetches_then asking) server h = h
 onward_kept echoes_then server h = tt
+onward_kept (hooks_then hooking) server h = absurd h
 
 open_kept : (made : ℕ) (next : Onward) → IsNextKept next → IfOk (next_open made next) IsNextKept
 open_kept made next h = either (λ r. IfOk r IsNextKept) (made == 16384) _ _ tt h
@@ -128,6 +139,7 @@ host_kept made table text errand h = by_address (four_decimals text)
 next_effect_kept : (r : Result Onward Cause) → IfOk r IsNextKept → IsEffectKept (next_effect r)
 next_effect_kept (Ok (fetches_now wanted)) h = h
 next_effect_kept (Ok (echoes_now server)) h = tt
+next_effect_kept (Ok (hooks_now hooking server)) h = absurd h
 next_effect_kept (Ok (looks_up_now errand name by)) h = h
 next_effect_kept (Err cause) h = tt
 
@@ -172,11 +184,11 @@ words_kept x made table name (Ok word) (Ok args) is kept =
     either P (nat_le (sum_by length (word ∷ args)) 4096) (Ok (word ∷ args)) (Err TooLong) (subst (λ (w : List ℕ). P (Ok (w ∷ args))) (sym same) (kept args)) tt
 
 planned_fetch : (args : List (List ℕ)) → planned (codes "imgfetch" ∷ args) ≡ images_planned (fetch_of (source_read args))
-unfolding planned command_named image_command image_command_named
+unfolding planned command_named drive_command drive_command_named image_command image_command_named
 planned_fetch args = refl
 
 planned_free : (args : List (List ℕ)) → planned (codes "imgfree" ∷ args) ≡ images_planned (imgfree_read args)
-unfolding planned command_named image_command image_command_named
+unfolding planned command_named drive_command drive_command_named image_command image_command_named
 planned_free args = refl
 
 planned_exit : (args : List (List ℕ)) → planned (codes "exit" ∷ args) ≡ exit_plan args

@@ -5,9 +5,9 @@ use Rattle.nb_defs.specs.ScriptLines.{Item, Line, label, list, empty, items}
 use Rattle.nb_imagecmd.specs.declared.asking.After.TheVariants as after
 use Rattle.nb_imagecmd.specs.declared.asking.Asking.{Asking}
 use Rattle.nb_machine.specs.Courses.{Standing, ready, running, waiting, reaching, yielded, handing, left, handed_off, stopped}
-use Rattle.nb_machine.specs.Errands.{Errand, fetches_then, echoes_then, Onward, fetches_now, echoes_now, looks_up_now}
+use Rattle.nb_machine.specs.Errands.{Errand, fetches_then, echoes_then, hooks_then, Onward, fetches_now, echoes_now, hooks_now, looks_up_now}
 use Rattle.nb_machine.specs.Running.{Running}
-use Rattle.nb_machine.specs.Scripts.{Job, fetch, takes_lease, hears_echo, keeps_address, asks_on, sleep}
+use Rattle.nb_machine.specs.Scripts.{Job, fetch, takes_lease, hears_echo, keeps_address, hooks, asks_on, sleep}
 
 abbrev pub IsLabName : List ℕ → Type 0
 IsLabName name = (name ≡ codes "imgfetch") ⊎ ((name ≡ codes "imgfree") ⊎ (name ≡ codes "exit"))
@@ -40,10 +40,12 @@ IsKept asking = asking.after ≡ after.Keep
 abbrev pub IsErrandKept : Errand → Type 0
 IsErrandKept (fetches_then asking) = IsKept asking
 IsErrandKept echoes_then = Unit {0}
+IsErrandKept (hooks_then hooking) = ⊥
 
 abbrev pub IsNextKept : Onward → Type 0
 IsNextKept (fetches_now wanted) = IsKept wanted.asking
 IsNextKept (echoes_now server) = Unit {0}
+IsNextKept (hooks_now hooking server) = ⊥
 IsNextKept (looks_up_now errand name by) = IsErrandKept errand
 
 abbrev pub IsJobKept : Job → Type 0
@@ -52,6 +54,7 @@ IsJobKept takes_lease = Unit {0}
 IsJobKept hears_echo = Unit {0}
 IsJobKept (keeps_address setting) = Unit {0}
 IsJobKept (asks_on errand) = IsErrandKept errand
+IsJobKept (hooks hooking) = ⊥
 IsJobKept sleep = Unit {0}
 
 -- where the run stands: no other script runs, nothing is handed off, and the power wasn't switched off

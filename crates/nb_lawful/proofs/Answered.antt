@@ -1,46 +1,57 @@
 -- What a command waited for has come: what follows of its job.
 use Rattle.std.proofs.Common.{◌≡◌, ℕ, ◌+◌, ◌-◌, ◌*◌, ◌≤◌, Bool, true, false, cond, List, [], ◌∷◌, ◌++◌, Option, Some, None, option_map, Ok, refl, sym, ◌∙◌, ap, subst, arith}
+use Rattle.std.specs.List.{list_any}
 use Rattle.std.specs.Option.{option_map_or, is_some}
 use Rattle.std.proofs.lemmas.Option.{none-some, same_Some}
 use Rattle.nb_terms.specs.declared.cause.Cause.{Cause}
 use Rattle.nb_wire.specs.declared.address.Ip4.{Ip4}
 use Rattle.nb_defs.specs.Causes.{ok, is_ok_cause}
 use Rattle.nb_defs.specs.Records.{Out, result}
-use Rattle.nb_machine.specs.Effects.{Effect, sleeps, inquires}
-use Rattle.nb_machine.specs.Errands.{Wanted, Errand, Onward, onward}
-use Rattle.nb_machine.specs.Findings.{query_id}
+use Rattle.nb_machine.specs.Effects.{Effect, sleeps, inquires, hooks_disk, ShownWords}
+use Rattle.nb_machine.specs.Errands.{Wanted, Errand, Onward, onward, hooks_then}
+use Rattle.nb_machine.specs.Findings.{query_id, settled_by}
 use Rattle.nb_machine.specs.Queries.{Query, for_lease, for_echo, for_host, for_address}
 use Rattle.nb_machine.specs.Running.{Running, with_result}
 use Rattle.nb_machine.specs.Lives.{dns, kind_number, Live}
 use Rattle.nb_machine.specs.Kinds.{resolved}
-use Rattle.nb_machine.specs.States.{State, with_images}
-use Rattle.nb_machine.specs.Scripts.{Job, job_for, sleep, by_end, by_time, next_of, settles, goes_onward, settled_with, place_moved_to, upshot_fetched, upshot_records, concluded_by}
+use Rattle.nb_machine.specs.States.{State, with_images, with_settings}
+use Rattle.nb_machine.specs.Scripts.{Job, job_for, sleep, by_end, by_time, next_of, settles, goes_onward, settled_with, place_moved_to, upshot_fetched, upshot_records, concluded_by, concludes}
 use Rattle.nb_machine.specs.Courses as course
 use Rattle.nb_machine.specs.Courses.{Standing, LeadsTo}
+use Rattle.nb_machine.specs.Conclusions.{fails}
 use Rattle.nb_dns.specs.LookupReplies.{address_found}
 use Rattle.nb_laws.specs.Events.{Event, puts}
 use Rattle.nb_laws.specs.Lists.{hardware, openings, made, datagrams_of, came_ok, last_end}
 use Rattle.nb_laws.specs.Cores.{lookup_by, looked_at, has_its_answer}
-use Rattle.nb_laws.specs.CommandsSoFar.{CommandsSoFar, so_far, comes_by, comes_after, concluded_in, conclusion_so_far, shown_table, shown_query}
+use Rattle.nb_laws.specs.CommandsSoFar.{CommandsSoFar, so_far, comes_by, comes_after, concluded_in, conclusion_so_far, shown_table, shown_query, hooking_in}
 use Rattle.nb_laws.specs.Moves.{MovedOpen, moves}
 use Rattle.nb_laws.specs.Wanting.{wanted_by}
 use Rattle.nb_laws.specs.Agreement.{AgreesScript, AsksQuery, asks_at_once, echoes_next}
 use Rattle.nb_laws.proofs.Tellings.{told}
 use Rattle.nb_laws.proofs.Commands.{script_as, script_told}
-use Rattle.nb_laws.proofs.SoFar.{over_so_far, left_unasked, result_so_far, fetches_nothing}
+use Rattle.nb_laws.proofs.SoFar.{over_so_far, left_unasked, result_so_far, fetches_nothing, hooks_none, hooks_failed, left_quiet, concludes_at_once_so}
 use Rattle.nb_laws.proofs.Afterwards.{sleeps_after}
-use Rattle.nb_laws.proofs.Settling.{comes_sleeps, comes_asleep, query_asleep}
+use Rattle.nb_laws.proofs.Settling.{comes_sleeps, comes_asleep, query_asleep, comes_keeps}
 use Rattle.nb_openlaws.specs.Standings.{live_opening}
-use Rattle.nb_lawful.specs.CommandOpens.{command_open}
-use Rattle.nb_lawful.specs.Results.{by_sleep, GivesOf}
-use Rattle.nb_lawful.specs.ScriptAgreement.{SettingsAre, SleepsUntil, FetchesWith, AsksIn, IsToReach, reaches_host, HasImages, NoneLeft}
+use Rattle.nb_laws.specs.CommandOpens.{command_open, command_end}
+use Rattle.nb_laws.specs.Frames.{by_sleep, HoldsOf, HoldsResult, by_failed_end}
+use Rattle.nb_laws.specs.Hookings.{HasDriveAnswer}
+use Rattle.nb_lawful.specs.ScriptAgreement.{SettingsAre, SleepsUntil, FetchesWith, AsksIn, IsToReach, reaches_host, HasImages, NoneLeft, HooksBy, LooksUpDisk, HasFreeNumber, reaches_looked_up_disk}
 use Rattle.nb_lawful.proofs.AtOnce.{Goes, goes_nowhere, images_as}
-use Rattle.nb_lawful.proofs.Opened.{Purpose, for_file, for_query}
+use Rattle.nb_lawful.proofs.Opened.{Purpose, for_file, for_query, for_disk_host, for_disk}
 use Rattle.nb_lawful.proofs.CommandEnds.{ended_so, HasEnded, ends_with}
 use Rattle.nb_lawful.proofs.Concluded.{fetch_goes}
 use Rattle.nb_lawful.proofs.Moved.{moved_goes}
 use Rattle.nb_lawful.proofs.Found.{resolved_same, query_moves_none, settled_query, HasFound, found_goes}
 use Rattle.nb_lawful.proofs.Resting.{sleeping_comes}
+use Rattle.nb_lawful.proofs.Begun.{opened_none}
+use Rattle.nb_lawful.proofs.HookedLives.{drives_still, lives_so}
+use Rattle.nb_lawful.proofs.Disks.{still_hooks, words_hook, no_drive_last}
+use Rattle.nb_lawful.proofs.DriveAnswers.{none_answers}
+use Rattle.nb_lawful.proofs.Leading.{Concluding, failed_so, result_goes, conclusion_goes}
+use Rattle.nb_lawful.specs.Results.{HasEndedOpens}
+use Rattle.nb_drivecmd.specs.HookedDrives.{is_drive}
+use Rattle.nb_drivecmd.specs.declared.outcome.Hooking.{Hooking}
 
 -- ITS OPEN HAS ENDED
 
@@ -119,12 +130,103 @@ file_goes : (es : List Event) (outs : List Out) (s : State) (inner : Running) (o
 file_goes es outs s inner outer moved l cause wanted more p h f None is leads = fetch_goes es outs s inner outer moved l cause wanted more p h f is leads
 file_goes es outs s inner outer moved l cause wanted more p h f (Some place) is leads = moved_goes es outs s inner outer moved l cause wanted place more p h f is leads
 
+-- a command that hooks a disk fails
+disk_concluding : (es : List Event) (outs : List Out) (s : State) (inner : Running) (outer : List Running) (moved : List MovedOpen) (l : Live) (cause : Cause) (hooking : Hooking) (shown : ShownWords) → HasEnded es outs s inner outer moved l cause →
+    (so_far es).shown ≡ Some shown → comes_after l.number (so_far es) shown moved ≡ hooks_disk hooking → is_ok_cause cause ≡ false → (HasDriveAnswer es → ⊥) → Concluding es outs s inner outer (fails cause)
+disk_concluding es outs s inner outer moved l cause hooking shown h said names bad none =
+    let m = so_far es in
+    let ended : command_end es ≡ Some cause = ends_with es outs s inner outer moved l cause h in
+    let failed : came_ok (last_end es) ≡ false = ap came_ok h.last ∙ bad in
+    let words : comes_by (made es) m shown ≡ hooks_disk hooking = words_hook l.number (made es) m shown moved hooking names in
+    record {
+      base = h.base;
+      script = h.script;
+      settings = h.settings;
+      images = h.images;
+      none_left = h.none_left;
+      concluded = failed_so cause refl (concludes_at_once_so es m shown failed said ∙ ap concluded_in words);
+      keeps_table = ap (shown_table m.table) said ∙ comes_keeps (made es) m shown (hooks_disk hooking) words tt;
+      leaves_table = left_quiet es m.table m.shown failed;
+      holds = λ given gives. subst (HoldsResult es) (sym gives) (by_failed_end ended bad);
+      ended = subst HasEndedOpens (sym h.its_end) (cause, refl);
+      unhooked = λ given gives. hooks_failed es given (ap is_ok_cause gives ∙ bad);
+      no_disk = λ given gives left some disk answers. absurd (none answers);
+      fits = tt;
+    }
+
+-- the host of its disk was looked up, or has no address
+disk_host_goes : (es : List Event) (outs : List Out) (s : State) (inner : Running) (outer : List Running) (moved : List MovedOpen) (l : Live) (cause : Cause) (hooking : Hooking) (more : List Out) (p : Standing) → HasEnded es outs s inner outer moved l cause →
+    LooksUpDisk (hardware es) (so_far es) moved l hooking → HasFreeNumber hooking s.drives → (x : Option Onward) → next_of (hooks_then hooking) (ended_so l cause) ≡ x → LeadsTo s inner outer (option_map_or goes_onward x (settles (settled_with cause (Ok s.table) s.table))) more p →
+    Goes es outs (upshot_records (option_map_or goes_onward x (settles (settled_with cause (Ok s.table) s.table))) ++ more) p
+disk_host_goes es outs s inner outer moved l cause hooking more p h a gone (Some next) is (none, leads) =
+    subst (λ z. Goes es outs z p) (sym none) (subst (λ z. Goes es outs [] z) (sym leads) (goes_nowhere es outs (course.reaching s inner outer next)
+    (h.script, h.settings, h.images, h.none_left, reach (is_ok_cause cause) (resolved l) refl refl is)))
+  where
+    reach : (b : Bool) (y : Option Ip4) → is_ok_cause cause ≡ b → resolved l ≡ y → cond b (option_map (onward_to (hooks_then hooking)) y) None ≡ Some next → IsToReach es next
+    reach false y well at e = absurd (none-some next e)
+    reach true None well at e = absurd (none-some next e)
+    reach true (Some address) well at e = reaches_looked_up_disk (record {
+      hooking = hooking;
+      names = (a.shown, a.said, still_hooks l.number (made es) (so_far es) a.shown moved (moves es) hooking a.names);
+      name = a.name;
+      by = a.by;
+      address = address.0;
+      asked = a.asked;
+      finds = record {
+        opening = live_opening l;
+        opened = ap (λ n. openings n es) h.number ∙ h.opening;
+        kind = ap kind_number a.is_for.0;
+        asked = a.is_for.1;
+        of = a.is_for.2;
+        ended = ap came_ok (ends_with es outs s inner outer moved l cause h) ∙ well;
+        found = ap (λ n. address_found (lookup_by (hardware es) n (live_opening l)) (looked_at (live_opening l) (datagrams_of n es))) h.number ∙ resolved_same es l a.is_for.0 h.received ∙ at;
+      };
+      is_next = sym (same_Some (onward_to (hooks_then hooking) address) next e);
+      gone = ap (list_any (is_drive hooking.number)) (lives_so es s h.base h.images.drives) ∙ gone;
+      unit = a.unit;
+    })
+disk_host_goes es outs s inner outer moved l cause hooking more p h a gone None is leads = by (is_ok_cause cause) refl
+  where
+    nowhere : is_ok_cause cause ≡ true → (y : Option Ip4) → is_some y ≡ true → option_map (onward_to (hooks_then hooking)) y ≡ None → ⊥
+    nowhere well None some none = let no : false ≡ true = some in cc no
+    nowhere well (Some address) some none = absurd (none-some (onward_to (hooks_then hooking) address) (sym none))
+
+    fails_so : is_ok_cause cause ≡ false → settled_with cause (Ok s.table) s.table ≡ record { cause = cause; table = s.table }
+    fails_so bad = ap (λ b. cond b (settled_by s.table (Ok s.table)) (record { cause = cause; table = s.table })) bad
+
+    by_leading : is_ok_cause cause ≡ false → LeadsTo s inner outer (settles (record { cause = cause; table = s.table })) more p → Goes es outs (result cause ∷ more) p
+    by_leading bad (none, at) =
+        subst (λ z. Goes es outs (result cause ∷ z) p) (sym none) (subst (λ z. Goes es outs (result cause ∷ []) z) (sym at)
+        (result_goes es outs s (with_settings s s.table s.up) inner outer (fails cause) cause
+        (disk_concluding es outs s inner outer moved l cause hooking a.shown h a.said a.names bad (no_drive_last es (live_opening l) 4 (ap (λ n. openings n es) h.number ∙ h.opening) (ap kind_number a.is_for.0) refl))
+        refl (record { table = refl; up = refl; now = refl; images = refl; drives = refl; lives = refl; opens = refl })))
+
+    by : (b : Bool) → is_ok_cause cause ≡ b → Goes es outs (upshot_records (settles (settled_with cause (Ok s.table) s.table)) ++ more) p
+    by true well = absurd (nowhere well (resolved l) (found_one es outs s inner outer moved l cause h a.is_for.0 well) (ap (λ b. cond b (option_map (onward_to (hooks_then hooking)) (resolved l)) None) (sym well) ∙ is))
+    by false bad = subst (λ z. Goes es outs (upshot_records (settles z) ++ more) p) (sym (fails_so bad)) (by_leading bad (subst (λ z. LeadsTo s inner outer (settles z) more p) (fails_so bad) leads))
+
+-- its disk has not answered, and its open has ended
+disk_fails : (es : List Event) (outs : List Out) (s : State) (inner : Running) (outer : List Running) (moved : List MovedOpen) (l : Live) (cause : Cause) (hooking : Hooking) (more : List Out) (p : Standing) → HasEnded es outs s inner outer moved l cause →
+    HooksBy (so_far es) moved l hooking → LeadsTo s inner outer (concludes (fails cause)) more p → Goes es outs (result cause ∷ more) p
+disk_fails es outs s inner outer moved l cause hooking more p h a leads =
+    let (isn, i, kind) = a.is_drive in
+    let bad : is_ok_cause cause ≡ false = h.answered ∙ ap (λ k. has_its_answer l.number (record { kind = kind_number k; server = l.server; port = l.port; own = l.own; target = l.target; since = l.since }) es) kind in
+    conclusion_goes es outs s inner outer (fails cause) more p (λ list lines e. absurd (cc e))
+    (disk_concluding es outs s inner outer moved l cause hooking a.shown h a.said a.names bad
+    (none_answers es l isn i (record { kind = kind; kind_is = h.kind_is; login = h.login; streams = h.streams; own = h.own }) h.number a.early)) leads
+
 -- what follows of its job
-pub job_goes : (es : List Event) (outs : List Out) (s : State) (inner : Running) (outer : List Running) (moved : List MovedOpen) (l : Live) (cause : Cause) (job : Job) (more : List Out) (p : Standing) → HasEnded es outs s inner outer moved l cause → Purpose es moved l job →
+pub job_goes : (es : List Event) (outs : List Out) (s : State) (inner : Running) (outer : List Running) (moved : List MovedOpen) (l : Live) (cause : Cause) (job : Job) (more : List Out) (p : Standing) → HasEnded es outs s inner outer moved l cause → Purpose es s.drives moved l job →
     LeadsTo s inner outer (concluded_by s inner.depth job (by_end (ended_so l cause))) more p → Goes es outs (upshot_records (concluded_by s inner.depth job (by_end (ended_so l cause))) ++ more) p
 job_goes es outs s inner outer moved l cause job more p h (for_file wanted is f) leads =
     subst (λ z. Goes es outs (upshot_records (concluded_by s inner.depth z (by_end (ended_so l cause))) ++ more) p) (sym is)
     (file_goes es outs s inner outer moved l cause wanted more p h f (place_moved_to (ended_so l cause)) refl (subst (λ z. LeadsTo s inner outer (concluded_by s inner.depth z (by_end (ended_so l cause))) more p) is leads))
+job_goes es outs s inner outer moved l cause job more p h (for_disk_host hooking is a gone) leads =
+    subst (λ z. Goes es outs (upshot_records (concluded_by s inner.depth z (by_end (ended_so l cause))) ++ more) p) (sym is)
+    (disk_host_goes es outs s inner outer moved l cause hooking more p h a gone (next_of (hooks_then hooking) (ended_so l cause)) refl (subst (λ z. LeadsTo s inner outer (concluded_by s inner.depth z (by_end (ended_so l cause))) more p) is leads))
+job_goes es outs s inner outer moved l cause job more p h (for_disk hooking is a gone) leads =
+    subst (λ z. Goes es outs (upshot_records (concluded_by s inner.depth z (by_end (ended_so l cause))) ++ more) p) (sym is)
+    (disk_fails es outs s inner outer moved l cause hooking more p h a (subst (λ z. LeadsTo s inner outer (concluded_by s inner.depth z (by_end (ended_so l cause))) more p) is leads))
 job_goes es outs s inner outer moved l cause job more p h (for_query query is a) leads =
     subst (λ z. Goes es outs (upshot_records (concluded_by s inner.depth z (by_end (ended_so l cause))) ++ more) p) (sym is)
     (query_goes es outs s inner outer moved l cause query more p h a (subst (λ z. LeadsTo s inner outer (concluded_by s inner.depth z (by_end (ended_so l cause))) more p) is leads))
@@ -155,14 +257,14 @@ slept_goes es outs s s0 inner outer until more p h (none, leads) =
     let unasked : shown_query (made es - 1) (so_far es).table (so_far es).shown ≡ None = ap (shown_query (made es - 1) (so_far es).table) a.is_shown ∙ query_asleep (made es - 1) (so_far es) a.shown a.seconds (asleep (made es - 1)) in
     let still : comes_after (made es - 1) (so_far es) a.shown (moves es) ≡ sleeps a.seconds = sleeps_after s0.opens (made es - 1) (so_far es) a.shown (moves es) a.seconds a.sleeps_so in
     let nothing : conclusion_so_far (last_end es) es (so_far es) ≡ None = fetches_nothing es (so_far es) a.shown a.is_shown (λ x. ap (λ e. wanted_by e x) still) (ap concluded_in (asleep (made es))) in
-    let is : so_far (es ++ puts o ∷ []) ≡ over_so_far None (so_far es) = result_so_far es ok None h.none_left nothing (left_unasked es (so_far es).table (so_far es).shown unasked) in
+    let is : so_far (es ++ puts o ∷ []) ≡ over_so_far None (so_far es) = result_so_far es ok None h.none_left nothing (left_unasked es (so_far es).table (so_far es).shown unasked) ∙ ap (over_so_far None) (hooks_none es ok a.shown a.is_shown (ap hooking_in (asleep 0))) in
     let due : (so_far es).since + 1000 * a.seconds ≤ (so_far es).now = omega (arith, h.due, a.until_is, h.settings.now) in
     subst (λ z. Goes es outs (o ∷ z) p) (sym none) (subst (λ z. Goes es outs (o ∷ []) z) (sym leads) (record {
-      stands = (record { is_open = h.settings.is_open; holds = subst (λ l. GivesOf l es ok) (sym h.none_left) (by_sleep a.seconds h.none (sleeping_comes es s0 until a) due refl) }, tt);
+      stands = (record { is_open = h.settings.is_open; holds = subst (λ l. HoldsOf l es ok) (sym h.none_left) (by_sleep a.seconds h.none (sleeping_comes es s0 until a) due refl); hooks = λ left some. absurd (opened_none (command_open es) h.none some) }, tt);
       agrees = (
         script_as (es ++ told (o ∷ [])) inner (with_result inner ok) outer (record { same = refl; depth = refl; begun = refl }) (script_told es (o ∷ []) inner outer (tt, tt) refl h.script),
         subst (λ m. SettingsAre m (with_images s s.images) false) (sym is) (record { table = sleep_keeps (so_far es) s0 until a ∙ h.settings.table; up = h.settings.up; now = h.settings.now; is_open = refl }),
-        images_as es (es ++ told (o ∷ [])) outs (o ∷ []) s (with_images s s.images) (ap (λ (m : CommandsSoFar). m.images) is) refl (tt, tt) h.images,
+        images_as es (es ++ told (o ∷ [])) outs (o ∷ []) s (with_images s s.images) (ap (λ (m : CommandsSoFar). m.images) is) refl (drives_still (so_far es) (so_far (es ++ told (o ∷ []))) s (with_images s s.images) (ap (λ (m : CommandsSoFar). m.hooked) is) refl refl refl h.images.drives) (tt, tt) h.images,
         ap (λ (m : CommandsSoFar). m.left) is ∙ h.none_left,
       );
     }))

@@ -21,7 +21,7 @@ use Rattle.nb_laws.proofs.Tellings.{told, made_more, same_number}
 use Rattle.nb_laws.proofs.HandOffs.{IsOpens, AreOpens}
 use Rattle.nb_laws.proofs.Moved.{moves_more}
 use Rattle.nb_openlaws.proofs.Puts.{PutsSo, puts_so, over_is}
-use Rattle.nb_lawful.specs.CommandOpens.{CommandOpen, command_open_by, command_open}
+use Rattle.nb_laws.specs.CommandOpens.{CommandOpen, command_open_by, command_open}
 use Rattle.nb_lawful.specs.ScriptAgreement.{IsAnother}
 use Rattle.nb_lawful.proofs.Quiet.{told_command_open}
 

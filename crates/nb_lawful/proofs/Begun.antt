@@ -1,6 +1,7 @@
 -- A command begins: what the history says of it then, and why its record and its result stand, where it is over at once.
-use Rattle.std.proofs.Common.{◌≡◌, ℕ, ◌<◌, arith, length, Bool, true, false, List, [], ◌∷◌, ◌++◌, Option, Some, None, refl, sym, ◌∙◌, ap, subst, append_assoc, add-zero, map}
+use Rattle.std.proofs.Common.{◌≡◌, ℕ, ◌<◌, arith, length, Bool, true, false, List, [], ◌∷◌, ◌++◌, Option, Some, None, refl, sym, ◌∙◌, ap, subst, append_assoc, add-zero, map, IsSome}
 use Rattle.std.proofs.lemmas.List.{map-append}
+use Rattle.std.proofs.lemmas.Option.{none-some}
 use Rattle.nb_laws.specs.Lists.{last_end, came_ok}
 use Rattle.nb_machine.specs.Conclusions.{Conclusion}
 use Rattle.nb_terms.specs.declared.cause.Cause.{Cause}
@@ -16,20 +17,23 @@ use Rattle.nb_machine.specs.CommandRecords.{prints, command_record, command_reco
 use Rattle.nb_machine.specs.States.{State}
 use Rattle.nb_laws.specs.Events.{Event, puts, EachEvent}
 use Rattle.nb_laws.specs.Lists.{made, commands_begun}
-use Rattle.nb_laws.specs.CommandsSoFar.{CommandsSoFar, so_far, running_code, running_base, script_code, shown_effect, shown_table, shown_up, surroundings_in, comes_by, comes_after, ComesTo, concluded_in}
+use Rattle.nb_laws.specs.CommandsSoFar.{CommandsSoFar, so_far, running_code, running_base, script_code, shown_effect, shown_table, shown_up, surroundings_in, comes_by, comes_after, ComesTo, concluded_in, hooking_in}
 use Rattle.nb_laws.specs.Moves.{moves}
 use Rattle.nb_laws.specs.Agreement.{as_so_far, AgreesScript}
 use Rattle.nb_laws.proofs.Histories.{each_append}
 use Rattle.nb_laws.proofs.Tellings.{told, made_more}
 use Rattle.nb_laws.proofs.HandOffs.{last_end_more}
 use Rattle.nb_laws.proofs.Moved.{moves_more}
-use Rattle.nb_laws.proofs.SoFar.{so_far_more, told_scripts, over_so_far, begun_so_far, begins_so_far, shown_effect_is, shown_table_is, shown_up_is, shown_refused}
+use Rattle.nb_laws.proofs.SoFar.{so_far_more, told_scripts, over_so_far, begun_so_far, begins_so_far, shown_effect_is, shown_table_is, shown_up_is, shown_refused, found_so_far}
 use Rattle.nb_openlaws.proofs.Puts.{AreClosing}
 use Rattle.nb_openlaws.proofs.Doings.{comes_to}
-use Rattle.nb_lawful.specs.CommandOpens.{command_open}
-use Rattle.nb_lawful.specs.Results.{GivesResult, by_words, by_jump, by_no_label, by_shut, GivesOf, ResultStands, CommandsSo}
+use Rattle.nb_laws.specs.CommandOpens.{command_open, CommandOpen}
+use Rattle.nb_laws.specs.Frames.{HoldsResult, by_words, by_jump, by_no_label, by_shut, HoldsOf}
+use Rattle.nb_laws.proofs.Settling.{hooks_same}
+use Rattle.nb_lawful.specs.Results.{ResultStands, CommandsSo}
 use Rattle.nb_lawful.specs.ScriptAgreement.{SettingsAre, HasImages, ScriptsAgree}
 use Rattle.nb_lawful.proofs.Quiet.{command_open_more, quiet_makes_none, quiet_so_far, quiet_scripts, quiet_commands, quiet_made, ends_quiet, ends_fail, closing_moves}
+use Rattle.nb_lawful.proofs.HookedLives.{LivesSo}
 
 pub told_two : (es : List Event) (a b : List Out) → es ++ told (a ++ b) ≡ (es ++ told a) ++ told b
 told_two es a b = ap (λ z. es ++ z) (map-append puts a b) ∙ sym (append_assoc es (told a) (told b))
@@ -45,6 +49,7 @@ pub record FindsAll (m : CommandsSoFar) (s : State) (inner : Running) : Type 0 w
   pub images : m.images ≡ s.images
   pub base : running_base m.scripts ≡ inner.base
   pub depth : length m.scripts ≡ inner.depth
+  pub drives : m.drives ≡ s.drives
 
 many_scripts : (scripts : List Running) → length (map as_so_far scripts) ≡ length scripts
 many_scripts [] = refl
@@ -57,19 +62,21 @@ depth_is es inner outer a =
     let many = many_scripts outer in
     omega (arith, here, depth, many)
 
-pub finds_all : (es : List Event) (outs : List Out) (s : State) (inner : Running) (outer : List Running) (still : Bool) → AgreesScript es inner outer → SettingsAre (so_far es) s still → HasImages es outs s → FindsAll (so_far es) s inner
-finds_all es outs s inner outer still script settings images =
-    record { table = settings.table; images = images.list; base = ap running_base script.scripts.same; depth = depth_is es inner outer script }
+pub finds_all : (es : List Event) (outs : List Out) (s : State) (inner : Running) (outer : List Running) (still : Bool) → LivesSo es s → AgreesScript es inner outer → SettingsAre (so_far es) s still → HasImages es outs s → FindsAll (found_so_far es) s inner
+finds_all es outs s inner outer still lives script settings images =
+    record { table = settings.table; images = images.list; base = ap running_base script.scripts.same; depth = depth_is es inner outer script; drives = lives }
 
-pub running_finds : (es : List Event) (outs : List Out) (s : State) (inner : Running) (outer : List Running) → ScriptsAgree es outs (course.running s inner outer) → FindsAll (so_far es) s inner
-running_finds es outs s inner outer a = finds_all es outs s inner outer false a.0 a.1 a.2
+pub running_finds : (es : List Event) (outs : List Out) (s : State) (inner : Running) (outer : List Running) → LivesSo es s → ScriptsAgree es outs (course.running s inner outer) → FindsAll (found_so_far es) s inner
+running_finds es outs s inner outer lives a = finds_all es outs s inner outer false lives a.0 a.1 a.2
 
-pub surroundings_are : (opens : ℕ) (m : CommandsSoFar) (s : State) (inner : Running) → FindsAll m s inner → surroundings_in opens m ≡ record { opens = opens; table = s.table; images = s.images; base = inner.base; depth = inner.depth }
+pub surroundings_are : (opens : ℕ) (m : CommandsSoFar) (s : State) (inner : Running) → FindsAll m s inner →
+    surroundings_in opens m ≡ record { opens = opens; table = s.table; images = s.images; drives = s.drives; base = inner.base; depth = inner.depth }
 surroundings_are opens m s inner f =
-    ap (λ t. record { opens = opens; table = t; images = m.images; base = running_base m.scripts; depth = length m.scripts }) f.table
-    ∙ ap (λ l. record { opens = opens; table = s.table; images = l; base = running_base m.scripts; depth = length m.scripts }) f.images
-    ∙ ap (λ b. record { opens = opens; table = s.table; images = s.images; base = b; depth = length m.scripts }) f.base
-    ∙ ap (λ d. record { opens = opens; table = s.table; images = s.images; base = inner.base; depth = d }) f.depth
+    ap (λ t. record { opens = opens; table = t; images = m.images; drives = m.drives; base = running_base m.scripts; depth = length m.scripts }) f.table
+    ∙ ap (λ l. record { opens = opens; table = s.table; images = l; drives = m.drives; base = running_base m.scripts; depth = length m.scripts }) f.images
+    ∙ ap (λ d. record { opens = opens; table = s.table; images = s.images; drives = d; base = running_base m.scripts; depth = length m.scripts }) f.drives
+    ∙ ap (λ b. record { opens = opens; table = s.table; images = s.images; drives = s.drives; base = b; depth = length m.scripts }) f.base
+    ∙ ap (λ d. record { opens = opens; table = s.table; images = s.images; drives = s.drives; base = inner.base; depth = d }) f.depth
 
 pub comes_is : (m : CommandsSoFar) (s : State) (inner : Running) (ws : List (List ℕ)) → FindsAll m s inner → comes_by s.opens m (shown_words s.table ws) ≡ comes_to s inner ws
 unfolding effect_in
@@ -79,10 +86,16 @@ comes_is m s inner ws f =
     ∙ ap (settled_effect (surroundings s inner)) (shown_effect_is s.opens s.table ws)
 
 -- it concludes nothing at once, where its effect doesn't
-pub concludes_none : (es : List Event) (outs : List Out) (s : State) (inner : Running) (outer : List Running) (ws : List (List ℕ)) (e : Effect) → made es ≡ s.opens → ScriptsAgree es outs (course.running s inner outer) → comes_to s inner ws ≡ e →
-    concluded_in e ≡ None → concluded_in (comes_by (made es) (so_far es) (shown_words s.table ws)) ≡ None
-concludes_none es outs s inner outer ws e opens a is none =
-    ap (λ k. concluded_in (comes_by k (so_far es) (shown_words s.table ws))) opens ∙ ap concluded_in (comes_is (so_far es) s inner ws (running_finds es outs s inner outer a) ∙ is) ∙ none
+pub concludes_none : (es : List Event) (outs : List Out) (s : State) (inner : Running) (outer : List Running) (ws : List (List ℕ)) (e : Effect) → made es ≡ s.opens → LivesSo es s → ScriptsAgree es outs (course.running s inner outer) → comes_to s inner ws ≡ e →
+    concluded_in e ≡ None → concluded_in (comes_by (made es) (found_so_far es) (shown_words s.table ws)) ≡ None
+concludes_none es outs s inner outer ws e opens lives a is none =
+    ap (λ k. concluded_in (comes_by k (found_so_far es) (shown_words s.table ws))) opens ∙ ap concluded_in (comes_is (found_so_far es) s inner ws (running_finds es outs s inner outer lives a) ∙ is) ∙ none
+
+-- nor hooks it a disk
+pub hooks_nothing : (es : List Event) (outs : List Out) (s : State) (inner : Running) (outer : List Running) (ws : List (List ℕ)) (e : Effect) → LivesSo es s → ScriptsAgree es outs (course.running s inner outer) → comes_to s inner ws ≡ e →
+    hooking_in e ≡ None → hooking_in (comes_by 0 (found_so_far es) (shown_words s.table ws)) ≡ None
+hooks_nothing es outs s inner outer ws e lives a is none =
+    hooks_same 0 s.opens (found_so_far es) (shown_words s.table ws) ∙ ap hooking_in (comes_is (found_so_far es) s inner ws (running_finds es outs s inner outer lives a) ∙ is) ∙ none
 
 -- what a command that has begun comes to
 pub begun_comes : (es : List Event) (m : CommandsSoFar) (s : State) (inner : Running) (ws : List (List ℕ)) (e : Effect) → FindsAll m s inner → so_far es ≡ begun_so_far m (shown_words s.table ws) → moves es ≡ [] → comes_to s inner ws ≡ e → ComesTo es s.opens e
@@ -93,11 +106,11 @@ begun_comes es m s inner ws e finds is unmoved comes = (
 )
 
 -- the same, by its record
-pub command_comes : (es : List Event) (outs : List Out) (s : State) (inner : Running) (outer : List Running) (ws : List (List ℕ)) (e : Effect) → ScriptsAgree es outs (course.running s inner outer) → comes_to s inner ws ≡ e →
+pub command_comes : (es : List Event) (outs : List Out) (s : State) (inner : Running) (outer : List Running) (ws : List (List ℕ)) (e : Effect) → LivesSo es s → ScriptsAgree es outs (course.running s inner outer) → comes_to s inner ws ≡ e →
     ComesTo (es ++ puts (command_record inner (shown_words s.table ws)) ∷ []) s.opens e
-command_comes es outs s inner outer ws e a comes =
+command_comes es outs s inner outer ws e lives a comes =
     let command = puts (command_record inner (shown_words s.table ws)) in
-    begun_comes (es ++ command ∷ []) (so_far es) s inner ws e (running_finds es outs s inner outer a) (begins_so_far es inner (shown_words s.table ws)) (moves_more es command) comes
+    begun_comes (es ++ command ∷ []) (found_so_far es) s inner ws e (running_finds es outs s inner outer lives a) (begins_so_far es inner (shown_words s.table ws)) (moves_more es command) comes
 
 -- why it begins
 pub begins_so : (es : List Event) (s : State) (inner : Running) (ws : List (List ℕ)) → SettingsAre (so_far es) s false → commands_begun es < 4096 → CommandsSo es (puts (command_record inner (shown_words s.table ws)))
@@ -121,14 +134,14 @@ pub record HasBegun (es : List Event) (s : State) (inner : Running) (ws : List (
   pub unmoved : moves es ≡ []
   pub ended_none : came_ok (last_end es) ≡ false
 
-pub begun_silently : (es : List Event) (outs : List Out) (s : State) (inner : Running) (outer : List Running) (ws : List (List ℕ)) → made es ≡ s.opens → ScriptsAgree es outs (course.running s inner outer) →
+pub begun_silently : (es : List Event) (outs : List Out) (s : State) (inner : Running) (outer : List Running) (ws : List (List ℕ)) → made es ≡ s.opens → LivesSo es s → ScriptsAgree es outs (course.running s inner outer) →
     HasBegun (es ++ puts (command_record inner (shown_words s.table ws)) ∷ []) s inner ws
-begun_silently es outs s inner outer ws opens a =
+begun_silently es outs s inner outer ws opens lives a =
     let e = puts (command_record inner (shown_words s.table ws)) in
     record {
       opens = made_more es e ∙ add-zero (made es) ∙ opens;
-      before = so_far es;
-      finds = running_finds es outs s inner outer a;
+      before = found_so_far es;
+      finds = running_finds es outs s inner outer lives a;
       none_left = a.3;
       so_far_is = begins_so_far es inner (shown_words s.table ws);
       code = ap running_code (ap (λ (m : CommandsSoFar). m.scripts) (so_far_more es e) ∙ a.0.scripts.same);
@@ -170,52 +183,58 @@ begun_closing es s inner ws cause put bad all b =
 pub has_begun_comes : (es : List Event) (s : State) (inner : Running) (ws : List (List ℕ)) (e : Effect) → HasBegun es s inner ws → comes_to s inner ws ≡ e → ComesTo es (made es) e
 has_begun_comes es s inner ws e b comes = subst (λ k. ComesTo es k e) (sym b.opens) (begun_comes es b.before s inner ws e b.finds b.so_far_is b.unmoved comes)
 
+-- one that has made no open
+pub opened_none : (x : Option CommandOpen) → x ≡ None → IsSome x → ⊥
+opened_none None e some = absurd (let clash : false ≡ true = some in cc clash)
+opened_none (Some o) e some = none-some o (sym e)
+
 -- its result stands
-result_stands : (es : List Event) (s : State) (inner : Running) (ws : List (List ℕ)) (cause : Cause) (e : Effect) → HasBegun es s inner ws → comes_to s inner ws ≡ e → (command_open es ≡ None → ComesTo es (made es) e → GivesResult es cause) → ResultStands es cause
+result_stands : (es : List Event) (s : State) (inner : Running) (ws : List (List ℕ)) (cause : Cause) (e : Effect) → HasBegun es s inner ws → comes_to s inner ws ≡ e → (command_open es ≡ None → ComesTo es (made es) e → HoldsResult es cause) → ResultStands es cause
 result_stands es s inner ws cause e b comes holds = record {
   is_open = ap (λ (x : CommandsSoFar). x.is_open) b.so_far_is;
-  holds = subst (λ l. GivesOf l es cause) (sym (ap (λ (x : CommandsSoFar). x.left) b.so_far_is ∙ b.none_left)) (holds b.none (has_begun_comes es s inner ws e b comes));
+  holds = subst (λ l. HoldsOf l es cause) (sym (ap (λ (x : CommandsSoFar). x.left) b.so_far_is ∙ b.none_left)) (holds b.none (has_begun_comes es s inner ws e b comes));
+  hooks = λ left some. absurd (opened_none (command_open es) b.none some);
 }
 
 -- a command that is over at once
-pub command_stands : (es : List Event) (outs : List Out) (s : State) (inner : Running) (outer : List Running) (ws : List (List ℕ)) (o : CommandOutcome) → made es ≡ s.opens → ScriptsAgree es outs (course.running s inner outer) → comes_to s inner ws ≡ says o →
+pub command_stands : (es : List Event) (outs : List Out) (s : State) (inner : Running) (outer : List Running) (ws : List (List ℕ)) (o : CommandOutcome) → made es ≡ s.opens → LivesSo es s → ScriptsAgree es outs (course.running s inner outer) → comes_to s inner ws ≡ says o →
     commands_begun es < 4096 → EachEvent CommandsSo es (told (command_records inner (shown_words s.table ws) o))
-command_stands es outs s inner outer ws o opens a comes few = by o.prints
+command_stands es outs s inner outer ws o opens lives a comes few = by o.prints
   where
     by : (p : Option (List ℕ)) → EachEvent CommandsSo es (told ((command_record inner (shown_words s.table ws) ∷ []) ++ prints p ++ (result o.cause ∷ [])))
-    by None = (begins_so es s inner ws a.1 few, (result_stands _ s inner ws o.cause (says o) (begun_silently es outs s inner outer ws opens a) comes (λ none c. by_words o none c refl), tt))
+    by None = (begins_so es s inner ws a.1 few, (result_stands _ s inner ws o.cause (says o) (begun_silently es outs s inner outer ws opens lives a) comes (λ none c. by_words o none c refl), tt))
     by (Some bytes) = (
       begins_so es s inner ws a.1 few,
-      (tt, (result_stands _ s inner ws o.cause (says o) (begun_printing _ s inner ws bytes (begun_silently es outs s inner outer ws opens a)) comes (λ none c. by_words o none c refl), tt)),
+      (tt, (result_stands _ s inner ws o.cause (says o) (begun_printing _ s inner ws bytes (begun_silently es outs s inner outer ws opens lives a)) comes (λ none c. by_words o none c refl), tt)),
     )
 
 -- `goto`
-pub jump_stands : (es : List Event) (outs : List Out) (s : State) (inner : Running) (outer : List Running) (ws : List (List ℕ)) (name : List ℕ) (line : ℕ) → made es ≡ s.opens → ScriptsAgree es outs (course.running s inner outer) → comes_to s inner ws ≡ goes name →
+pub jump_stands : (es : List Event) (outs : List Out) (s : State) (inner : Running) (outer : List Running) (ws : List (List ℕ)) (name : List ℕ) (line : ℕ) → made es ≡ s.opens → LivesSo es s → ScriptsAgree es outs (course.running s inner outer) → comes_to s inner ws ≡ goes name →
     label_place name inner.code ≡ Some line → commands_begun es < 4096 → EachEvent CommandsSo es (told (command_records inner (shown_words s.table ws) (refused ok)))
-jump_stands es outs s inner outer ws name line opens a is there few =
-    let b = begun_silently es outs s inner outer ws opens a in
+jump_stands es outs s inner outer ws name line opens lives a is there few =
+    let b = begun_silently es outs s inner outer ws opens lives a in
     (begins_so es s inner ws a.1 few, (result_stands _ s inner ws ok (goes name) b is (λ none c. by_jump name line none c (ap (label_place name) b.code ∙ there) refl), tt))
 
-pub no_label_stands : (es : List Event) (outs : List Out) (s : State) (inner : Running) (outer : List Running) (ws : List (List ℕ)) (name : List ℕ) → made es ≡ s.opens → ScriptsAgree es outs (course.running s inner outer) → comes_to s inner ws ≡ goes name →
+pub no_label_stands : (es : List Event) (outs : List Out) (s : State) (inner : Running) (outer : List Running) (ws : List (List ℕ)) (name : List ℕ) → made es ≡ s.opens → LivesSo es s → ScriptsAgree es outs (course.running s inner outer) → comes_to s inner ws ≡ goes name →
     label_place name inner.code ≡ None → commands_begun es < 4096 → EachEvent CommandsSo es (told (command_records inner (shown_words s.table ws) (refused no_label)))
-no_label_stands es outs s inner outer ws name opens a is nowhere few =
-    let b = begun_silently es outs s inner outer ws opens a in
+no_label_stands es outs s inner outer ws name opens lives a is nowhere few =
+    let b = begun_silently es outs s inner outer ws opens lives a in
     (begins_so es s inner ws a.1 few, (result_stands _ s inner ws no_label (goes name) b is (λ none c. by_no_label name none c (ap (label_place name) b.code ∙ nowhere) refl), tt))
 
 -- `ifclose`, with the ends of all that lives
-pub shut_stands : (es : List Event) (outs : List Out) (s : State) (inner : Running) (outer : List Running) (ws : List (List ℕ)) (cause : Cause) (put : List Out) → came_ok (Some cause) ≡ false → AreClosing cause put → made es ≡ s.opens → ScriptsAgree es outs (course.running s inner outer) → comes_to s inner ws ≡ shuts_device →
+pub shut_stands : (es : List Event) (outs : List Out) (s : State) (inner : Running) (outer : List Running) (ws : List (List ℕ)) (cause : Cause) (put : List Out) → came_ok (Some cause) ≡ false → AreClosing cause put → made es ≡ s.opens → LivesSo es s → ScriptsAgree es outs (course.running s inner outer) → comes_to s inner ws ≡ shuts_device →
     commands_begun es < 4096 → EachEvent CommandsSo es (told (command_record inner (shown_words s.table ws) ∷ put ++ (result ok ∷ [])))
-shut_stands es outs s inner outer ws cause put bad all opens a is few =
+shut_stands es outs s inner outer ws cause put bad all opens lives a is few =
     let es1 = es ++ puts (command_record inner (shown_words s.table ws)) ∷ [] in
-    let b = begun_closing es1 s inner ws cause put bad all (begun_silently es outs s inner outer ws opens a) in
+    let b = begun_closing es1 s inner ws cause put bad all (begun_silently es outs s inner outer ws opens lives a) in
     (begins_so es s inner ws a.1 few, stand_then es1 put (result ok ∷ []) (quiet_commands es1 put (ends_quiet cause put all)) (result_stands _ s inner ws ok shuts_device b is (λ none c. by_shut none c refl), tt))
 
 -- THE SETTINGS THEN
 
 -- a command that is over
-pub settings_done : {m m' : CommandsSoFar} {c : Option Conclusion} (s s' : State) (ws : List (List ℕ)) → m' ≡ over_so_far c (begun_so_far m (shown_words s.table ws)) → SettingsAre m s false →
+pub settings_done : (es : List Event) {m' : CommandsSoFar} {c : Option Conclusion} (s s' : State) (ws : List (List ℕ)) → m' ≡ over_so_far c (begun_so_far (found_so_far es) (shown_words s.table ws)) → SettingsAre (so_far es) s false →
     table_after s.table ws ≡ s'.table → up_after s.table s.up ws ≡ s'.up → s'.now ≡ s.now → SettingsAre m' s' false
-settings_done {m} {m'} {c} s s' ws e settings leaves up now =
+settings_done es {m'} {c} s s' ws e settings leaves up now =
     subst (λ x. SettingsAre x s' false) (sym e) (record {
       table = ap (λ t. shown_table t (Some (shown_words s.table ws))) settings.table ∙ shown_table_is s.table ws ∙ leaves;
       up = ap (λ u. shown_up u (shown_words s.table ws)) settings.up ∙ shown_up_is s.table s.up ws ∙ up;
@@ -224,8 +243,8 @@ settings_done {m} {m'} {c} s s' ws e settings leaves up now =
     })
 
 -- one that has begun
-pub settings_begun : {m m' : CommandsSoFar} (s s' : State) (ws : List (List ℕ)) → m' ≡ begun_so_far m (shown_words s.table ws) → s'.table ≡ s.table → up_after s.table s.up ws ≡ s'.up → s'.now ≡ s.now → SettingsAre m s false → SettingsAre m' s' true
-settings_begun {m} {m'} s s' ws e table up now settings =
+pub settings_begun : (es : List Event) {m' : CommandsSoFar} (s s' : State) (ws : List (List ℕ)) → m' ≡ begun_so_far (found_so_far es) (shown_words s.table ws) → s'.table ≡ s.table → up_after s.table s.up ws ≡ s'.up → s'.now ≡ s.now → SettingsAre (so_far es) s false → SettingsAre m' s' true
+settings_begun es {m'} s s' ws e table up now settings =
     subst (λ x. SettingsAre x s' true) (sym e) (record {
       table = settings.table ∙ sym table;
       up = ap (λ u. shown_up u (shown_words s.table ws)) settings.up ∙ shown_up_is s.table s.up ws ∙ up;

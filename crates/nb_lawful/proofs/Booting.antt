@@ -4,8 +4,8 @@ use Rattle.std.specs.Option.{option_map_or}
 use Rattle.nb_terms.specs.declared.cause.Cause.{Cause}
 use Rattle.nb_defs.specs.Records.{In, Out}
 use Rattle.nb_image.specs.Images.{ImageList}
-use Rattle.nb_machine.specs.Conclusions.{Conclusion, boots, conclusion}
-use Rattle.nb_machine.specs.Errands.{Onward}
+use Rattle.nb_machine.specs.Conclusions.{Conclusion, boots, conclusion, fails}
+use Rattle.nb_machine.specs.Errands.{Onward, hooks_then}
 use Rattle.nb_machine.specs.Findings.{Settlement}
 use Rattle.nb_machine.specs.Kinds.{fetched}
 use Rattle.nb_machine.specs.Queries.{Query, for_lease, for_echo, for_host, for_address}
@@ -16,7 +16,7 @@ use Rattle.nb_machine.specs.Takings.{Over}
 use Rattle.nb_machine.specs.Network.{Network}
 use Rattle.nb_imagecmd.specs.Moving.{moved_file}
 use Rattle.nb_machine.specs.Effects.{next_moved}
-use Rattle.nb_machine.specs.Scripts.{Job, job_for, sleep, Answer, by_end, by_time, answer_in, next_of, concludes, settles, goes_onward, Waiting, place_moved_to, upshot_moved, upshot_fetched, concluded_by}
+use Rattle.nb_machine.specs.Scripts.{Job, job_for, sleep, Answer, by_end, by_time, answer_in, next_of, concludes, settles, goes_onward, Waiting, place_moved_to, upshot_moved, upshot_fetched, concluded_by, hooks_drive, hooked_drive, hooks}
 use Rattle.nb_machine.specs.Courses as course
 use Rattle.nb_laws.specs.Events.{Event}
 use Rattle.nb_laws.specs.Moves.{MovedOpen}
@@ -24,11 +24,11 @@ use Rattle.nb_laws.proofs.Tellings.{told}
 use Rattle.nb_openlaws.specs.Standings.{AgreesState}
 use Rattle.nb_openlaws.proofs.Networks.{network_agrees}
 use Rattle.nb_lawful.specs.ScriptAgreement.{ScriptsAgree}
-use Rattle.nb_lawful.proofs.Opened.{Purpose, for_file, for_query}
+use Rattle.nb_lawful.proofs.Opened.{Purpose, for_file, for_query, for_disk_host, for_disk}
 use Rattle.nb_lawful.proofs.CommandEnds.{ended_so, HasEnded}
 use Rattle.nb_lawful.proofs.Leading.{Concluding, BootsBy, boots_by}
 use Rattle.nb_lawful.proofs.Concluded.{concluding_file}
-use Rattle.nb_lawful.proofs.Waiting.{Comes, its_time, its_end, comes_so}
+use Rattle.nb_lawful.proofs.Waiting.{Comes, its_time, its_end, comes_so, its_drive}
 use Rattle.nb_lawful.proofs.Scripted.{AnswersIn, network_steps}
 
 settles_none : (x : Settlement) (c : Conclusion) → settles x ≡ concludes c → ⊥
@@ -53,10 +53,14 @@ same_conclusion : (c d : Conclusion) → concludes c ≡ concludes d → c ≡ d
 same_conclusion c d e = cc e
 
 -- an open has ended, of whose file the command boots the image
-ended_boots : (es : List Event) (outs : List Out) (s : State) (inner : Running) (outer : List Running) (moved : List MovedOpen) (l : Live) (cause : Cause) (job : Job) (list : ImageList) (kernel : ℕ) → HasEnded es outs s inner outer moved l cause → Purpose es moved l job →
+ended_boots : (es : List Event) (outs : List Out) (s : State) (inner : Running) (outer : List Running) (moved : List MovedOpen) (l : Live) (cause : Cause) (job : Job) (list : ImageList) (kernel : ℕ) → HasEnded es outs s inner outer moved l cause → Purpose es s.drives moved l job →
     concluded_by s inner.depth job (by_end (ended_so l cause)) ≡ concludes (boots list kernel) → BootsBy es s list kernel
 ended_boots es outs s inner outer moved l cause job list kernel h (for_query query is a) e =
     absurd (query_none s inner.depth query l cause (boots list kernel) (sym (ap (λ z. concluded_by s inner.depth z (by_end (ended_so l cause))) is) ∙ e))
+ended_boots es outs s inner outer moved l cause job list kernel h (for_disk_host hooking is a gone) e =
+    absurd (host_none (next_of (hooks_then hooking) (ended_so l cause)) _ (boots list kernel) (sym (ap (λ z. concluded_by s inner.depth z (by_end (ended_so l cause))) is) ∙ e))
+ended_boots es outs s inner outer moved l cause job list kernel h (for_disk hooking is a gone) e =
+    absurd (let no : concludes (fails cause) ≡ concludes (boots list kernel) = sym (ap (λ z. concluded_by s inner.depth z (by_end (ended_so l cause))) is) ∙ e in cc no)
 ended_boots es outs s inner outer moved l cause job list kernel h (for_file wanted is f) e =
     by (place_moved_to (ended_so l cause)) refl (sym (ap (λ z. concluded_by s inner.depth z (by_end (ended_so l cause))) is) ∙ e)
   where
@@ -72,9 +76,11 @@ pub step_boots : (es : List Event) (outs : List Out) (s s' : State) (w : Waiting
 step_boots es outs s s' w n r put over x list kernel net a answers answered is h =
     let u = network_agrees es s n r put s' over net a in
     let es2 = (es ++ u.event ∷ []) ++ told put in
-    by es2 (comes_so es es2 outs s s' w r n u.event put over x (network_steps es outs s s' w n r put over net a h) u.agrees.opens u.ended (answers n r put s' over net a) answered h.4)
+    by es2 (comes_so es es2 outs s s' w r n u.event put over x (network_steps es outs s s' w n r put over net a h) u.agrees u.ended u.agrees.each (answers n r put s' over net a) answered h.4)
   where
     by : (es2 : List Event) → Comes es2 outs s s' w n put x → BootsBy es2 s' list kernel
     by es2 (its_time until at job slept) =
         absurd (let impossible : concluded_by s' w.script.depth sleep by_time ≡ concludes (boots list kernel) = sym (ap (λ z. concluded_by s' w.script.depth z x) job ∙ ap (concluded_by s' w.script.depth sleep) at) ∙ is in cc impossible)
+    by es2 (its_drive moved l hooking at job answered) =
+        absurd (let no : hooks_drive (hooked_drive hooking l) ≡ concludes (boots list kernel) = sym (ap (λ z. concluded_by s' w.script.depth z x) job ∙ ap (concluded_by s' w.script.depth (hooks hooking)) at) ∙ is in cc no)
     by es2 (its_end moved l cause at ended purpose) = ended_boots es2 _ s' _ w.outer moved l cause w.job list kernel ended purpose (sym (ap (concluded_by s' w.script.depth w.job) at) ∙ is)

@@ -1,6 +1,6 @@
 -- The command's open has ended: what the history says of it, and how what it received is read.
 use Rattle.std.proofs.Common.{◌≡◌, ℕ, ◌-◌, ◌==◌, Bool, true, false, cond, List, [], ◌∷◌, ◌++◌, map, Some, None, refl, sym, ◌∙◌, ap, append-nil}
-use Rattle.std.specs.List.{flat_map}
+use Rattle.std.specs.List.{flat_map, AllByRecursion}
 use Rattle.std.proofs.lemmas.List.{map-append}
 use Rattle.std.proofs.lemmas.List.Concat.{flat_map-append}
 use Rattle.nb_terms.specs.declared.cause.Cause.{Cause}
@@ -31,8 +31,9 @@ use Rattle.nb_laws.specs.Webs.{brought_to, response_so_far}
 use Rattle.nb_laws.specs.Cores.{as_dns, as_handed, handed_over, has_its_answer}
 use Rattle.nb_laws.specs.CommandsSoFar.{so_far}
 use Rattle.nb_laws.specs.Agreement.{AgreesScript}
-use Rattle.nb_openlaws.specs.Standings.{live_opening, heard_call, heard_calls, streamed, IsKindBy}
-use Rattle.nb_lawful.specs.CommandOpens.{command_open, command_end, over_of}
+use Rattle.nb_openlaws.specs.Standings.{live_opening, heard_call, heard_calls, streamed, IsKindBy, HasLogin, AgreesState}
+use Rattle.nb_openlaws.proofs.Takings.{IsToOwnPort}
+use Rattle.nb_laws.specs.CommandOpens.{command_open, command_end, over_of}
 use Rattle.nb_lawful.specs.ScriptAgreement.{SettingsAre, HasImages, NoneLeft}
 use Rattle.nb_lawful.proofs.Awaited.{its}
 
@@ -45,6 +46,7 @@ pub record HasEnded (es : List Event) (outs : List Out) (s : State) (inner : Run
   pub settings : SettingsAre (so_far es) s true
   pub images : HasImages es outs s
   pub none_left : NoneLeft es
+  pub base : AgreesState es s
   pub opens : made es ≡ s.opens
   pub number : made es - 1 ≡ l.number
   pub its_end : command_open es ≡ its l.number (Some cause)
@@ -53,6 +55,8 @@ pub record HasEnded (es : List Event) (outs : List Out) (s : State) (inner : Run
   pub kind_is : IsKindBy (hardware es) l.number l.kind (live_opening l)
   pub received : calls l.number es ≡ heard_calls l.kind l.exchanges
   pub streams : brought_to l.number es ≡ streamed l.exchanges
+  pub login : HasLogin l.number es l.kind (live_opening l)
+  pub own : AllByRecursion (IsToOwnPort l.kind l.own) l.exchanges
   pub answered : is_ok_cause cause ≡ has_its_answer l.number (live_opening l) es
   pub moved_so : moves es ≡ moved ++ moved_open (live_opening l) (place_moved_to (ended_so l cause))
 

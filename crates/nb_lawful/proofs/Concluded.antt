@@ -39,18 +39,20 @@ use Rattle.nb_laws.specs.Moves.{MovedOpen, moved_open, moves}
 use Rattle.nb_laws.specs.Wanting.{wanted_by, target_kind, is_open_at, is_open_of}
 use Rattle.nb_laws.specs.Webs.{opens_a_file, is_body, response_so_far, has_response}
 use Rattle.nb_laws.proofs.Moved.{HasAsking, has_asking}
-use Rattle.nb_laws.proofs.Afterwards.{asked_keeps, asked_leaves, asked_none}
-use Rattle.nb_laws.proofs.SoFar.{concludes_at_once_so}
+use Rattle.nb_laws.proofs.Afterwards.{asked_keeps, asked_leaves, asked_none, asking_hooks}
+use Rattle.nb_laws.proofs.SoFar.{concludes_at_once_so, hooks_none}
 use Rattle.nb_laws.proofs.Tellings.{same_number}
 use Rattle.nb_openlaws.specs.Standings.{live_opening, heard_calls, IsKindBy}
-use Rattle.nb_lawful.specs.CommandOpens.{command_end}
-use Rattle.nb_lawful.specs.Results.{GivesResult, by_failed_end, by_file, HasEndedOpens}
+use Rattle.nb_laws.specs.CommandOpens.{command_end}
+use Rattle.nb_laws.specs.Frames.{HoldsResult, by_failed_end, by_file}
+use Rattle.nb_lawful.specs.Results.{HasEndedOpens}
 use Rattle.nb_lawful.specs.ScriptAgreement.{kind_for, FetchesWith}
 use Rattle.nb_lawful.proofs.Begun.{depth_is}
 use Rattle.nb_lawful.proofs.AtOnce.{Goes}
 use Rattle.nb_lawful.proofs.CommandEnds.{ended_so, HasEnded, ends_with, response_is, file_heard}
 use Rattle.nb_lawful.proofs.Fits.{Fits, conclusion_fits}
 use Rattle.nb_lawful.proofs.Leading.{ConcludedSo, concluded_so, failed_so, Concluding, conclusion_goes}
+use Rattle.nb_lawful.proofs.Disks.{no_disk_where}
 
 -- ITS KIND
 
@@ -200,6 +202,7 @@ open_concludes es outs s inner outer moved l cause wanted h f stays well =
 pub concluding_file : (es : List Event) (outs : List Out) (s : State) (inner : Running) (outer : List Running) (moved : List MovedOpen) (l : Live) (cause : Cause) (wanted : Wanted) → HasEnded es outs s inner outer moved l cause → FetchesWith (hardware es) (so_far es) moved l wanted →
     place_moved_to (ended_so l cause) ≡ None → Concluding es outs s inner outer (conclusion cause wanted.asking (fetched l) inner.depth s.images)
 concluding_file es outs s inner outer moved l cause wanted h f stays = record {
+  base = h.base;
   script = h.script;
   settings = h.settings;
   images = h.images;
@@ -209,6 +212,8 @@ concluding_file es outs s inner outer moved l cause wanted h f stays = record {
   leaves_table = asked_leaves es m f.shown asking.first f.said asking.words;
   holds = holds (is_ok_cause cause) refl;
   ended = subst HasEndedOpens (sym h.its_end) (cause, refl);
+  unhooked = λ given gives. hooks_none es given f.shown f.said (asking_hooks (comes_by 0 m f.shown) asking.first asking.words);
+  no_disk = λ given gives left some disk. absurd (no_disk_where es f.shown f.said (asking_hooks (comes_by 0 m f.shown) asking.first asking.words) disk);
   fits = subst (λ d. Fits d (conclusion cause wanted.asking (fetched l) inner.depth s.images)) (sym (depth_is es inner outer h.script)) (conclusion_fits cause wanted.asking (fetched l) inner.depth s.images);
 }
   where
@@ -235,11 +240,11 @@ concluding_file es outs s inner outer moved l cause wanted h f stays = record {
     ended : command_end es ≡ Some cause
     ended = ends_with es outs s inner outer moved l cause h
 
-    holds : (b : Bool) → is_ok_cause cause ≡ b → (given : Cause) → GivesCause (conclusion cause wanted.asking (fetched l) inner.depth s.images) given → GivesResult es given
+    holds : (b : Bool) → is_ok_cause cause ≡ b → (given : Cause) → GivesCause (conclusion cause wanted.asking (fetched l) inner.depth s.images) given → HoldsResult es given
     holds true well given gives = by_file (conclusion cause wanted.asking (fetched l) inner.depth s.images) (ap came_ok ended ∙ well) (by_open well) gives
     holds false bad given gives =
         let same : given ≡ cause = subst (λ c. GivesCause c given) (at false bad) gives in
-        subst (GivesResult es) (sym same) (by_failed_end ended bad)
+        subst (HoldsResult es) (sym same) (by_failed_end ended bad)
 
 -- A FILE TELLS NOTHING
 

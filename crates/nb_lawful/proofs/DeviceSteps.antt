@@ -4,8 +4,8 @@ use Rattle.nb_defs.specs.Records.{Start, In, Out, enter, leave}
 use Rattle.nb_terms.specs.declared.cause.Cause.{Cause}
 use Rattle.nb_machine.specs.Starting.{net_of}
 use Rattle.nb_machine.specs.Running.{Running, anew}
-use Rattle.nb_machine.specs.States.{State, with_settings}
-use Rattle.nb_machine.specs.Scripts.{Upshot, concludes, settles, goes_onward, upshot_records, concluded_by}
+use Rattle.nb_machine.specs.States.{State, with_settings, with_drive}
+use Rattle.nb_machine.specs.Scripts.{Upshot, concludes, settles, goes_onward, upshot_records, concluded_by, hooks_drive}
 use Rattle.nb_machine.specs.Courses as course
 use Rattle.nb_machine.specs.Courses.{Standing, Progress, LeadsTo, StepBegins}
 use Rattle.nb_laws.specs.Events.{Event, starts, puts, followed}
@@ -36,6 +36,8 @@ leads_device : (es : List Event) (more : List Out) (s : State) (inner : Running)
 leads_device es more s inner outer (concludes c) put p outs leads d settings later = concludes_device es more s inner outer c put p outs leads d settings later
 leads_device es more s inner outer (settles x) put p outs (none, is) d settings later =
     subst (DeviceAgrees (es ++ told more)) (sym is) (device_moves es more s (with_settings s x.table s.up) false refl d (subst (ScriptsAgree (es ++ told more) outs) is later).1)
+leads_device es more s inner outer (hooks_drive x) put p outs (none, is) d settings later =
+    subst (DeviceAgrees (es ++ told more)) (sym is) (device_stays es more s (with_drive s x) refl refl refl d settings (subst (ScriptsAgree (es ++ told more) outs) is later).1)
 leads_device es more s inner outer (goes_onward next) put p outs (none, is) d settings later =
     subst (DeviceAgrees (es ++ told more)) (sym is) (device_stays es more s s refl refl refl d settings (subst (ScriptsAgree (es ++ told more) outs) is later).1)
 

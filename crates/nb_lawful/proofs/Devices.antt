@@ -13,7 +13,7 @@ use Rattle.nb_machine.specs.Lives.{Live}
 use Rattle.nb_machine.specs.States.{State, following, with_images, with_live, with_opened, with_one_made}
 use Rattle.nb_machine.specs.Scripts.{Job, live_onward}
 use Rattle.nb_machine.specs.Courses as course
-use Rattle.nb_machine.specs.Courses.{Standing, Progress, text_standing, ConclusionLeads, Proceeds}
+use Rattle.nb_machine.specs.Courses.{Standing, Progress, text_standing, ConclusionLeads, Proceeds, DropsDrive}
 use Rattle.nb_laws.specs.Events.{Event, puts, EachEvent}
 use Rattle.nb_laws.specs.Histories.{IsRead, client}
 use Rattle.nb_laws.specs.CommandsSoFar.{so_far}
@@ -105,6 +105,12 @@ opens_device es outs s s' t ws l job e still (opens_transfer wanted is state liv
 opens_device es outs s s' t ws l job e still (opens_query query is state live work) devices table up d settings later =
     device_moves es outs s t still (devices ∙ ap (λ (z : State). z.devices) state ∙ ap (λ z. following z (left_by s ws).up s.devices) (sym (table ∙ ap (λ (z : State). z.table) state)) ∙ ap (λ z. following t.table z s.devices) (sym (up ∙ ap (λ (z : State). z.up) state))) d later
 
+-- a drive is closed
+dropped_device : {before after : Bool} (es : List Event) (outs : List Out) (s s' : State) (number : ℕ) (put : List Out) → DropsDrive s number put s' → AgreesDevice es s → SettingsAre (so_far es) s before → SettingsAre (so_far (es ++ told outs)) s' after →
+    AgreesDevice (es ++ told outs) s'
+dropped_device es outs s s' number put d device settings later =
+    device_stays es outs s s' (ap (λ (z : State). z.devices) d.leaves) (ap (λ (z : State). z.table) d.leaves) (ap (λ (z : State). z.up) d.leaves) device settings later
+
 pub move_device : (es : List Event) (outs : List Out) (m : Progress) (added : List Out) (m2 : Progress) → Proceeds m added m2 → DeviceAgrees es m.standing → ScriptsAgree es outs m.standing → ScriptsAgree (es ++ told added) (outs ++ added) m2.standing → DeviceAgrees (es ++ told added) m2.standing
 move_device es outs m added m2 (course.passes n s inner next outer comes) d h later = device_stays es [] s s refl refl refl d h.1 later.1
 move_device es outs m added m2 (course.is_left n s inner outer cause comes) d h later = device_stays es added s s refl refl refl d h.1 later.3
@@ -117,6 +123,9 @@ move_device es outs m added m2 (course.does n s s2 inner outer c cs x comes few 
 move_device es outs m added m2 (course.closes_device n s s2 inner outer c cs put over comes few is all) d h later =
     let same = (shuts_by s inner (c ∷ cs) s2 is).1 in
     device_moves es added s (with_live s2 []) false (ap (λ (z : State). z.devices) same ∙ ap (λ (z : State). following z.table z.up s.devices) (sym same)) d later.1
+move_device es outs m added m2 (course.goes_to_hook n s s2 inner outer c cs hooking put next comes few is drops asks) d h later = dropped_device es added s s2 hooking.number put drops d h.1 later.1
+move_device es outs m added m2 (course.hooks_none n s s2 inner outer c cs hooking put cause comes few is drops asks) d h later = dropped_device es added s s2 hooking.number put drops d h.1 later.1
+move_device es outs m added m2 (course.unhooks n s s2 inner outer c cs number put cause comes few is drops) d h later = dropped_device es added s s2 number put drops d h.1 later.1
 move_device es outs m added m2 (course.leaves n s s2 inner outer c cs x comes few is away) d h later =
     let same = (ends_by s inner (c ∷ cs) x s2 is).1 in
     device_moves es added s s2 (so_far (es ++ told added)).is_open (ap (λ (z : State). z.devices) same ∙ ap (λ (z : State). following z.table z.up s.devices) (sym same)) d later.3

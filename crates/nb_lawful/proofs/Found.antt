@@ -32,21 +32,24 @@ use Rattle.nb_laws.specs.Moves.{MovedOpen, moved_open, moves}
 use Rattle.nb_laws.specs.Webs.{opens_a_file}
 use Rattle.nb_laws.specs.Cores.{lookup_by, asker_by, as_dns, looked_at, handed_over}
 use Rattle.nb_laws.specs.CommandsSoFar.{CommandsSoFar, so_far, comes_after, conclusion_so_far, shown_effect, shown_table, shown_query, query_in, query_change, change_found, found_table, left_table, ComesTo}
-use Rattle.nb_laws.specs.Frames.{IsLastQuery}
+use Rattle.nb_laws.specs.Frames.{IsLastQuery, HoldsResult, by_failed_end, by_found, by_echo_of_host, HoldsOf}
 use Rattle.nb_laws.specs.Agreement.{AsksQuery, asks_at_once, echoes_next}
 use Rattle.nb_laws.proofs.Tellings.{told}
 use Rattle.nb_laws.proofs.Commands.{script_as, script_told}
 use Rattle.nb_laws.proofs.Inquiries.{asks_some, shown_inquiry_keeps}
-use Rattle.nb_laws.proofs.Afterwards.{after_keeps, after_none, after_plainly, host_leaves}
-use Rattle.nb_laws.proofs.SoFar.{result_is, opened_no_file}
+use Rattle.nb_laws.proofs.Afterwards.{after_keeps, after_none, after_plainly, host_leaves, after_unhooked}
+use Rattle.nb_laws.proofs.SoFar.{result_is, opened_no_file, hooks_so_far, hooks_none}
 use Rattle.nb_laws.proofs.Settling.{IsNoFetch, asked_plainly}
 use Rattle.nb_laws.proofs.Stays.{IsAsking}
 use Rattle.nb_openlaws.specs.Standings.{live_opening, heard_calls}
-use Rattle.nb_lawful.specs.CommandOpens.{command_end}
-use Rattle.nb_lawful.specs.Results.{GivesResult, by_failed_end, by_found, by_echo_of_host, GivesOf, ResultStands}
+use Rattle.nb_laws.specs.CommandOpens.{command_end}
+use Rattle.nb_laws.specs.Hookings.{HooksDisk}
+use Rattle.nb_lawful.specs.Results.{ResultStands}
 use Rattle.nb_lawful.specs.ScriptAgreement.{SettingsAre, IsLiveFor, AsksIn}
 use Rattle.nb_lawful.proofs.AtOnce.{Goes, images_as}
 use Rattle.nb_lawful.proofs.CommandEnds.{HasEnded, ends_with, look_up_heard, lease_heard}
+use Rattle.nb_lawful.proofs.HookedLives.{drives_still}
+use Rattle.nb_lawful.proofs.Disks.{no_disk_where}
 
 -- WHAT IT HAS FOUND
 
@@ -117,6 +120,12 @@ pub record HasFound (es : List Event) (outs : List Out) (s : State) (inner : Run
   pub asks : AsksIn (hardware es) (so_far es) moved l query
   pub last : is_ok_cause cause ≡ true → IsLastQuery query
 
+-- it hooks no disk
+found_no_disk : (es : List Event) (outs : List Out) (s : State) (inner : Running) (outer : List Running) (moved : List MovedOpen) (l : Live) (cause : Cause) (query : Query) → HasFound es outs s inner outer moved l cause query → HooksDisk es → ⊥
+found_no_disk es outs s inner outer moved l cause query f disk =
+    let (q, is) = asks_some (comes_after l.number (so_far es) f.asks.shown moved) query f.asks.asked in
+    no_disk_where es f.asks.shown f.asks.said (after_unhooked l.number (so_far es) f.asks.shown moved (inquires q) refl is) disk
+
 found_stands : (es : List Event) (outs : List Out) (s : State) (inner : Running) (outer : List Running) (moved : List MovedOpen) (l : Live) (cause : Cause) (query : Query) → HasFound es outs s inner outer moved l cause query → ResultStands es (settled_query cause query l s.table).cause
 found_stands es outs s inner outer moved l cause query f = by (is_ok_cause cause) refl
   where
@@ -127,13 +136,13 @@ found_stands es outs s inner outer moved l cause query f = by (is_ok_cause cause
       ap (comes_after (made es - 1) (so_far es) f.asks.shown) (query_moves_none es outs s inner outer moved l cause query f.ended_so f.asks.is_for) ∙ ap (λ n. comes_after n (so_far es) f.asks.shown moved) f.ended_so.number ∙ is,
     )
 
-    own : {given : Cause} → GivesResult es given → GivesOf (so_far es).left es given
-    own {given} g = subst (λ x. GivesOf x es given) (sym f.ended_so.none_left) g
+    own : {given : Cause} → HoldsResult es given → HoldsOf (so_far es).left es given
+    own {given} g = subst (λ x. HoldsOf x es given) (sym f.ended_so.none_left) g
 
     came : is_ok_cause cause ≡ true → came_ok (command_end es) ≡ true
     came e = ap came_ok (ends_with es outs s inner outer moved l cause f.ended_so) ∙ e
 
-    held : is_ok_cause cause ≡ true → AsksQuery (comes_after l.number (so_far es) f.asks.shown moved) query → GivesResult es (settled_by s.table (found_by query l s.table)).cause
+    held : is_ok_cause cause ≡ true → AsksQuery (comes_after l.number (so_far es) f.asks.shown moved) query → HoldsResult es (settled_by s.table (found_by query l s.table)).cause
     held e (asks_at_once is) =
         by_found query (f.last e) (came e) (comes query is)
         (ap (λ c. (settled_by s.table c).cause) (sym (found_same es outs s inner outer moved l cause query s.table f.ended_so f.asks.is_for)) ∙ ap (λ z. (settled_by z (change_found es z query)).cause) (sym f.ended_so.settings.table))
@@ -143,8 +152,8 @@ found_stands es outs s inner outer moved l cause query f = by (is_ok_cause cause
         (ap (λ q. (settled_by s.table (found_by q l s.table)).cause) same)
 
     by : (b : Bool) → is_ok_cause cause ≡ b → ResultStands es (cond b (settled_by s.table (found_by query l s.table)) (record { cause = cause; table = s.table })).cause
-    by false e = record { is_open = f.ended_so.settings.is_open; holds = own (by_failed_end (ends_with es outs s inner outer moved l cause f.ended_so) e) }
-    by true e = record { is_open = f.ended_so.settings.is_open; holds = own (held e f.asks.asked) }
+    by false e = record { is_open = f.ended_so.settings.is_open; holds = own (by_failed_end (ends_with es outs s inner outer moved l cause f.ended_so) e); hooks = λ left some disk. absurd (found_no_disk es outs s inner outer moved l cause query f disk) }
+    by true e = record { is_open = f.ended_so.settings.is_open; holds = own (held e f.asks.asked); hooks = λ left some disk. absurd (found_no_disk es outs s inner outer moved l cause query f disk) }
 
 -- THE SETTINGS THEN
 
@@ -210,6 +219,13 @@ concludes_nothing es outs s inner outer moved l cause query f =
     (ap (λ n. find opens_a_file (openings n es)) f.ended_so.number ∙ ap (find opens_a_file) f.ended_so.opening ∙ ap (λ b. cond b (Some (live_opening l)) None) (no_file (hardware es) query l f.asks.is_for))
     (after_none l.number (made es) (so_far es) f.asks.shown moved (subst IsAsking (sym is) tt))
 
+-- it hooks no disk
+found_hooks : (es : List Event) (outs : List Out) (s : State) (inner : Running) (outer : List Running) (moved : List MovedOpen) (l : Live) (cause : Cause) (query : Query) (given : Cause) → HasFound es outs s inner outer moved l cause query →
+    hooks_so_far given es ≡ so_far es
+found_hooks es outs s inner outer moved l cause query given f =
+    let (q, is) = asks_some (comes_after l.number (so_far es) f.asks.shown moved) query f.asks.asked in
+    hooks_none es given f.asks.shown f.asks.said (after_unhooked l.number (so_far es) f.asks.shown moved (inquires q) refl is)
+
 -- its command is over
 pub found_goes : (es : List Event) (outs : List Out) (s : State) (inner : Running) (outer : List Running) (moved : List MovedOpen) (l : Live) (cause : Cause) (query : Query) → HasFound es outs s inner outer moved l cause query →
     Goes es outs (result (settled_query cause query l s.table).cause ∷ []) (course.running (with_settings s (settled_query cause query l s.table).table s.up) (with_result inner (settled_query cause query l s.table).cause) outer)
@@ -222,7 +238,9 @@ found_goes es outs s inner outer moved l cause query f =
       agrees = (
         script_as (es ++ told (o ∷ [])) inner (with_result inner end.cause) outer (record { same = refl; depth = refl; begun = refl }) (script_told es (o ∷ []) inner outer (tt, tt) refl f.ended_so.script),
         subst (λ m. SettingsAre m (with_settings s end.table s.up) false) (sym is) (record { table = refl; up = f.ended_so.settings.up; now = f.ended_so.settings.now; is_open = refl }),
-        images_as es (es ++ told (o ∷ [])) outs (o ∷ []) s (with_settings s end.table s.up) (ap (λ (m : CommandsSoFar). m.images) is) refl (tt, tt) f.ended_so.images,
+        images_as es (es ++ told (o ∷ [])) outs (o ∷ []) s (with_settings s end.table s.up) (ap (λ (m : CommandsSoFar). m.images) is) refl
+            (drives_still (so_far es) (so_far (es ++ told (o ∷ []))) s (with_settings s end.table s.up) (ap (λ (m : CommandsSoFar). m.hooked) is ∙ ap (λ (m : CommandsSoFar). m.hooked) (found_hooks es outs s inner outer moved l cause query end.cause f)) refl refl refl f.ended_so.images.drives)
+            (tt, tt) f.ended_so.images,
         ap (λ (m : CommandsSoFar). m.left) is ∙ f.ended_so.none_left,
       );
     }

@@ -1,6 +1,6 @@
 -- Where a conclusion leads: the command has its result, and its script goes on; an image is handed off; or another script runs within it
 -- or in its place.
-use Rattle.std.proofs.Common.{◌≡◌, ℕ, ◌+◌, ◌<◌, Bool, true, false, cond, length, drop, List, [], ◌∷◌, ◌++◌, Option, Some, None, refl, sym, ◌∙◌, ap, subst, append_assoc, arith, ne_eqb}
+use Rattle.std.proofs.Common.{◌≡◌, ℕ, ◌+◌, ◌<◌, Bool, true, false, cond, length, drop, List, [], ◌∷◌, ◌++◌, Option, Some, None, refl, sym, ◌∙◌, ap, subst, append_assoc, arith, ne_eqb, IsSome}
 use Rattle.nb_terms.specs.declared.cause.Cause.{Cause}
 use Rattle.nb_defs.specs.Causes.{ok}
 use Rattle.nb_defs.specs.Records.{Out, result, enter, leave}
@@ -8,31 +8,37 @@ use Rattle.nb_defs.specs.ScriptLines.{script_reading}
 use Rattle.nb_image.specs.Images.{ImageList}
 use Rattle.nb_imagecmd.specs.declared.outcome.ScriptImage.{ScriptImage}
 use Rattle.nb_scripts.specs.Records.{replace}
-use Rattle.nb_machine.specs.Conclusions.{Conclusion, keeps, tells, fails, boots, runs_script, conclusion_records}
+use Rattle.nb_machine.specs.Conclusions.{Conclusion, keeps, tells, fails, boots, runs_script, conclusion_records, handoff_records}
 use Rattle.nb_machine.specs.FirstText.{text_refusal, lines_of}
 use Rattle.nb_machine.specs.Running.{Running, with_result, script_within, script_in_place, counting_on}
 use Rattle.nb_machine.specs.CommandRecords.{stopped_cause}
 use Rattle.nb_machine.specs.States.{State, with_images}
 use Rattle.nb_machine.specs.Courses as course
 use Rattle.nb_machine.specs.Courses.{Standing, text_records, text_standing, ScriptLeads, ConclusionLeads}
+use Rattle.nb_machine.specs.BootTables.{boot_table}
 use Rattle.nb_laws.specs.Agreement.{AgreesScript}
 use Rattle.nb_laws.specs.CommandsSoFar.{CommandsSoFar, so_far, shown_table, left_table, conclusion_so_far, images_after, list_after, script_run, GivesCause}
 use Rattle.nb_laws.specs.Events.{Event, puts}
-use Rattle.nb_laws.specs.Frames.{ScriptStands, enters, replaces}
+use Rattle.nb_laws.specs.Frames.{ScriptStands, enters, replaces, HoldsResult, HoldsOf}
 use Rattle.nb_laws.specs.Lists.{last_end}
 use Rattle.nb_laws.proofs.Asides.{silent_handoff}
 use Rattle.nb_laws.proofs.Commands.{begun_more, script_as, script_told}
 use Rattle.nb_laws.proofs.HandOffs.{parts_more}
-use Rattle.nb_laws.proofs.SoFar.{so_far_more, over_so_far, result_so_far}
+use Rattle.nb_laws.proofs.SoFar.{so_far_more, over_so_far, result_so_far, hooks_so_far}
 use Rattle.nb_laws.proofs.Tellings.{told}
 use Rattle.nb_openlaws.proofs.Puts.{close_ends}
-use Rattle.nb_lawful.specs.CommandOpens.{command_open}
-use Rattle.nb_lawful.specs.Results.{GivesResult, GivesOf, ResultStands, HasEndedOpens, CommandsSo}
+use Rattle.nb_openlaws.specs.Standings.{AgreesState}
+use Rattle.nb_openlaws.proofs.OpenStates.{still_state}
+use Rattle.nb_laws.specs.CommandOpens.{command_open}
+use Rattle.nb_laws.specs.Hookings.{HooksDisk, HasDriveAnswer}
+use Rattle.nb_lawful.specs.Results.{ResultStands, HasEndedOpens, CommandsSo}
 use Rattle.nb_lawful.specs.ScriptAgreement.{SettingsAre, HasImages, NoneLeft, ScriptsAgree}
 use Rattle.nb_lawful.proofs.Quiet.{quiet_so_far, quiet_parts, quiet_commands, ends_quiet, ends_alone}
 use Rattle.nb_lawful.proofs.Begun.{depth_is}
 use Rattle.nb_lawful.proofs.AtOnce.{Goes, goes_two, goes_as, images_as, left_goes}
 use Rattle.nb_lawful.proofs.Fits.{Fits}
+use Rattle.nb_lawful.proofs.HookedLives.{drives_still}
+use Rattle.nb_lawful.proofs.BootTable.{table_same}
 
 -- what the history says of what is concluded: the same, or nothing where the command's open has failed
 pub data ConcludedSo (said : Option Conclusion) (c : Conclusion) : Type 0 where
@@ -41,6 +47,7 @@ pub data ConcludedSo (said : Option Conclusion) (c : Conclusion) : Type 0 where
 
 -- a command concludes, and has no result yet
 pub record Concluding (es : List Event) (outs : List Out) (s : State) (inner : Running) (outer : List Running) (c : Conclusion) : Type 0 where
+  pub base : AgreesState es s
   pub script : AgreesScript es inner outer
   pub settings : SettingsAre (so_far es) s true
   pub images : HasImages es outs s
@@ -48,9 +55,12 @@ pub record Concluding (es : List Event) (outs : List Out) (s : State) (inner : R
   pub concluded : ConcludedSo (conclusion_so_far (last_end es) es (so_far es)) c
   pub keeps_table : shown_table (so_far es).table (so_far es).shown ≡ (so_far es).table
   pub leaves_table : left_table es (so_far es).table (so_far es).shown ≡ shown_table (so_far es).table (so_far es).shown
-  pub holds : (cause : Cause) → GivesCause c cause → GivesResult es cause
+  pub holds : (cause : Cause) → GivesCause c cause → HoldsResult es cause
   pub ended : HasEndedOpens (command_open es)
   pub fits : Fits (length (so_far es).scripts) c
+  -- it hooks no disk: none that its words hook has answered
+  pub unhooked : (cause : Cause) → GivesCause c cause → hooks_so_far cause es ≡ so_far es
+  pub no_disk : (cause : Cause) → GivesCause c cause → (so_far es).left ≡ None → IsSome (command_open es) → HooksDisk es → HasDriveAnswer es → ⊥
 
 pub said_is : {said : Option Conclusion} (c : Conclusion) → ((cause : Cause) → c ≡ fails cause → ⊥) → ConcludedSo said c → said ≡ Some c
 said_is {said} c never (concluded_so is) = is
@@ -62,12 +72,16 @@ images_then said c list (failed_so cause same is) = ap (λ z. images_after z lis
 
 -- ITS RESULT
 
-over_is : (es : List Event) (outs : List Out) (s : State) (inner : Running) (outer : List Running) (c : Conclusion) (cause : Cause) → Concluding es outs s inner outer c →
+over_is : (es : List Event) (outs : List Out) (s : State) (inner : Running) (outer : List Running) (c : Conclusion) (cause : Cause) → GivesCause c cause → Concluding es outs s inner outer c →
     so_far (es ++ puts (result cause) ∷ []) ≡ over_so_far (conclusion_so_far (last_end es) es (so_far es)) (so_far es)
-over_is es outs s inner outer c cause k = result_so_far es cause (conclusion_so_far (last_end es) es (so_far es)) k.none_left refl k.leaves_table
+over_is es outs s inner outer c cause gives k = result_so_far es cause (conclusion_so_far (last_end es) es (so_far es)) k.none_left refl k.leaves_table ∙ ap (over_so_far (conclusion_so_far (last_end es) es (so_far es))) (k.unhooked cause gives)
 
 result_holds : (es : List Event) (outs : List Out) (s : State) (inner : Running) (outer : List Running) (c : Conclusion) (cause : Cause) → Concluding es outs s inner outer c → GivesCause c cause → ResultStands es cause
-result_holds es outs s inner outer c cause k gives = record { is_open = k.settings.is_open; holds = subst (λ l. GivesOf l es cause) (sym k.none_left) (k.holds cause gives) }
+result_holds es outs s inner outer c cause k gives = record {
+  is_open = k.settings.is_open;
+  holds = subst (λ l. HoldsOf l es cause) (sym k.none_left) (k.holds cause gives);
+  hooks = λ left some disk answer. absurd (k.no_disk cause gives left some disk answer);
+}
 
 -- the same but for the images
 pub record IsWith (s s' : State) (list : ImageList) : Type 0 where
@@ -75,16 +89,20 @@ pub record IsWith (s s' : State) (list : ImageList) : Type 0 where
   pub up : s'.up ≡ s.up
   pub now : s'.now ≡ s.now
   pub images : s'.images ≡ list
+  pub drives : s'.drives ≡ s.drives
+  pub lives : s'.live ≡ s.live
+  pub opens : s'.opens ≡ s.opens
 
-result_agrees : (es : List Event) (outs : List Out) (s s' : State) (inner : Running) (outer : List Running) (c : Conclusion) (cause : Cause) → Concluding es outs s inner outer c → IsWith s s' (list_after c s.images) →
+result_agrees : (es : List Event) (outs : List Out) (s s' : State) (inner : Running) (outer : List Running) (c : Conclusion) (cause : Cause) → GivesCause c cause → Concluding es outs s inner outer c → IsWith s s' (list_after c s.images) →
     ScriptsAgree (es ++ puts (result cause) ∷ []) (outs ++ result cause ∷ []) (course.running s' (with_result inner cause) outer)
-result_agrees es outs s s' inner outer c cause k w =
-    let is = over_is es outs s inner outer c cause k in
+result_agrees es outs s s' inner outer c cause gives k w =
+    let is = over_is es outs s inner outer c cause gives k in
     let es1 = es ++ puts (result cause) ∷ [] in (
       script_as es1 inner (with_result inner cause) outer (record { same = refl; depth = refl; begun = refl }) (script_told es (result cause ∷ []) inner outer (tt, tt) refl k.script),
       subst (λ m. SettingsAre m s' false) (sym is) (record { table = k.keeps_table ∙ k.settings.table ∙ sym w.table; up = k.settings.up ∙ sym w.up; now = k.settings.now ∙ sym w.now; is_open = refl }),
       record {
         list = ap (λ (m : CommandsSoFar). m.images) is ∙ images_then (conclusion_so_far (last_end es) es (so_far es)) c (so_far es).images k.concluded ∙ ap (list_after c) k.images.list ∙ sym w.images;
+        drives = drives_still (so_far es) (so_far es1) s s' (ap (λ (m : CommandsSoFar). m.hooked) is) w.drives w.lives w.opens k.images.drives;
         none = parts_more outs (result cause ∷ []) k.images.none (tt, tt);
       },
       ap (λ (m : CommandsSoFar). m.left) is ∙ k.none_left,
@@ -92,11 +110,11 @@ result_agrees es outs s s' inner outer c cause k w =
 
 pub result_goes : (es : List Event) (outs : List Out) (s s' : State) (inner : Running) (outer : List Running) (c : Conclusion) (cause : Cause) → Concluding es outs s inner outer c → GivesCause c cause → IsWith s s' (list_after c s.images) →
     Goes es outs (result cause ∷ []) (course.running s' (with_result inner cause) outer)
-result_goes es outs s s' inner outer c cause k gives w = record { stands = (result_holds es outs s inner outer c cause k gives, tt); agrees = result_agrees es outs s s' inner outer c cause k w }
+result_goes es outs s s' inner outer c cause k gives w = record { stands = (result_holds es outs s inner outer c cause k gives, tt); agrees = result_agrees es outs s s' inner outer c cause gives k w }
 
 -- with another list
 pub with_list : (s : State) (list : ImageList) → IsWith s (with_images s list) list
-with_list s list = record { table = refl; up = refl; now = refl; images = refl }
+with_list s list = record { table = refl; up = refl; now = refl; images = refl; drives = refl; lives = refl; opens = refl }
 
 -- what the history says of a command that boots this image, and of the settings before its result and after
 pub record BootsBy (es : List Event) (s : State) (list : ImageList) (kernel : ℕ) : Type 0 where
@@ -108,7 +126,7 @@ pub boots_by : (es : List Event) (outs : List Out) (s : State) (inner : Running)
 boots_by es outs s inner outer list kernel k = record {
   is_so = said_is (boots list kernel) (λ cause e. absurd (cc e)) k.concluded;
   settings = k.settings;
-  ended_so = subst (λ m. SettingsAre m s false) (sym (over_is es outs s inner outer (boots list kernel) ok k)) (record { table = k.keeps_table ∙ k.settings.table; up = k.settings.up; now = k.settings.now; is_open = refl });
+  ended_so = subst (λ m. SettingsAre m s false) (sym (over_is es outs s inner outer (boots list kernel) ok refl k)) (record { table = k.keeps_table ∙ k.settings.table; up = k.settings.up; now = k.settings.now; is_open = refl });
 }
 
 -- A SCRIPT RUNS
@@ -153,7 +171,7 @@ enter_agrees es outs s inner outer list image k =
         begun = begun_more es (puts (enter (inner.depth + 1))) ∙ k.script.begun;
       },
       subst (λ m. SettingsAre m (with_images s list) false) (sym is) (record { table = k.settings.table; up = k.settings.up; now = k.settings.now; is_open = refl }),
-      record { list = ap (λ (m : CommandsSoFar). m.images) is; none = parts_more outs (enter (inner.depth + 1) ∷ []) k.images.none (tt, tt) },
+      record { list = ap (λ (m : CommandsSoFar). m.images) is; drives = drives_still (so_far es) (so_far (es ++ puts (enter (inner.depth + 1)) ∷ [])) s (with_images s list) (ap (λ (m : CommandsSoFar). m.hooked) is) refl refl refl k.images.drives; none = parts_more outs (enter (inner.depth + 1) ∷ []) k.images.none (tt, tt) },
       ap (λ (m : CommandsSoFar). m.left) is ∙ k.none_left,
     )
 
@@ -171,7 +189,7 @@ replace_agrees es outs s inner outer list image concluded a =
         begun = begun_more es (puts (replace inner.depth)) ∙ a.0.begun;
       },
       subst (λ m. SettingsAre m s false) (sym is) (record { table = a.1.table; up = a.1.up; now = a.1.now; is_open = a.1.is_open }),
-      images_as es (es ++ puts (replace inner.depth) ∷ []) outs (replace inner.depth ∷ []) s s (ap (λ (m : CommandsSoFar). m.images) is) refl (tt, tt) a.2,
+      images_as es (es ++ puts (replace inner.depth) ∷ []) outs (replace inner.depth ∷ []) s s (ap (λ (m : CommandsSoFar). m.images) is) refl (drives_still (so_far es) (so_far (es ++ puts (replace inner.depth) ∷ [])) s s (ap (λ (m : CommandsSoFar). m.hooked) is) refl refl refl a.2.drives) (tt, tt) a.2,
       ap (λ (m : CommandsSoFar). m.left) is ∙ a.3,
     )
 
@@ -189,8 +207,8 @@ script_goes es outs s inner outer list image true put p k (puts_so, is) =
     let after_it = with_result inner ok in
     let new = script_in_place inner image.uri (lines_of (script_reading image.text)) in
     let refused = text_refusal (script_reading image.text) in
-    let over = over_is es outs s inner outer c ok k in
-    let a = result_agrees es outs s (with_images s list) inner outer c ok k (with_list s list) in
+    let over = over_is es outs s inner outer c ok refl k in
+    let a = result_agrees es outs s (with_images s list) inner outer c ok refl k (with_list s list) in
     let concluded : (so_far es1).concluded ≡ Some c = ap (λ (m : CommandsSoFar). m.concluded) over ∙ said_is c (λ cause e. absurd (cc e)) k.concluded in
     let stands : ScriptStands es1 2 inner.depth ok = subst (λ d. ScriptStands es1 2 d ok) (depth_is es1 after_it outer a.0) (replaces list image a.1.is_open concluded) in
     goes_two es outs (o ∷ []) put p (result_holds es outs s inner outer c ok k refl, tt)
@@ -211,8 +229,8 @@ boots_goes es outs s inner outer list kernel more p k (over, all, leads) =
     subst (λ z. Goes es outs (o ∷ more) z) (sym leads) (record {
       stands = (result_holds es outs s inner outer (boots list kernel) ok k refl, quiet_commands es1 more quiet);
       agrees = (
-        silent_handoff kernel list.images,
-        ap (λ (z : List Event). (so_far z).is_open) at ∙ ap (λ (m : CommandsSoFar). m.is_open) (quiet_so_far es1 more quiet ∙ over_is es outs s inner outer (boots list kernel) ok k),
+        silent_handoff kernel list.images (boot_table s),
+        ap (λ (z : List Event). (so_far z).is_open) at ∙ ap (λ (m : CommandsSoFar). m.is_open) (quiet_so_far es1 more quiet ∙ over_is es outs s inner outer (boots list kernel) ok refl k),
         record {
           booted = record {
             before = es;
@@ -225,10 +243,12 @@ boots_goes es outs s inner outer list kernel more p k (over, all, leads) =
           };
           place = k.fits;
           list_is = sym (ap (λ (z : List Event). (so_far z).images) at ∙ ap (λ (m : CommandsSoFar). m.images) (quiet_so_far es1 more quiet)
-              ∙ (result_agrees es outs s (with_images s list) inner outer (boots list kernel) ok k (with_list s list)).2.list);
+              ∙ (result_agrees es outs s (with_images s list) inner outer (boots list kernel) ok refl k (with_list s list)).2.list);
           before = outs ++ o ∷ more;
           none = parts_more outs (o ∷ more) k.images.none (tt, quiet_parts more quiet);
-          ends = refl;
+          ends = ap (λ t. (outs ++ o ∷ more) ++ handoff_records kernel list.images t) (sym (table_same es1 s (still_state es (o ∷ []) s (tt, tt) k.base)
+              (drives_still (so_far es) (so_far es1) s s (ap (λ (m : CommandsSoFar). m.hooked) (over_is es outs s inner outer (boots list kernel) ok refl k)) refl refl refl k.images.drives)
+              (boots_by es outs s inner outer list kernel k).ended_so.table));
         },
       );
     })
@@ -243,6 +263,6 @@ conclusion_goes es outs s inner outer (keeps list) put p tells_none k (none, is)
 conclusion_goes es outs s inner outer (tells list lines) put p tells_none k leads = absurd (tells_none list lines refl)
 conclusion_goes es outs s inner outer (fails cause) put p tells_none k (none, is) =
     subst (λ z. Goes es outs (result cause ∷ z) p) (sym none)
-    (subst (λ z. Goes es outs (result cause ∷ []) z) (sym is) (result_goes es outs s s inner outer (fails cause) cause k refl (record { table = refl; up = refl; now = refl; images = refl })))
+    (subst (λ z. Goes es outs (result cause ∷ []) z) (sym is) (result_goes es outs s s inner outer (fails cause) cause k refl (record { table = refl; up = refl; now = refl; images = refl; drives = refl; lives = refl; opens = refl })))
 conclusion_goes es outs s inner outer (boots list kernel) put p tells_none k leads = boots_goes es outs s inner outer list kernel put p k leads
 conclusion_goes es outs s inner outer (runs_script list image replaces_it) put p tells_none k leads = script_goes es outs s inner outer list image replaces_it put p k leads

@@ -9,9 +9,11 @@ use Rattle.nb_defs.specs.Records.{Out}
 use Rattle.nb_imagecmd.specs.declared.error.ImageFailure.TheVariants.{NoScheme}
 use Rattle.nb_imagecmd.specs.Asking.{target_host}
 use Rattle.nb_imagecmd.specs.Moving.{moved_file}
+use Rattle.nb_imagecmd.specs.declared.asking.Asking.{Asking}
+use Rattle.nb_imagecmd.specs.declared.error.ImageFailure.{ImageFailure}
 use Rattle.nb_machine.specs.Conclusions.{fails}
 use Rattle.nb_machine.specs.Effects.{next_effect, next_moved}
-use Rattle.nb_machine.specs.Errands.{Wanted, Onward}
+use Rattle.nb_machine.specs.Errands.{Wanted, Onward, fetches_now, echoes_now, hooks_now, looks_up_now}
 use Rattle.nb_machine.specs.Kinds as kinds
 use Rattle.nb_machine.specs.Running.{Running}
 use Rattle.nb_machine.specs.Lives.{Live}
@@ -25,15 +27,19 @@ use Rattle.nb_laws.specs.Lists.{Opening, openings, hardware, made, came_ok, last
 use Rattle.nb_laws.specs.Moves.{MovedOpen, moved_open, moves}
 use Rattle.nb_laws.specs.Wanting.{may_serve, is_open_at}
 use Rattle.nb_laws.proofs.Moved.{has_asking, serves_so, then_moved, full_none}
-use Rattle.nb_laws.proofs.Afterwards.{asked_keeps, asked_leaves}
+use Rattle.nb_laws.proofs.Afterwards.{asked_keeps, asked_leaves, asking_hooks, IsNext, moved_next}
+use Rattle.nb_laws.specs.Openings.{HasMoved}
+use Rattle.nb_laws.specs.Frames.{by_move}
+use Rattle.nb_laws.proofs.SoFar.{hooks_none}
 use Rattle.nb_openlaws.specs.Standings.{live_opening}
-use Rattle.nb_lawful.specs.OpenPurposes.{HasBeenMoved}
-use Rattle.nb_lawful.specs.Results.{by_move, HasEndedOpens}
-use Rattle.nb_lawful.specs.ScriptAgreement.{FetchesWith, reaches_place}
+use Rattle.nb_lawful.specs.Results.{HasEndedOpens}
+use Rattle.nb_lawful.specs.ScriptAgreement.{FetchesWith, reaches_place, OpensNoDrive}
 use Rattle.nb_lawful.proofs.AtOnce.{Goes, goes_nowhere}
 use Rattle.nb_lawful.proofs.CommandEnds.{ended_so, HasEnded, ends_with}
 use Rattle.nb_lawful.proofs.Concluded.{asks_its_target, no_file_where_moved, open_brings}
 use Rattle.nb_lawful.proofs.Leading.{failed_so, Concluding, conclusion_goes}
+use Rattle.nb_lawful.proofs.Disks.{no_disk_where}
+use Rattle.nb_settings.specs.Tables.{TableLists}
 
 -- the open, with the place to which its server has moved the file
 abbrev moved_there : Live → List ℕ → MovedOpen
@@ -61,7 +67,7 @@ record IsMoved (es : List Event) (outs : List Out) (s : State) (inner : Running)
   fetches : FetchesWith (hardware es) (so_far es) moved l wanted
   goes : place_moved_to (ended_so l cause) ≡ Some place
 
-has_been_moved : (es : List Event) (outs : List Out) (s : State) (inner : Running) (outer : List Running) (moved : List MovedOpen) (l : Live) (cause : Cause) (wanted : Wanted) (place : List ℕ) → IsMoved es outs s inner outer moved l cause wanted place → HasBeenMoved es
+has_been_moved : (es : List Event) (outs : List Out) (s : State) (inner : Running) (outer : List Running) (moved : List MovedOpen) (l : Live) (cause : Cause) (wanted : Wanted) (place : List ℕ) → IsMoved es outs s inner outer moved l cause wanted place → HasMoved es
 has_been_moved es outs s inner outer moved l cause wanted place x =
     let h = x.ended_well in
     record {
@@ -110,6 +116,7 @@ fails_there es outs s inner outer moved l cause wanted place why x is =
     let m = so_far es in
     let asking = has_asking l.number m f.shown moved (live_opening l) wanted f.asked in
     record {
+      base = h.base;
       script = h.script;
       settings = h.settings;
       images = h.images;
@@ -119,10 +126,19 @@ fails_there es outs s inner outer moved l cause wanted place why x is =
       leaves_table = asked_leaves es m f.shown asking.first f.said asking.words;
       holds = λ given gives. by_move (refused why) (has_been_moved es outs s inner outer moved l cause wanted place x) (f.shown, f.said, comes_there es outs s inner outer moved l cause wanted place x ∙ ap next_effect is) gives;
       ended = subst HasEndedOpens (sym h.its_end) (cause, refl);
+      unhooked = λ given gives. hooks_none es given f.shown f.said (asking_hooks (comes_by 0 m f.shown) asking.first asking.words);
+      no_disk = λ given gives left some disk. absurd (no_disk_where es f.shown f.said (asking_hooks (comes_by 0 m f.shown) asking.first asking.words) disk);
       fits = tt;
     }
 
 -- IT GOES ON
+
+-- no drive is opened where a file was moved
+no_drive_there : (k : ℕ) (table : TableLists) (r : Result Asking ImageFailure) (next : Onward) → next_moved k table r ≡ Ok next → OpensNoDrive next
+no_drive_there k table r (fetches_now wanted) is = tt
+no_drive_there k table r (echoes_now server) is = tt
+no_drive_there k table r (hooks_now hooking server) is = subst IsNext (ap next_effect is) (moved_next k table r)
+no_drive_there k table r (looks_up_now errand name by) is = tt
 
 pub moved_goes : (es : List Event) (outs : List Out) (s : State) (inner : Running) (outer : List Running) (moved : List MovedOpen) (l : Live) (cause : Cause) (wanted : Wanted) (place : List ℕ) (more : List Out) (p : Standing) →
     HasEnded es outs s inner outer moved l cause → FetchesWith (hardware es) (so_far es) moved l wanted → place_moved_to (ended_so l cause) ≡ Some place →
@@ -140,6 +156,6 @@ moved_goes es outs s inner outer moved l cause wanted place more p h f goes lead
           h.images,
           h.none_left,
           reaches_place (has_been_moved es outs s inner outer moved l cause wanted place x) (f.shown, f.said, comes_there es outs s inner outer moved l cause wanted place x ∙ ap next_effect is)
-              (λ full. full_none s.table (moved_file wanted.asking place) next (ap (λ n. next_moved n s.table (moved_file wanted.asking place)) (sym full ∙ h.opens) ∙ is)),
+              (λ full. full_none s.table (moved_file wanted.asking place) next (ap (λ n. next_moved n s.table (moved_file wanted.asking place)) (sym full ∙ h.opens) ∙ is)) (no_drive_there s.opens s.table (moved_file wanted.asking place) next is),
         )))
     by (Err why) is leads = conclusion_goes es outs s inner outer (fails why) more p (λ list lines e. absurd (cc e)) (fails_there es outs s inner outer moved l cause wanted place why x is) leads

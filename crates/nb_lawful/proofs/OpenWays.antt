@@ -1,6 +1,6 @@
 -- Of each open that lives the history says that there was a way to its server when it was made.
-use Rattle.std.proofs.Common.{◌≡◌, ℕ, ◌+◌, Bool, true, false, cond, List, [], ◌∷◌, ◌++◌, Option, Some, None, refl, sym, ◌∙◌, ap, subst, append_assoc, append-nil}
-use Rattle.std.specs.Prelude.{slice_get}
+use Rattle.std.proofs.Common.{◌≡◌, ℕ, ◌+◌, Bool, true, false, cond, List, [], ◌∷◌, ◌++◌, Option, Some, None, refl, sym, ◌∙◌, ap, subst, append_assoc, append-nil, not}
+use Rattle.std.specs.Prelude.{slice_get, filter}
 use Rattle.std.specs.List.{AllByRecursion}
 use Rattle.std.proofs.lemmas.Option.{none-some}
 use Rattle.nb_defs.specs.Records.{In, Out}
@@ -19,22 +19,24 @@ use Rattle.nb_machine.specs.Kinds.{first_records}
 use Rattle.nb_machine.specs.States.{State, net0, with_images, with_opened}
 use Rattle.nb_machine.specs.Takings.{Over, AllTake, all_have, lives_on, is_over}
 use Rattle.nb_machine.specs.Network.{Network, passes_by, brings, brings_reply, brings_segment, passes_time}
-use Rattle.nb_machine.specs.Scripts.{Job, live_onward, Upshot, concludes, settles, goes_onward, upshot_records, concluded_by}
+use Rattle.nb_machine.specs.Scripts.{Job, live_onward, Upshot, concludes, settles, goes_onward, upshot_records, concluded_by, hooks_drive}
 use Rattle.nb_machine.specs.Courses as course
-use Rattle.nb_machine.specs.Courses.{Standing, Progress, text_standing, ConclusionLeads, LeadsTo, StepBegins, Proceeds}
+use Rattle.nb_machine.specs.Courses.{Standing, Progress, text_standing, ConclusionLeads, LeadsTo, StepBegins, Proceeds, DropsDrive, is_drives_own}
 use Rattle.nb_laws.specs.Events.{Event}
 use Rattle.nb_laws.specs.Histories.{client}
 use Rattle.nb_laws.specs.Lists.{hardware}
 use Rattle.nb_laws.proofs.Tellings.{told}
 use Rattle.nb_openlaws.specs.Standings.{live_opening, AgreesState, AgreesDevice, AgreesStanding}
-use Rattle.nb_openlaws.specs.OpenEndings.{HadWay}
+use Rattle.nb_laws.specs.Endings.{HadWay}
 use Rattle.nb_openlaws.specs.OpenReasons.{HaveWays}
 use Rattle.nb_openlaws.proofs.KindFacts.{first_of, way_as}
 use Rattle.nb_openlaws.proofs.Courses.{step_event, step_more}
 use Rattle.nb_openlaws.proofs.Doings.{ends_by, OpensBy, opens_transfer, opens_query, opens_by}
 use Rattle.nb_openlaws.proofs.KeptOpens.{around}
+use Rattle.nb_openlaws.proofs.LiveParts.{all_filter}
 use Rattle.nb_lawful.proofs.StepReasons.{last_lives}
 use Rattle.nb_lawful.proofs.Devices.{DeviceAgrees}
+use Rattle.nb_drivecmd.specs.HookedDrives.{is_drive}
 
 abbrev pub WaysAt : List Event → Standing → Type 0
 WaysAt es course.ready = Unit {0}
@@ -126,6 +128,7 @@ conclusion_ways es s inner outer (runs_script list image true) put p (puts_so, i
 upshot_ways : (es : List Event) (s : State) (inner : Running) (outer : List Running) (u : Upshot) (put : List Out) (p : Standing) → LeadsTo s inner outer u put p → HaveWays es s.live → WaysAt es p
 upshot_ways es s inner outer (concludes c) put p leads h = conclusion_ways es s inner outer c put p leads h
 upshot_ways es s inner outer (settles x) put p (none, is) h = subst (WaysAt es) (sym is) h
+upshot_ways es s inner outer (hooks_drive d) put p (none, is) h = subst (WaysAt es) (sym is) h
 upshot_ways es s inner outer (goes_onward next) put p (none, is) h = subst (WaysAt es) (sym is) h
 
 -- an event and the records after it
@@ -147,6 +150,12 @@ same_lives : (s s' : State) (table : TableLists) (up : Bool) (e : Effect) (l : L
 same_lives s s' table up e l job (opens_transfer wanted is state live work) = ap (λ (z : State). z.live) state
 same_lives s s' table up e l job (opens_query query is state live work) = ap (λ (z : State). z.live) state
 
+-- where a drive was closed, the others live on
+drop_ways : (es : List Event) (added : List Out) (s s' : State) (number : ℕ) (put : List Out) → DropsDrive s number put s' → HaveWays es s.live → HaveWays (es ++ told added) s'.live
+drop_ways es added s s' number put d h =
+    subst (λ (z : State). HaveWays (es ++ told added) z.live) (sym d.leaves)
+    (all_filter (λ (l : Live). HadWay l.number (es ++ told added) (live_opening l)) (λ l. not (is_drives_own (filter (is_drive number) s.drives) l)) s.live (have_ways es (told added) s.live h))
+
 pub move_ways : (es : List Event) (m : Progress) (added : List Out) (m2 : Progress) → Proceeds m added m2 → WaysAt es m.standing → AgreesStanding (es ++ told added) m2.standing → DeviceAgrees (es ++ told added) m2.standing → WaysAt (es ++ told added) m2.standing
 move_ways es m added m2 (course.passes n s inner next outer comes) h a d = have_ways es (told added) s.live h
 move_ways es m added m2 (course.is_left n s inner outer cause comes) h a d = have_ways es (told added) s.live h
@@ -155,6 +164,9 @@ move_ways es m added m2 (course.concludes_there n s inner outer c cs x put p com
 move_ways es m added m2 (course.yields n s inner outer c cs comes full) h a d = have_ways es (told added) s.live h
 move_ways es m added m2 (course.does n s s2 inner outer c cs x comes few is stays) h a d = subst (λ (z : State). HaveWays (es ++ told added) z.live) (sym (ends_by s inner (c ∷ cs) x s2 is).1) (have_ways es (told added) s.live h)
 move_ways es m added m2 (course.closes_device n s s2 inner outer c cs put over comes few is all) h a d = tt
+move_ways es m added m2 (course.goes_to_hook n s s2 inner outer c cs hooking put next comes few is drops asks) h a d = drop_ways es added s s2 hooking.number put drops h
+move_ways es m added m2 (course.hooks_none n s s2 inner outer c cs hooking put cause comes few is drops asks) h a d = drop_ways es added s s2 hooking.number put drops h
+move_ways es m added m2 (course.unhooks n s s2 inner outer c cs number put cause comes few is drops) h a d = drop_ways es added s s2 number put drops h
 move_ways es m added m2 (course.leaves n s s2 inner outer c cs x comes few is away) h a d = subst (λ (z : State). HaveWays (es ++ told added) z.live) (sym (ends_by s inner (c ∷ cs) x s2 is).1) (have_ways es (told added) s.live h)
 move_ways es m added m2 (course.jumps n s inner outer c cs name line comes few is there) h a d = have_ways es (told added) s.live h
 move_ways es m added m2 (course.finds_no_label n s inner outer c cs name comes few is none) h a d = have_ways es (told added) s.live h

@@ -1,5 +1,5 @@
 -- What records of opens leave as it was: the settings, the commands, the images; and the end of a command's open.
-use Rattle.std.proofs.Common.{◌≡◌, ℕ, ◌+◌, ◌==◌, ◌&&◌, false, cond, List, [], ◌∷◌, ◌++◌, Option, Some, None, refl, sym, ◌∙◌, ap, append_assoc, append-nil, add-zero, fold}
+use Rattle.std.proofs.Common.{◌≡◌, ℕ, ◌+◌, ◌==◌, ◌&&◌, false, cond, List, [], ◌∷◌, ◌++◌, Option, Some, None, refl, sym, ◌∙◌, ap, append_assoc, append-nil, add-zero, fold, Bool, true}
 use Rattle.std.specs.List.{flat_map, AllByRecursion}
 use Rattle.std.proofs.lemmas.List.Sums.{fold-append}
 use Rattle.nb_terms.specs.declared.cause.Cause.{Cause}
@@ -8,7 +8,7 @@ use Rattle.nb_defs.specs.Parts.{IsNoPart, HaveNoParts}
 use Rattle.nb_defs.specs.Records.{Out, step, sent, command, result, script, opened, tried, advanced, ended, part, done}
 use Rattle.nb_machine.specs.CommandRecords.{reply_records}
 use Rattle.nb_laws.specs.Events.{Event, puts, EachEvent, followed}
-use Rattle.nb_laws.specs.Lists.{commands_by, came_ok, last_end, end_by, openings, made, opens_by}
+use Rattle.nb_laws.specs.Lists.{commands_by, came_ok, last_end, openings, made, opens_by}
 use Rattle.nb_laws.specs.Moves.{moved_by_server, moves_by, moves}
 use Rattle.nb_laws.specs.CommandsSoFar.{CommandsSoFar, so_far, so_far_by}
 use Rattle.nb_laws.specs.Agreement.{IsStill}
@@ -17,9 +17,9 @@ use Rattle.nb_laws.proofs.Tellings.{told, made_more}
 use Rattle.nb_laws.proofs.HandOffs.{last_end_more}
 use Rattle.nb_laws.proofs.Moved.{moves_more}
 use Rattle.nb_laws.proofs.SoFar.{told_so_far, IsNoScript, HaveNoScripts}
-use Rattle.nb_openlaws.specs.OpenEndings.{MayStandBehind}
+use Rattle.nb_laws.specs.Endings.{MayStandBehind}
 use Rattle.nb_openlaws.proofs.Puts.{IsQuiet, AreQuiet, IsClosing, AreClosing}
-use Rattle.nb_lawful.specs.CommandOpens.{command_open_by, command_open}
+use Rattle.nb_laws.specs.CommandOpens.{command_open_by, command_open, CommandOpen, over_of}
 use Rattle.nb_lawful.specs.Results.{CommandsSo}
 
 pub reply_quiet : (bytes : List ℕ) → AreQuiet (reply_records bytes)
@@ -168,9 +168,14 @@ pub ends_alone : (cause : Cause) (outs : List Out) → AreClosing cause outs →
 ends_alone cause [] h = tt
 ends_alone cause (o ∷ outs) h = (closing_one cause o h.0, ends_alone cause outs h.1)
 
-closing_fails : (cause : Cause) (last : Option Cause) (o : Out) → came_ok (Some cause) ≡ false → IsClosing cause o → came_ok last ≡ false → came_ok (end_by last (puts o)) ≡ false
+one_end_fails : (b : Bool) (k : ℕ) (cause other : Cause) (o : CommandOpen) → other ≡ cause → came_ok (Some cause) ≡ false → came_ok o.over ≡ false → came_ok (over_of (Some (cond b (record { number = k; over = Some other }) o))) ≡ false
+one_end_fails true k cause other o same bad failed = ap (λ z. came_ok (Some z)) same ∙ bad
+one_end_fails false k cause other o same bad failed = failed
+
+closing_fails : (cause : Cause) (last : Option CommandOpen) (o : Out) → came_ok (Some cause) ≡ false → IsClosing cause o → came_ok (over_of last) ≡ false → came_ok (over_of (command_open_by last (puts o))) ≡ false
 closing_fails cause last (sent bytes) bad h failed = failed
-closing_fails cause last (ended k other) bad h failed = ap (λ z. came_ok (Some z)) h ∙ bad
+closing_fails cause None (ended k other) bad h failed = refl
+closing_fails cause (Some o) (ended k other) bad h failed = one_end_fails (k == o.number) o.number cause other o h bad failed
 closing_fails cause last (step number) bad h failed = absurd h
 closing_fails cause last _ bad h failed = absurd h
 
@@ -179,7 +184,7 @@ pub ends_fail : (cause : Cause) (es : List Event) (outs : List Out) → came_ok 
 ends_fail cause es [] bad h failed = ap (λ z. came_ok (last_end z)) (append-nil es) ∙ failed
 ends_fail cause es (o ∷ outs) bad h failed =
     ap (λ z. came_ok (last_end z)) (sym (append_assoc es (puts o ∷ []) (told outs)))
-    ∙ ends_fail cause (es ++ puts o ∷ []) outs bad h.1 (ap came_ok (last_end_more es (puts o)) ∙ closing_fails cause (last_end es) o bad h.0 failed)
+    ∙ ends_fail cause (es ++ puts o ∷ []) outs bad h.1 (ap came_ok (last_end_more es (puts o)) ∙ closing_fails cause (command_open es) o bad h.0 failed)
 
 -- nor do they move a command's file
 closing_move : (cause : Cause) (es : List Event) (o : Out) → came_ok (Some cause) ≡ false → IsClosing cause o → moves_by es (moves es) (puts o) ≡ moves es

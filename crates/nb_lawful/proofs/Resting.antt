@@ -16,7 +16,7 @@ use Rattle.nb_laws.proofs.Afterwards.{after_by_words, sleeps_after}
 use Rattle.nb_laws.proofs.Settling.{comes_sleeps, same_shown, same_seconds}
 use Rattle.nb_laws.proofs.Stays.{IsAsking}
 use Rattle.nb_openlaws.specs.Standings.{live_opening}
-use Rattle.nb_lawful.specs.ScriptAgreement.{SleepsUntil, FetchesWith, AsksIn, AwaitsSo, awaits_time, awaits_file, awaits_query}
+use Rattle.nb_lawful.specs.ScriptAgreement.{SleepsUntil, FetchesWith, AsksIn, AwaitsSo, awaits_time, awaits_file, awaits_query, awaits_host, awaits_drive}
 
 -- a command sleeps by its words alone, however many opens were made
 asleep_by_words : (k j : ℕ) (m : CommandsSoFar) (shown : ShownWords) (moved : List MovedOpen) (n : ℕ) → comes_after k m shown moved ≡ sleeps n → comes_by j m shown ≡ sleeps n
@@ -65,8 +65,10 @@ sleep_rests es s until opens now a = rests_by_words es (λ seconds still comes.
 
 pub waiting_rests : (es : List Event) (s : State) (w : Waiting) → made es ≡ s.opens → (so_far es).now ≡ s.now → AwaitsSo es s w → NoneOversleeps es
 waiting_rests es s w opens now (awaits_time until at job none a) = sleep_rests es s until opens now a
-waiting_rests es s w opens now (awaits_file l wanted at job a) = fetch_rests es l wanted a
-waiting_rests es s w opens now (awaits_query l query at job a) = query_rests es l query a
+waiting_rests es s w opens now (awaits_file l wanted at number job a) = fetch_rests es l wanted a
+waiting_rests es s w opens now (awaits_query l query at number job a) = query_rests es l query a
+waiting_rests es s w opens now (awaits_host l hooking at number job a gone) = asking_rests es l.number a.shown a.said (subst IsAsking (sym a.names) tt)
+waiting_rests es s w opens now (awaits_drive l hooking at number job a gone) = asking_rests es l.number a.shown a.said (subst IsAsking (sym a.names) tt)
 
 -- and it is that command that sleeps
 pub sleeping_comes : (es : List Event) (s : State) (until : ℕ) (a : SleepsUntil (so_far es) s until) → ComesTo es (made es) (sleeps a.seconds)

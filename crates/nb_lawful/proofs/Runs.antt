@@ -1,5 +1,5 @@
 -- Each course has a history, and it keeps the laws.
-use Rattle.std.proofs.Common.{◌≡◌, inl, inr, ℕ, List, [], ◌∷◌, ◌++◌, length, refl, sym, ◌∙◌, ap, subst}
+use Rattle.std.proofs.Common.{◌≡◌, inl, inr, ℕ, List, [], ◌∷◌, ◌++◌, length, refl, sym, ◌∙◌, ap, subst, false, true, Some, None, ◌-◌}
 use Rattle.std.proofs.lemmas.Option.{none-some}
 use Rattle.nb_defs.specs.Records.{In, Out, step}
 use Rattle.std.specs.List.{AllByRecursion}
@@ -8,9 +8,10 @@ use Rattle.nb_machine.specs.States.{State}
 use Rattle.nb_machine.specs.Scripts.{Waiting}
 use Rattle.nb_machine.specs.Courses as course
 use Rattle.nb_machine.specs.Courses.{Standing, Progress, StepBegins, Proceeds, Course}
+use Rattle.nb_machine.specs.Errands.{Onward}
 use Rattle.nb_laws.specs.Events.{Event, puts, inputs, outputs, used_by, written_by, EachEvent, EachThen}
 use Rattle.nb_laws.specs.Histories.{IsRead, IsHistory}
-use Rattle.nb_laws.specs.Lists.{last_place, calls, openings, gathered}
+use Rattle.nb_laws.specs.Lists.{last_place, calls, openings, gathered, made, came_ok}
 use Rattle.nb_laws.specs.Drives.{sessions}
 use Rattle.nb_laws.specs.Frames.{TriesSo}
 use Rattle.nb_laws.specs.Progress.{StepsSo, AdvancesSo, IsAdvanced, NoneOversleeps}
@@ -19,6 +20,8 @@ use Rattle.nb_laws.proofs.SoFar.{nothing_so_far}
 use Rattle.nb_laws.proofs.Settling.{over_rests}
 use Rattle.nb_laws.proofs.Tellings.{told, tries_later}
 use Rattle.nb_laws.specs.CommandsSoFar.{CommandsSoFar}
+use Rattle.nb_laws.specs.Hookings.{NoneIsHooked}
+use Rattle.nb_laws.specs.CommandOpens.{command_open, over_of}
 use Rattle.nb_openlaws.specs.Standings.{live_opening, AreLive, AgreesStanding}
 use Rattle.nb_openlaws.specs.OpenEndings.{OpensEndSo, FramesSo}
 use Rattle.nb_openlaws.specs.OpenReasons.{OpenReasons}
@@ -26,18 +29,20 @@ use Rattle.nb_openlaws.proofs.UsedEvents.{IsUsed, live_one}
 use Rattle.nb_openlaws.proofs.Courses.{step_told, step_event, step_more, step_event_is, step_more_is, move_told, writes_more, uses_none, uses_one, writes_one}
 use Rattle.nb_openlaws.proofs.KeptOpens.{KeptAt, course_kept}
 use Rattle.nb_openlaws.proofs.CourseEvents.{standing_unanswered}
+use Rattle.nb_openlaws.proofs.NextOpens.{MayHook}
 use Rattle.nb_lawful.specs.StateByLists.{IsLiveBy, IsStateBy}
 use Rattle.nb_lawful.specs.Results.{CommandsSo}
-use Rattle.nb_lawful.specs.ScriptAgreement.{HandsOver, HandsWhatCame, ScriptsAgree}
+use Rattle.nb_lawful.specs.ScriptAgreement.{HandsOver, HandsWhatCame, ScriptsAgree, IsToReach, reaches_host, reaches_place, reaches_disk, reaches_looked_up_disk}
 use Rattle.nb_lawful.specs.Lawful.{KeepsLaws}
 use Rattle.nb_lawful.proofs.Stepping.{used_stands}
 use Rattle.nb_lawful.proofs.Scripted.{AnswersAt, step_scripts, move_scripts}
-use Rattle.nb_lawful.proofs.Onward.{reached_asks}
+use Rattle.nb_lawful.proofs.Onward.{reached_asks, next_rightly}
 use Rattle.nb_lawful.proofs.Resting.{asking_rests, waiting_rests}
 use Rattle.nb_lawful.proofs.StepReasons.{course_counts, step_stands}
 use Rattle.nb_lawful.proofs.OpenWays.{WaysAt, step_ways, move_ways}
 use Rattle.nb_lawful.proofs.Devices.{DeviceAgrees, told_read, move_device}
 use Rattle.nb_lawful.proofs.DeviceSteps.{step_device}
+use Rattle.nb_lawful.proofs.Unhooked.{over_unhooked, waiting_unhooked}
 
 -- what the history says of where a course stands, and of each of its events
 pub record Story (ins : List In) (outs : List Out) (es : List Event) (p : Standing) : Type 0 where
@@ -56,6 +61,13 @@ pub record Story (ins : List In) (outs : List Out) (es : List Event) (p : Standi
   pub advances : EachEvent AdvancesSo [] es
   pub advanced : IsAdvanced es
 
+-- where an open is next, the command's last one has ended, or there was none
+reached_none : (es : List Event) (next : Onward) → IsToReach es next → command_open es ≡ Some (record { number = made es - 1; over = None }) → ⊥
+reached_none es next (reaches_host errand name by address names finds is) at = let no : false ≡ true = sym (ap (λ x. came_ok (over_of x)) at) ∙ finds.ended in cc no
+reached_none es next (reaches_place moved names more plain) at = let no : false ≡ true = sym (ap (λ x. came_ok (over_of x)) at) ∙ moved.ended in cc no
+reached_none es next (reaches_disk r) at = none-some _ (sym r.first ∙ at)
+reached_none es next (reaches_looked_up_disk r) at = let no : false ≡ true = sym (ap (λ x. came_ok (over_of x)) at) ∙ r.finds.ended in cc no
+
 -- WHERE A COURSE STANDS
 
 pub standing_rests : (es : List Event) (outs : List Out) (p : Standing) → AgreesStanding es p → ScriptsAgree es outs p → NoneOversleeps es
@@ -69,6 +81,19 @@ standing_rests es outs (course.left s [] cause) a h = over_rests es h.2.0
 standing_rests es outs (course.left s (inner ∷ outer) cause) a h = λ seconds still comes. absurd (let (shown, said, sleeps_so) = comes in none-some shown (sym h.2.2 ∙ said))
 standing_rests es outs (course.handed_off s) a h = over_rests es h.0
 standing_rests es outs (course.stopped s) a h = h.0
+
+-- no disk that a command hooks has answered
+pub standing_unhooked : (es : List Event) (outs : List Out) (p : Standing) → AgreesStanding es p → ScriptsAgree es outs p → NoneIsHooked es
+standing_unhooked es outs course.ready a h = over_unhooked es (ap (λ (x : CommandsSoFar). x.is_open) (nothing_so_far es h.0))
+standing_unhooked es outs (course.running s inner outer) a h = over_unhooked es h.1.is_open
+standing_unhooked es outs (course.waiting s w) a h = waiting_unhooked es s w a h.4
+standing_unhooked es outs (course.reaching s inner outer next) a h = λ on left its answers. absurd (reached_none es next h.4 its)
+standing_unhooked es outs (course.yielded s inner outer) a h = over_unhooked es h.1.is_open
+standing_unhooked es outs (course.handing s rest) a h = over_unhooked es h.1
+standing_unhooked es outs (course.left s [] cause) a h = over_unhooked es h.2.0
+standing_unhooked es outs (course.left s (inner ∷ outer) cause) a h = λ on left its answers. absurd (none-some cause (sym left ∙ h.2.1))
+standing_unhooked es outs (course.handed_off s) a h = over_unhooked es h.0
+standing_unhooked es outs (course.stopped s) a h = h.2
 
 pub standing_hands : (es : List Event) (outs : List Out) (p : Standing) → ScriptsAgree es outs p → HandsWhatCame es outs
 standing_hands es outs course.ready h = inl h.1
@@ -146,7 +171,7 @@ step_story give ins outs es m r added m2 begins t kept counted is =
       ways = step_ways es m r added m2 begins t.base t.ways;
       read = each_one IsRead es e more t.read d.read (told_read (es ++ e ∷ []) more g.stands);
       commands = each_one CommandsSo es e more t.commands (used_stands es e (step_used es m r added m2 begins t.base)) g.stands;
-      steps = each_one StepsSo es e more t.steps (step_stands es outs m r added m2 begins t.base (counted ∙ ap length t.used) (standing_unanswered es m.standing t.base kept) t.scripts) (told_steps (es ++ e ∷ []) more);
+      steps = each_one StepsSo es e more t.steps (step_stands es outs m r added m2 begins t.base (counted ∙ ap length t.used) (standing_unanswered es m.standing t.base kept) (standing_unhooked es outs m.standing t.base t.scripts) t.scripts) (told_steps (es ++ e ∷ []) more);
       ends = each_one OpensEndSo es e more t.ends x.1 x.4.ends;
       frames = each_one FramesSo es e more t.frames x.2 x.4.frames;
       tries = each_then_append TriesSo [] (es ++ e ∷ []) (told more) tries_later (each_then_append TriesSo [] es (e ∷ []) tries_later t.tries (x.3, tt)) x.4.tries;
@@ -166,11 +191,23 @@ step_numbered m r added m2 (course.goes_off n s inner outer put over all) = refl
 
 -- A MOVE
 
+-- where a drive's open is next, its login is what the history says
+pub may_hook : (es : List Event) (outs : List Out) (p : Standing) → ScriptsAgree es outs p → MayHook es p
+may_hook es outs course.ready h = tt
+may_hook es outs (course.running s inner outer) h = tt
+may_hook es outs (course.waiting s w) h = tt
+may_hook es outs (course.reaching s inner outer next) h = next_rightly es s next h.1.table h.4
+may_hook es outs (course.yielded s inner outer) h = tt
+may_hook es outs (course.handing s rest) h = tt
+may_hook es outs (course.left s outer cause) h = tt
+may_hook es outs (course.handed_off s) h = tt
+may_hook es outs (course.stopped s) h = tt
+
 move_story : OpensGive → (ins : List In) (outs : List Out) (es : List Event) (m : Progress) (added : List Out) (m2 : Progress) → Proceeds m added m2 → Story ins outs es m.standing → KeptAt m.standing → Story ins (outs ++ added) (es ++ told added) m2.standing
 move_story give ins outs es m added m2 moves t kept =
-    let g = move_scripts es outs m added m2 moves t.base t.scripts in
+    let base = move_told es m added m2 moves t.base (may_hook es outs m.standing t.scripts) in
+    let g = move_scripts es outs m added m2 moves t.base base t.scripts in
     let x = give.at_move ins outs es m added m2 moves t kept in
-    let base = move_told es m added m2 moves t.base in
     let device = move_device es outs m added m2 moves t.device t.scripts g.agrees in
     record {
       used = uses_none ins es added t.used;
@@ -215,6 +252,7 @@ lawful_course give ins outs p c =
         advances = t.advances;
         advanced = t.advanced;
         unfinished = standing_unanswered es p.standing t.base (course_kept ins outs p c);
+        unhooked = standing_unhooked es outs p.standing t.base t.scripts;
         rested = standing_rests es outs p.standing t.base t.scripts;
         parts = subst (λ z. HandsWhatCame es z) t.written (standing_hands es outs p.standing t.scripts);
       },

@@ -4,22 +4,23 @@ use Rattle.std.specs.List.{AllByRecursion}
 use Rattle.std.proofs.lemmas.List.{map-append}
 use Rattle.nb_terms.specs.declared.cause.Cause.{Cause}
 use Rattle.nb_defs.specs.Records.{Start, In, Out, step, sent, command, result, script, opened, done, enter, leave}
-use Rattle.nb_openlaws.specs.OpenEndings.{MayStandBehind}
+use Rattle.nb_laws.specs.Endings.{MayStandBehind}
 use Rattle.nb_defs.specs.ScriptLines.{Line, script}
 use Rattle.nb_defs.specs.Causes.{ok}
 use Rattle.nb_machine.specs.FirstText.{first_text, first_reading, lines_of}
 use Rattle.nb_machine.specs.StartTable.{start_table}
 use Rattle.nb_machine.specs.Starting.{is_up}
 use Rattle.nb_machine.specs.Running.{Running, first_script, anew}
-use Rattle.nb_machine.specs.CommandRecords.{stopped_cause}
+use Rattle.nb_machine.specs.CommandRecords.{stopped_cause, command_record}
 use Rattle.nb_streams.proofs.FlowLaws.{all_append}
 use Rattle.nb_machine.specs.Lives.{close, Live}
-use Rattle.nb_machine.specs.States.{State, state_at_start, with_live}
+use Rattle.nb_machine.specs.States.{State, state_at_start, with_live, still_hooked}
 use Rattle.nb_machine.specs.Takings.{Over, AllTake}
 use Rattle.nb_machine.specs.Network.{Network}
-use Rattle.nb_machine.specs.Scripts.{sleep, Answer, by_end, by_time, answer_in, Waiting, waiting_anew, upshot_records, concluded_by}
+use Rattle.nb_machine.specs.Scripts.{sleep, Answer, by_end, by_time, answer_in, Waiting, waiting_anew, upshot_records, concluded_by, hooks, hooks_drive, hooked_drive}
 use Rattle.nb_machine.specs.Courses as course
-use Rattle.nb_machine.specs.Courses.{Standing, Progress, LeadsTo, StepBegins, Proceeds}
+use Rattle.nb_machine.specs.Courses.{Standing, Progress, LeadsTo, StepBegins, Proceeds, DropsDrive}
+use Rattle.nb_machine.specs.Effects.{shown_words}
 use Rattle.nb_laws.specs.Events.{Event, starts, stops, puts, EachEvent}
 use Rattle.nb_laws.specs.Lists.{made, ms_of}
 use Rattle.nb_laws.specs.CommandsSoFar.{CommandsSoFar, so_far, no_commands, script_so_far}
@@ -38,9 +39,12 @@ use Rattle.nb_openlaws.proofs.Networks.{network_agrees}
 use Rattle.nb_openlaws.proofs.OpenStates as states
 use Rattle.nb_openlaws.proofs.Courses.{step_event, step_more}
 use Rattle.nb_openlaws.proofs.Puts.{close_ends}
-use Rattle.nb_lawful.specs.CommandOpens.{command_open}
+use Rattle.nb_openlaws.proofs.LiveStates.{drop_agrees}
+use Rattle.nb_openlaws.proofs.OpenStates.{still_state}
+use Rattle.nb_laws.specs.CommandOpens.{command_open}
+use Rattle.nb_laws.specs.Hookings.{NoneIsHooked}
 use Rattle.nb_lawful.specs.Results.{HasEndedOpens, CommandsSo}
-use Rattle.nb_lawful.specs.ScriptAgreement.{SettingsAre, IsAnother, HasImages, NoneLeft, ScriptsAgree}
+use Rattle.nb_lawful.specs.ScriptAgreement.{SettingsAre, IsAnother, HasImages, NoneLeft, ScriptsAgree, HasDrives, WasHooked}
 use Rattle.nb_lawful.proofs.Quiet.{silent_stands, quiet_commands, quiet_made, command_open_more, ends_quiet}
 use Rattle.nb_lawful.proofs.Begun.{told_two, stand_then}
 use Rattle.nb_lawful.proofs.AtOnce.{Goes, goes_nowhere, passes_goes, left_goes, hands_back_goes, does_goes, leaves_goes, jumps_goes, no_label_goes, shuts_goes, sleeps_goes}
@@ -50,7 +54,11 @@ use Rattle.nb_lawful.proofs.Onward.{onward_goes, no_way_goes, full_goes}
 use Rattle.nb_lawful.proofs.Stepping.{network_leaves, told_time, comes}
 use Rattle.nb_lawful.proofs.Answered.{job_goes, slept_goes}
 use Rattle.nb_lawful.proofs.Resting.{waiting_rests, rests_on}
-use Rattle.nb_lawful.proofs.Waiting.{Steps, waits_so, AnswersSo, Comes, its_time, its_end, comes_so}
+use Rattle.nb_lawful.proofs.Waiting.{Steps, waits_so, AnswersSo, Comes, its_time, its_end, comes_so, its_drive}
+use Rattle.nb_lawful.proofs.HookedLives.{lives_so, none_keeps}
+use Rattle.nb_lawful.proofs.Hooking.{hooks_goes, hooks_none_goes, unhooks_goes}
+use Rattle.nb_lawful.proofs.Hooked.{drive_goes}
+use Rattle.nb_lawful.proofs.Unhooked.{off_unhooked, waiting_unhooked, over_unhooked}
 
 -- WHAT THE BASE SAYS
 
@@ -64,6 +72,7 @@ based es s a = record {
   hardware_is = sym (states.hardware_now es s a);
   offset_is = a.offset;
   fewer = others_fewer es s.opens s.live (omega (arith, a.opens)) a.each;
+  silent = (a.unstreamed (made es) (omega arith)).0;
 }
 
 -- A STEP
@@ -120,7 +129,7 @@ answered_step es outs s s' w n r put more over x p net a answers answered leads 
     let es2 = (es ++ u.event ∷ []) ++ told put in
     let k = network_steps es outs s s' w n r put over net a h in
     step_then es outs u.event n put (upshot_records (concluded_by s' w.script.depth w.job x) ++ more) p (quiet_commands (es ++ u.event ∷ []) put k.leaves.quiet)
-    (by es2 (comes_so es es2 outs s s' w r n u.event put over x k u.agrees.opens u.ended (answers n r put s' over net a) answered h.4))
+    (by es2 (comes_so es es2 outs s s' w r n u.event put over x k u.agrees u.ended u.agrees.each (answers n r put s' over net a) answered h.4))
   where
     by : (es2 : List Event) → Comes es2 outs s s' w n put x → Goes es2 (outs ++ step n ∷ put) (upshot_records (concluded_by s' w.script.depth w.job x) ++ more) p
     by es2 (its_time until is job slept) =
@@ -129,6 +138,9 @@ answered_step es outs s s' w n r put more over x p net a answers answered leads 
     by es2 (its_end moved l cause is over purpose) =
         let at : concluded_by s' w.script.depth w.job x ≡ concluded_by s' w.script.depth w.job (by_end (record { live = l; cause = cause })) = ap (concluded_by s' w.script.depth w.job) is in
         subst (λ z. Goes es2 (outs ++ step n ∷ put) (upshot_records z ++ more) p) (sym at) (job_goes es2 (outs ++ step n ∷ put) s' (anew w.script) w.outer moved l cause w.job more p over purpose (subst (λ z. LeadsTo s' (anew w.script) w.outer z more p) at leads))
+    by es2 (its_drive moved l hooking is job hooked) =
+        let at : concluded_by s' w.script.depth w.job x ≡ hooks_drive (hooked_drive hooking l) = ap (λ z. concluded_by s' w.script.depth z x) job ∙ ap (concluded_by s' w.script.depth (hooks hooking)) is in
+        subst (λ z. Goes es2 (outs ++ step n ∷ put) (upshot_records z ++ more) p) (sym at) (drive_goes es2 (outs ++ step n ∷ put) s' (anew w.script) w.outer moved l hooking more p hooked (subst (λ z. LeadsTo s' (anew w.script) w.outer z more p) at leads))
 
 -- a script goes on
 resumes_step : (es : List Event) (outs : List Out) (s s' : State) (inner : Running) (outer : List Running) (n : ℕ) (r : In) (put : List Out) (over : List Over) (net : Network s n r put s' over) (a : AgreesState es s) →
@@ -142,14 +154,18 @@ resumes_step es outs s s' inner outer n r put over net a h =
 
 -- the power is switched off
 off_step : (es : List Event) (outs : List Out) (s : State) (inner : Running) (outer : List Running) (still : Bool) (n : ℕ) (put : List Out) (over : List Over) → AllTake s.devices (close stopped_cause) s.live put [] over → AgreesScript es inner outer → SettingsAre (so_far es) s still →
-    HasImages es outs s → NoneLeft es → NoneOversleeps es → StepGoes es outs (stops n) n put (course.stopped (with_live s []))
-off_step es outs s inner outer still n put over all lines settings images none_left rests =
-    let quiet = ends_quiet stopped_cause put (close_ends s.devices stopped_cause s.live put [] over all) in
-    let c = comes es outs s (with_live s []) inner outer still n (stops n) put tt tt (record { table = refl; up = refl; images = refl; opens = refl; quiet = quiet }) (sym (add-zero s.now)) lines settings images none_left in
+    HasImages es outs s → NoneLeft es → NoneOversleeps es → NoneIsHooked es → StepGoes es outs (stops n) n put (course.stopped (with_live s []))
+off_step es outs s inner outer still n put over all lines settings images none_left rests unhooked =
+    let closing = close_ends s.devices stopped_cause s.live put [] over all in
+    let quiet = ends_quiet stopped_cause put closing in
+    let c = comes es outs s (with_live s []) inner outer still n (stops n) put tt tt (record { table = refl; up = refl; images = refl; opens = refl; quiet = quiet; some = λ m h. none_keeps s }) (sym (add-zero s.now)) lines settings images none_left in
     let made_is : made ((es ++ stops n ∷ []) ++ told put) ≡ made es = quiet_made (es ++ stops n ∷ []) put quiet ∙ made_more es (stops n) ∙ add-zero (made es) in
-    record { stands = quiet_commands (es ++ stops n ∷ []) put quiet; agrees = (rests_on es ((es ++ stops n ∷ []) ++ told put) c.same made_is rests, c.images.none) }
+    record { stands = quiet_commands (es ++ stops n ∷ []) put quiet; agrees = (rests_on es ((es ++ stops n ∷ []) ++ told put) c.same made_is rests, c.images.none, off_unhooked stopped_cause es n put closing unhooked) }
 
--- START
+-- START: nothing was hooked
+none_at_start : (s : Start) (m : CommandsSoFar) → m.hooked ≡ [] → HasDrives m (state_at_start s)
+none_at_start s m none = record { are = ap (still_hooked []) (sym none); were = subst (AllByRecursion (WasHooked (state_at_start s))) (sym none) tt }
+
 starts_agrees : (es : List Event) (outs : List Out) (s : Start) (n : ℕ) → ScriptsAgree es outs course.ready →
     ScriptsAgree ((es ++ starts n s ∷ []) ++ told (enter 1 ∷ [])) (outs ++ step n ∷ enter 1 ∷ []) (course.running (state_at_start s) (first_script (lines_of (first_reading s.script))) [])
 starts_agrees es outs s n h =
@@ -158,7 +174,7 @@ starts_agrees es outs s n h =
     let is : so_far (es1 ++ told b) ≡ record no_commands { table = start_table s; up = is_up s; scripts = script_so_far (first_text s.script) None ∷ [] } = so_far_more es1 (puts (enter 1)) ∙ starts_so_far es n s h.0 in (
       record { scripts = record { same = ap (λ (m : CommandsSoFar). m.scripts) is; depths = ((refl, tt), omega arith) }; begun = told_begun es1 b ∙ begun_more es (starts n s) },
       subst (λ m. SettingsAre m (state_at_start s) false) (sym is) (record { table = refl; up = refl; now = refl; is_open = refl }),
-      record { list = ap (λ (m : CommandsSoFar). m.images) is; none = parts_more outs (step n ∷ b) h.1 (tt, (tt, tt)) },
+      record { list = ap (λ (m : CommandsSoFar). m.images) is; drives = none_at_start s (so_far (es1 ++ told b)) (ap (λ (m : CommandsSoFar). m.hooked) is); none = parts_more outs (step n ∷ b) h.1 (tt, (tt, tt)) },
       ap (λ (m : CommandsSoFar). m.left) is,
     )
 
@@ -214,10 +230,10 @@ step_scripts es outs m r added m2 (course.is_answered n s s2 w r0 put more over 
     step_as es outs u.event (n + 1) (put ++ (upshot_records (concluded_by s2 w.script.depth w.job x) ++ more)) (put ++ upshot_records (concluded_by s2 w.script.depth w.job x) ++ more) p (sym (append_assoc put (upshot_records (concluded_by s2 w.script.depth w.job x)) more))
     (answered_step es outs s s2 w (n + 1) r put more over x p net a answers some leads h)
 step_scripts es outs m r added m2 (course.switches_off n s w put over all) a answers h =
-    off_step es outs s w.script w.outer true (n + 1) put over all h.0 h.1 h.2 h.3 (waiting_rests es s w a.opens h.1.now h.4)
+    off_step es outs s w.script w.outer true (n + 1) put over all h.0 h.1 h.2 h.3 (waiting_rests es s w a.opens h.1.now h.4) (waiting_unhooked es s w a h.4)
 step_scripts es outs m r added m2 (course.resumes n s s2 inner outer r0 put over valid net) a answers h = resumes_step es outs s s2 inner outer (n + 1) r put over net a h
 step_scripts es outs m r added m2 (course.goes_off n s inner outer put over all) a answers h =
-    off_step es outs s inner outer false (n + 1) put over all h.0 h.1 h.2 h.3 (over_rests es h.1.is_open)
+    off_step es outs s inner outer false (n + 1) put over all h.0 h.1 h.2 h.3 (over_rests es h.1.is_open) (over_unhooked es h.1.is_open)
 
 -- A MOVE
 
@@ -257,23 +273,36 @@ hands_goes es outs s r rest still (silent, over, hands) = record {
   );
 }
 
+-- COMMAND, and the close of a drive
+dropped_state : (es : List Event) (s s2 : State) (inner : Running) (ws : List (List ℕ)) (number : ℕ) (put : List Out) → AgreesState es s → DropsDrive s number put s2 → AgreesState (es ++ told (command_record inner (shown_words s.table ws) ∷ put)) s2
+dropped_state es s s2 inner ws number put a drops =
+    let b = command_record inner (shown_words s.table ws) ∷ [] in
+    subst (λ z. AgreesState z s2) (sym (told_two es b put)) (drop_agrees (es ++ told b) s s2 number put (still_state es b s (tt, tt) a) drops)
+
 -- of each move
-pub move_scripts : (es : List Event) (outs : List Out) (m : Progress) (added : List Out) (m2 : Progress) → Proceeds m added m2 → AgreesStanding es m.standing → ScriptsAgree es outs m.standing → Goes es outs added m2.standing
-move_scripts es outs m added m2 (course.passes n s inner next outer comes) a h = passes_goes es outs s inner next outer comes h
-move_scripts es outs m added m2 (course.is_left n s inner outer cause comes) a h = left_goes es outs s inner outer cause h
-move_scripts es outs m added m2 (course.hands_back n s inner outer cause) a h = hands_back_goes es outs s inner outer cause h
-move_scripts es outs m added m2 (course.concludes_there n s inner outer c cs x put p comes few is leads) a h = there_goes es outs s inner outer (c ∷ cs) x put p a.opens few is leads h
-move_scripts es outs m added m2 (course.yields n s inner outer c cs comes full) a h = goes_nowhere es outs (course.yielded s inner outer) (h.0, h.1, h.2, h.3, full)
-move_scripts es outs m added m2 (course.does n s s2 inner outer c cs x comes few is stays) a h = does_goes es outs s s2 inner outer (c ∷ cs) x a.opens few is h
-move_scripts es outs m added m2 (course.closes_device n s s2 inner outer c cs put over comes few is all) a h = shuts_goes es outs s s2 inner outer (c ∷ cs) put over a.opens few is all h
-move_scripts es outs m added m2 (course.leaves n s s2 inner outer c cs x comes few is away) a h = leaves_goes es outs s s2 inner outer (c ∷ cs) x a.opens few is h
-move_scripts es outs m added m2 (course.jumps n s inner outer c cs name line comes few is there) a h = jumps_goes es outs s inner outer (c ∷ cs) name line a.opens few is there h
-move_scripts es outs m added m2 (course.finds_no_label n s inner outer c cs name comes few is none) a h = no_label_goes es outs s inner outer (c ∷ cs) name a.opens few is none h
-move_scripts es outs m added m2 (course.falls_asleep n s inner outer c cs t comes few is) a h = sleeps_goes es outs s inner outer (c ∷ cs) t a.opens few is h
-move_scripts es outs m added m2 (course.opens_one n s s2 inner outer c cs l job link put comes few is got first) a h = opens_goes es outs s s2 inner outer (c ∷ cs) l job link put (based es s a) few is first h
-move_scripts es outs m added m2 (course.finds_no_route n s s2 inner outer c cs l job link comes few is got none) a h = no_route_goes es outs s s2 inner outer (c ∷ cs) l job (based es s a) few is h
-move_scripts es outs m added m2 (course.opens_onward n s inner outer next link put few got first) a h = onward_goes es outs s inner outer next link put (based es s a) few first h
-move_scripts es outs m added m2 (course.finds_no_way n s inner outer next link few got none) a h = no_way_goes es outs s inner outer next (based es s a) h
-move_scripts es outs m added m2 (course.opens_no_more n s inner outer next full) a h = full_goes es outs s inner outer next (based es s a) full h
-move_scripts es outs m added m2 (course.hands n s r rest) a h = hands_goes es outs s r rest a.1.0 h
-move_scripts es outs m added m2 (course.has_handed n s) a h = goes_nowhere es outs (course.handed_off s) (h.1, h.2)
+pub move_scripts : (es : List Event) (outs : List Out) (m : Progress) (added : List Out) (m2 : Progress) → Proceeds m added m2 → AgreesStanding es m.standing → AgreesStanding (es ++ told added) m2.standing → ScriptsAgree es outs m.standing →
+    Goes es outs added m2.standing
+move_scripts es outs m added m2 (course.passes n s inner next outer comes) a b h = passes_goes es outs s inner next outer comes h
+move_scripts es outs m added m2 (course.is_left n s inner outer cause comes) a b h = left_goes es outs s inner outer cause h
+move_scripts es outs m added m2 (course.hands_back n s inner outer cause) a b h = hands_back_goes es outs s inner outer cause h
+move_scripts es outs m added m2 (course.concludes_there n s inner outer c cs x put p comes few is leads) a b h = there_goes es outs s inner outer (c ∷ cs) x put p a a.opens (lives_so es s a h.2.drives) few is leads h
+move_scripts es outs m added m2 (course.yields n s inner outer c cs comes full) a b h = goes_nowhere es outs (course.yielded s inner outer) (h.0, h.1, h.2, h.3, full)
+move_scripts es outs m added m2 (course.does n s s2 inner outer c cs x comes few is stays) a b h = does_goes es outs s s2 inner outer (c ∷ cs) x a.opens (lives_so es s a h.2.drives) few is h
+move_scripts es outs m added m2 (course.closes_device n s s2 inner outer c cs put over comes few is all) a b h = shuts_goes es outs s s2 inner outer (c ∷ cs) put over a.opens (lives_so es s a h.2.drives) few is all h
+move_scripts es outs m added m2 (course.goes_to_hook n s s2 inner outer c cs hooking put next comes few is drops next_asked) a b h =
+    hooks_goes es outs s s2 inner outer (c ∷ cs) hooking put next a.opens (lives_so es s a h.2.drives) (dropped_state es s s2 inner (c ∷ cs) hooking.number put a drops) few is drops next_asked h
+move_scripts es outs m added m2 (course.hooks_none n s s2 inner outer c cs hooking put cause comes few is drops next_asked) a b h =
+    hooks_none_goes es outs s s2 inner outer (c ∷ cs) hooking put cause a.opens (lives_so es s a h.2.drives) (dropped_state es s s2 inner (c ∷ cs) hooking.number put a drops) few is drops next_asked h
+move_scripts es outs m added m2 (course.unhooks n s s2 inner outer c cs number put cause comes few is drops) a b h =
+    unhooks_goes es outs s s2 inner outer (c ∷ cs) number put cause a.opens (lives_so es s a h.2.drives) few is drops h
+move_scripts es outs m added m2 (course.leaves n s s2 inner outer c cs x comes few is away) a b h = leaves_goes es outs s s2 inner outer (c ∷ cs) x a.opens (lives_so es s a h.2.drives) few is h
+move_scripts es outs m added m2 (course.jumps n s inner outer c cs name line comes few is there) a b h = jumps_goes es outs s inner outer (c ∷ cs) name line a.opens (lives_so es s a h.2.drives) few is there h
+move_scripts es outs m added m2 (course.finds_no_label n s inner outer c cs name comes few is none) a b h = no_label_goes es outs s inner outer (c ∷ cs) name a.opens (lives_so es s a h.2.drives) few is none h
+move_scripts es outs m added m2 (course.falls_asleep n s inner outer c cs t comes few is) a b h = sleeps_goes es outs s inner outer (c ∷ cs) t a.opens (lives_so es s a h.2.drives) few is h
+move_scripts es outs m added m2 (course.opens_one n s s2 inner outer c cs l job link put comes few is got first) a b h = opens_goes es outs s s2 inner outer (c ∷ cs) l job link put (based es s a) (lives_so es s a h.2.drives) few is first h
+move_scripts es outs m added m2 (course.finds_no_route n s s2 inner outer c cs l job link comes few is got none) a b h = no_route_goes es outs s s2 inner outer (c ∷ cs) l job (based es s a) (lives_so es s a h.2.drives) few is h
+move_scripts es outs m added m2 (course.opens_onward n s inner outer next link put few got first) a b h = onward_goes es outs s inner outer next link put (based es s a) (lives_so es s a h.2.drives) few first h
+move_scripts es outs m added m2 (course.finds_no_way n s inner outer next link few got none) a b h = no_way_goes es outs s inner outer next (based es s a) h
+move_scripts es outs m added m2 (course.opens_no_more n s inner outer next full) a b h = full_goes es outs s inner outer next (based es s a) full h
+move_scripts es outs m added m2 (course.hands n s r rest) a b h = hands_goes es outs s r rest a.1.0 h
+move_scripts es outs m added m2 (course.has_handed n s) a b h = goes_nowhere es outs (course.handed_off s) (h.1, h.2)

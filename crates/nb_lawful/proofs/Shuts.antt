@@ -8,14 +8,14 @@ use Rattle.nb_command.specs.declared.error.ApplyError.{ApplyError}
 use Rattle.nb_imagecmd.specs.declared.error.PlanError.{PlanError}
 use Rattle.nb_command.specs.Device.{device_change}
 use Rattle.nb_command.specs.Planning.{planned}
-use Rattle.nb_machine.specs.Effects.{Effect, says, asks, goes, sleeps, shuts_device, inquires, on_images, concludes_at_once, unless_full, device_effect, ShownWords, shown_as, effect, effect_in, Surroundings, settled_effect, words_effect, words_table, expansion, expanded_effect, expanded_table, plan_effect, plan_table, planned_effect, planned_table, table_after}
+use Rattle.nb_machine.specs.Effects.{Effect, says, asks, goes, sleeps, shuts_device, inquires, on_images, on_drives, hooks_disk, unhooks_drive, concludes_at_once, unless_full, device_effect, ShownWords, shown_as, effect, effect_in, Surroundings, settled_effect, words_effect, words_table, expansion, expanded_effect, expanded_table, plan_effect, plan_table, planned_effect, planned_table, table_after}
 use Rattle.nb_machine.specs.Queries.{for_lease}
 use Rattle.nb_machine.specs.Running.{Running}
 use Rattle.nb_machine.specs.Scripts.{surroundings}
 use Rattle.nb_machine.specs.States.{State}
-use Rattle.nb_machine.proofs.Eithers.{full_either, images_either, pinged_case, looked_up_case}
+use Rattle.nb_machine.proofs.Eithers.{full_either, images_either, pinged_case, looked_up_case, drives_either}
 use Rattle.nb_laws.specs.CommandsSoFar.{CommandsSoFar, shown_effect, surroundings_in, comes_by}
-use Rattle.nb_laws.proofs.Settling.{WordsAre, images_words, other_words, words_are, images_come, plain_comes}
+use Rattle.nb_laws.proofs.Settling.{WordsAre, images_words, other_words, words_are, images_come, plain_comes, drives_words, drives_stay}
 use Rattle.nb_openlaws.proofs.Doings.{comes_to}
 
 abbrev IsUpOn : Effect → Type 0
@@ -26,6 +26,9 @@ IsUpOn (asks wanted) = Unit {0}
 IsUpOn (goes name) = Unit {0}
 IsUpOn (inquires q) = Unit {0}
 IsUpOn (on_images c) = Unit {0}
+IsUpOn (on_drives c) = Unit {0}
+IsUpOn (hooks_disk hooking) = Unit {0}
+IsUpOn (unhooks_drive number cause) = Unit {0}
 IsUpOn (concludes_at_once c) = Unit {0}
 
 device_up_on : (e : Effect) → IsUpOn e → (r : Result Bool ApplyError) → IsUpOn (device_effect e r)
@@ -43,6 +46,7 @@ plan_shuts k j table (plan.Clear name) e = e
 plan_shuts k j table (plan.Show name) e = e
 plan_shuts k j table (plan.Inc name by) e = e
 plan_shuts k j table (plan.Images c) e = e
+plan_shuts k j table (plan.Drives c) e = e
 plan_shuts k j table (plan.Ifopen device) e = e
 plan_shuts k j table (plan.Ifclose device) e = e
 plan_shuts k j table (plan.Dhcp device) e = absurd (subst IsUpOn e (device_up_on (unless_full k (inquires for_lease)) (full_either IsUpOn (λ o. tt) k (inquires for_lease) tt) (device_change device true)))
@@ -76,6 +80,7 @@ comes_shuts k j m shown e = by (words_are m.table shown.expanded shown.words)
   where
     by : WordsAre m.table shown.expanded shown.words → comes_by j m shown ≡ shuts_device
     by (images_words c at keeps stays) = absurd (subst IsUpOn (sym (images_come k m shown c (at k)) ∙ e) (images_either IsUpOn (λ o. tt) (λ x. tt) (λ wanted. tt) (λ q. tt) (surroundings_in k m) c))
+    by (drives_words c at keeps stays) = drives_stay j k m shown c at ∙ e
     by (other_words plain) = plain_comes j m shown (plain j) ∙ shown_shuts k j m.table shown.expanded shown.words (sym (plain_comes k m shown (plain k)) ∙ e)
 
 -- IT LEAVES THE SETTINGS
@@ -92,6 +97,7 @@ plan_keeps k table (plan.Isset word) e = refl
 plan_keeps k table (plan.Iseq a b) e = refl
 plan_keeps k table (plan.Show name) e = refl
 plan_keeps k table (plan.Images c) e = refl
+plan_keeps k table (plan.Drives c) e = refl
 plan_keeps k table (plan.Ifopen device) e = refl
 plan_keeps k table (plan.Ifclose device) e = refl
 plan_keeps k table (plan.Dhcp device) e = refl
@@ -116,6 +122,9 @@ written_keeps k table ws e = expanded_keeps k table (expansion table ws) e
 
 settled_shuts : (x : Surroundings) (e : Effect) → settled_effect x e ≡ shuts_device → e ≡ shuts_device
 settled_shuts x (on_images c) is = absurd (subst IsUpOn is (images_either IsUpOn (λ o. tt) (λ y. tt) (λ wanted. tt) (λ q. tt) x c))
+settled_shuts x (on_drives c) is = absurd (subst IsUpOn is (drives_either IsUpOn (λ o. tt) (λ hooking. tt) (λ number cause. tt) x c))
+settled_shuts x (hooks_disk hooking) is = is
+settled_shuts x (unhooks_drive number cause) is = is
 settled_shuts x (says o) is = is
 settled_shuts x (asks wanted) is = is
 settled_shuts x (goes name) is = is

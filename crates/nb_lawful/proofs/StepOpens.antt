@@ -2,6 +2,7 @@
 use Rattle.std.proofs.Common.{◌≡◌, ℕ, ◌+◌, true, false, List, [], ◌∷◌, ◌++◌, Some, refl, sym, ◌∙◌, ap, subst, append_assoc, append-nil}
 use Rattle.std.proofs.lemmas.List.Sums.{fold-append}
 use Rattle.nb_defs.specs.Records.{In, Out, enter, leave, result}
+use Rattle.nb_defs.specs.Causes.{ok}
 use Rattle.nb_image.specs.Images.{ImageList}
 use Rattle.nb_machine.specs.Conclusions.{boots}
 use Rattle.nb_machine.specs.Running.{Running, anew}
@@ -10,11 +11,11 @@ use Rattle.nb_machine.specs.Lives.{close}
 use Rattle.nb_machine.specs.States.{State}
 use Rattle.nb_machine.specs.Takings.{Over, AllTake}
 use Rattle.nb_machine.specs.Network.{Network}
-use Rattle.nb_machine.specs.Scripts.{Answer, Waiting, answer_in, Upshot, concludes, settles, goes_onward, upshot_records, concluded_by}
+use Rattle.nb_machine.specs.Scripts.{Answer, Waiting, answer_in, Upshot, concludes, settles, goes_onward, upshot_records, concluded_by, hooks_drive}
 use Rattle.nb_machine.specs.Courses as course
 use Rattle.nb_machine.specs.Courses.{Standing, Progress, LeadsTo, StepBegins}
 use Rattle.nb_laws.specs.Events.{Event, starts, hears, waits, stops, puts}
-use Rattle.nb_laws.specs.Endings.{off_by, is_off, by_stop}
+use Rattle.nb_laws.specs.Endings.{off_by, is_off, by_stop, closes_off}
 use Rattle.nb_laws.specs.Frames.{TriesSo}
 use Rattle.nb_laws.specs.Progress.{AdvancesSo, IsAdvanced}
 use Rattle.nb_laws.specs.Agreement.{AreStill}
@@ -23,7 +24,7 @@ use Rattle.nb_laws.proofs.Histories.{client_stops}
 use Rattle.nb_laws.proofs.Tellings.{told}
 use Rattle.nb_openlaws.specs.Standings.{AreLive, AgreesState, AgreesDevice}
 use Rattle.nb_openlaws.proofs.NetworkDevices.{device_follows}
-use Rattle.nb_openlaws.specs.OpenEndings.{OpensEndSo, FramesSo, by_itself, closes_off}
+use Rattle.nb_openlaws.specs.OpenEndings.{OpensEndSo, FramesSo, by_itself}
 use Rattle.nb_openlaws.specs.OpenReasons.{OpensAgree, OpenReasons}
 use Rattle.nb_openlaws.proofs.Takings.{grown}
 use Rattle.nb_openlaws.proofs.UsedEvents.{IsUsed, used_same, made_used, hardware_used}
@@ -68,17 +69,20 @@ answers_so ins outs es m t k = by m.standing t k
 still_upshot : (u : Upshot) → AreStill (upshot_records u)
 still_upshot (concludes c) = still_conclusion c
 still_upshot (settles x) = (tt, tt)
+still_upshot (hooks_drive d) = (tt, tt)
 still_upshot (goes_onward next) = tt
 
 unsent_upshot : (u : Upshot) → AreUnsent (upshot_records u)
 unsent_upshot (concludes c) = unsent_conclusion c
 unsent_upshot (settles x) = (tt, tt)
+unsent_upshot (hooks_drive d) = (tt, tt)
 unsent_upshot (goes_onward next) = tt
 
 leads_reasons : (es : List Event) (s : State) (inner : Running) (outer : List Running) (u : Upshot) (more : List Out) (p : Standing) → LeadsTo s inner outer u more p → AgreesState es s → AgreesDevice es s → AreKept s.live → IsAdvanced (es ++ told (upshot_records u)) →
     ((list : ImageList) (kernel : ℕ) → u ≡ concludes (boots list kernel) → BootsBy es s list kernel) → OpenReasons (es ++ told (upshot_records u)) more
 leads_reasons es s inner outer (concludes c) more p leads a d k adv booted = conclusion_reasons es s inner outer c more p leads a d k adv (λ list kernel same. booted list kernel (ap concludes same))
 leads_reasons es s inner outer (settles x) more p (none, is) a d k adv booted = subst (OpenReasons (es ++ told (result x.cause ∷ []))) (sym none) (no_reasons (es ++ told (result x.cause ∷ [])) adv)
+leads_reasons es s inner outer (hooks_drive x) more p (none, is) a d k adv booted = subst (OpenReasons (es ++ told (result ok ∷ []))) (sym none) (no_reasons (es ++ told (result ok ∷ [])) adv)
 leads_reasons es s inner outer (goes_onward next) more p (none, is) a d k adv booted = subst (OpenReasons (es ++ told [])) (sym none) (no_reasons (es ++ told []) adv)
 
 answered_reasons : (es : List Event) (outs : List Out) (s s2 : State) (w : Waiting) (n : ℕ) (r : In) (put more : List Out) (over : List Over) (x : Answer) (p : Standing) (net : Network s n r put s2 over) (o : OpensAgree es s) → answer_in s2 r over w.awaited ≡ Some x →

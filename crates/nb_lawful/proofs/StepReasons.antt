@@ -1,5 +1,5 @@
 -- Why a record may be used: each step has its place among them, and comes where the scripts wait.
-use Rattle.std.proofs.Common.{◌≡◌, ℕ, ◌+◌, List, [], ◌∷◌, ◌++◌, length, refl, sym, ◌∙◌, ap, subst, arith}
+use Rattle.std.proofs.Common.{◌≡◌, ℕ, ◌+◌, List, [], ◌∷◌, ◌++◌, length, refl, sym, ◌∙◌, ap, subst, arith, true}
 use Rattle.std.proofs.lemmas.List.{length-append}
 use Rattle.nb_defs.specs.Records.{In, Out, step}
 use Rattle.nb_machine.specs.Lives.{Live}
@@ -11,12 +11,13 @@ use Rattle.nb_laws.specs.Events.{Event, starts, hears, waits, stops, puts, input
 use Rattle.nb_laws.specs.Progress.{NoneIsAnswered, IsStep, IsResumed, by_live, by_count, by_sleep, StepsSo}
 use Rattle.nb_laws.proofs.SoFar.{nothing_so_far}
 use Rattle.nb_laws.proofs.Settling.{over_rests}
-use Rattle.nb_laws.specs.CommandsSoFar.{CommandsSoFar}
+use Rattle.nb_laws.specs.CommandsSoFar.{CommandsSoFar, so_far}
+use Rattle.nb_laws.specs.Hookings.{NoneIsHooked}
 use Rattle.nb_openlaws.specs.Standings.{AgreesLive, AreLive, live_opening, AgreesState, AgreesStanding}
 use Rattle.nb_openlaws.proofs.UsedEvents.{IsUsed, IsFurther, live_one}
 use Rattle.nb_openlaws.proofs.Networks.{network_agrees}
 use Rattle.nb_openlaws.proofs.Courses.{step_event}
-use Rattle.nb_lawful.specs.ScriptAgreement.{IsAwaited, AwaitsSo, awaits_time, awaits_file, awaits_query, ScriptsAgree}
+use Rattle.nb_lawful.specs.ScriptAgreement.{IsAwaited, AwaitsSo, awaits_time, awaits_file, awaits_query, ScriptsAgree, awaits_host, awaits_drive}
 use Rattle.nb_lawful.proofs.Resting.{waiting_rests, sleeping_comes}
 
 -- THE COUNT
@@ -38,6 +39,9 @@ move_counts m added m2 (course.concludes_there n s inner outer c cs x put p come
 move_counts m added m2 (course.yields n s inner outer c cs comes full) = refl
 move_counts m added m2 (course.does n s s2 inner outer c cs x comes few is stays) = refl
 move_counts m added m2 (course.closes_device n s s2 inner outer c cs put over comes few is all) = refl
+move_counts m added m2 (course.goes_to_hook n s s2 inner outer c cs hooking put next comes few is drops asks) = refl
+move_counts m added m2 (course.hooks_none n s s2 inner outer c cs hooking put cause comes few is drops asks) = refl
+move_counts m added m2 (course.unhooks n s s2 inner outer c cs number put cause comes few is drops) = refl
 move_counts m added m2 (course.leaves n s s2 inner outer c cs x comes few is away) = refl
 move_counts m added m2 (course.jumps n s inner outer c cs name line comes few is there) = refl
 move_counts m added m2 (course.finds_no_label n s inner outer c cs name comes few is none) = refl
@@ -62,18 +66,20 @@ last_lives es [] l h = h.0
 last_lives es (x ∷ earlier) l h = last_lives es earlier l h.1
 
 -- the command's open lives
-awaited_lives : (es : List Event) (s : State) (w : Waiting) (l : Live) → AgreesState es s → IsAwaited es s w l → IsResumed es
-awaited_lives es s w l a at =
+awaited_lives : (es : List Event) (s : State) (w : Waiting) (l : Live) → AgreesState es s → (so_far es).is_open ≡ true → IsAwaited es s w l → IsResumed es
+awaited_lives es s w l a still at =
     let k = last_lives es at.earlier l (subst (AreLive es) at.last a.each) in
-    by_live l.number (live_opening l) (live_one l.number es (live_opening l) k.opening k.lives)
+    by_live l.number (live_opening l) (live_one l.number es (live_opening l) k.opening k.lives) still at.its
 
 pub waiting_resumes : (es : List Event) (outs : List Out) (s : State) (w : Waiting) → AgreesState es s → ScriptsAgree es outs (course.waiting s w) → IsResumed es
 waiting_resumes es outs s w a h = by h.4
   where
     by : AwaitsSo es s w → IsResumed es
     by (awaits_time until at job none t) = by_sleep t.seconds h.1.is_open (sleeping_comes es s until t)
-    by (awaits_file l wanted at job f) = awaited_lives es s w l a at
-    by (awaits_query l query at job q) = awaited_lives es s w l a at
+    by (awaits_file l wanted at number job f) = awaited_lives es s w l a h.1.is_open at
+    by (awaits_query l query at number job q) = awaited_lives es s w l a h.1.is_open at
+    by (awaits_host l hooking at number job q gone) = awaited_lives es s w l a h.1.is_open at
+    by (awaits_drive l hooking at number job q gone) = awaited_lives es s w l a h.1.is_open at
 
 -- an event of this number that is used after START's
 further_step : (es : List Event) (e : Event) (n : ℕ) → IsUsed e → IsFurther e → written_by e ≡ step n → IsStep es n → IsResumed es → StepsSo es e
@@ -84,22 +90,22 @@ further_step es (stops k) n used further is follows resumes = let same : k ≡ n
 further_step es (puts o) n used further is follows resumes = absurd used
 
 -- each record that is used has its place
-pub step_stands : (es : List Event) (outs : List Out) (m : Progress) (r : In) (added : List Out) (m2 : Progress) (begins : StepBegins m r added m2) (a : AgreesStanding es m.standing) → m.used ≡ length (inputs es) → NoneIsAnswered es → ScriptsAgree es outs m.standing →
+pub step_stands : (es : List Event) (outs : List Out) (m : Progress) (r : In) (added : List Out) (m2 : Progress) (begins : StepBegins m r added m2) (a : AgreesStanding es m.standing) → m.used ≡ length (inputs es) → NoneIsAnswered es → NoneIsHooked es → ScriptsAgree es outs m.standing →
     StepsSo es (step_event es m r added m2 begins a)
-step_stands es outs m r added m2 (course.runs n s code valid reads) a counted none h =
-    (record { counted = ap (λ z. z + 1) counted; unfinished = none; rested = over_rests es (ap (λ (x : CommandsSoFar). x.is_open) (nothing_so_far es h.0)) }, h.0)
-step_stands es outs m r added m2 (course.refuses n s cause valid refuses) a counted none h =
-    (record { counted = ap (λ z. z + 1) counted; unfinished = none; rested = over_rests es (ap (λ (x : CommandsSoFar). x.is_open) (nothing_so_far es h.0)) }, h.0)
-step_stands es outs m r added m2 (course.waits_on n s s2 w r0 put over valid net unanswered) a counted none h =
+step_stands es outs m r added m2 (course.runs n s code valid reads) a counted none unhooked h =
+    (record { counted = ap (λ z. z + 1) counted; unfinished = none; unhooked = unhooked; rested = over_rests es (ap (λ (x : CommandsSoFar). x.is_open) (nothing_so_far es h.0)) }, h.0)
+step_stands es outs m r added m2 (course.refuses n s cause valid refuses) a counted none unhooked h =
+    (record { counted = ap (λ z. z + 1) counted; unfinished = none; unhooked = unhooked; rested = over_rests es (ap (λ (x : CommandsSoFar). x.is_open) (nothing_so_far es h.0)) }, h.0)
+step_stands es outs m r added m2 (course.waits_on n s s2 w r0 put over valid net unanswered) a counted none unhooked h =
     let u = network_agrees es s (n + 1) r put s2 over net a in
-    further_step es u.event (n + 1) u.used u.further u.is_step (record { counted = ap (λ z. z + 1) counted; unfinished = none; rested = waiting_rests es s w a.opens h.1.now h.4 }) (waiting_resumes es outs s w a h)
-step_stands es outs m r added m2 (course.is_answered n s s2 w r0 put more over x p valid net some leads) a counted none h =
+    further_step es u.event (n + 1) u.used u.further u.is_step (record { counted = ap (λ z. z + 1) counted; unfinished = none; unhooked = unhooked; rested = waiting_rests es s w a.opens h.1.now h.4 }) (waiting_resumes es outs s w a h)
+step_stands es outs m r added m2 (course.is_answered n s s2 w r0 put more over x p valid net some leads) a counted none unhooked h =
     let u = network_agrees es s (n + 1) r put s2 over net a in
-    further_step es u.event (n + 1) u.used u.further u.is_step (record { counted = ap (λ z. z + 1) counted; unfinished = none; rested = waiting_rests es s w a.opens h.1.now h.4 }) (waiting_resumes es outs s w a h)
-step_stands es outs m r added m2 (course.switches_off n s w put over all) a counted none h =
-    (record { counted = ap (λ z. z + 1) counted; unfinished = none; rested = waiting_rests es s w a.opens h.1.now h.4 }, waiting_resumes es outs s w a h)
-step_stands es outs m r added m2 (course.resumes n s s2 inner outer r0 put over valid net) a counted none h =
+    further_step es u.event (n + 1) u.used u.further u.is_step (record { counted = ap (λ z. z + 1) counted; unfinished = none; unhooked = unhooked; rested = waiting_rests es s w a.opens h.1.now h.4 }) (waiting_resumes es outs s w a h)
+step_stands es outs m r added m2 (course.switches_off n s w put over all) a counted none unhooked h =
+    (record { counted = ap (λ z. z + 1) counted; unfinished = none; unhooked = unhooked; rested = waiting_rests es s w a.opens h.1.now h.4 }, waiting_resumes es outs s w a h)
+step_stands es outs m r added m2 (course.resumes n s s2 inner outer r0 put over valid net) a counted none unhooked h =
     let u = network_agrees es s (n + 1) r put s2 over net a in
-    further_step es u.event (n + 1) u.used u.further u.is_step (record { counted = ap (λ z. z + 1) counted; unfinished = none; rested = over_rests es h.1.is_open }) (by_count (h.0.begun ∙ h.4) h.1.is_open)
-step_stands es outs m r added m2 (course.goes_off n s inner outer put over all) a counted none h =
-    (record { counted = ap (λ z. z + 1) counted; unfinished = none; rested = over_rests es h.1.is_open }, by_count (h.0.begun ∙ h.4) h.1.is_open)
+    further_step es u.event (n + 1) u.used u.further u.is_step (record { counted = ap (λ z. z + 1) counted; unfinished = none; unhooked = unhooked; rested = over_rests es h.1.is_open }) (by_count (h.0.begun ∙ h.4) h.1.is_open)
+step_stands es outs m r added m2 (course.goes_off n s inner outer put over all) a counted none unhooked h =
+    (record { counted = ap (λ z. z + 1) counted; unfinished = none; unhooked = unhooked; rested = over_rests es h.1.is_open }, by_count (h.0.begun ∙ h.4) h.1.is_open)

@@ -23,13 +23,14 @@ use Rattle.nb_laws.proofs.Moved.{moves_more}
 use Rattle.nb_laws.proofs.SoFar.{so_far_more}
 use Rattle.nb_openlaws.proofs.UsedEvents.{IsUsed, IsFurther}
 use Rattle.nb_openlaws.proofs.Puts.{AreQuiet, take_quiet}
-use Rattle.nb_lawful.specs.CommandOpens.{CommandOpen, command_open_by, command_open}
+use Rattle.nb_laws.specs.CommandOpens.{CommandOpen, command_open_by, command_open}
 use Rattle.nb_lawful.specs.Results.{CommandsSo}
-use Rattle.nb_lawful.specs.ScriptAgreement.{SettingsAre, IsAnother, HasImages, NoneLeft}
+use Rattle.nb_lawful.specs.ScriptAgreement.{SettingsAre, IsAnother, HasImages, NoneLeft, HasDrives}
 use Rattle.nb_lawful.proofs.Quiet.{reply_quiet, quiet_so_far, quiet_begin, quiet_parts, quiet_scripts, command_open_more}
 use Rattle.nb_lawful.proofs.Awaited.{IsBeside, AreBeside, last_view, others_took, with_exchanges, Took, took_on, took_last, snoc_both, took}
 use Rattle.nb_lawful.proofs.AtOnce.{images_as}
 use Rattle.nb_lawful.proofs.Opened.{told_hardware}
+use Rattle.nb_lawful.proofs.HookedLives.{KeepsSome, drives_keep, network_keeps}
 
 -- WHAT THE NETWORK LEAVES
 
@@ -40,13 +41,27 @@ pub record Leaves (s s' : State) (put : List Out) : Type 0 where
   pub images : s'.images ≡ s.images
   pub opens : s'.opens ≡ s.opens
   pub quiet : AreQuiet put
+  pub some : (m : CommandsSoFar) → HasDrives m s → KeepsSome s s'
+
+-- all but the drives
+record LeavesRest (s s' : State) (put : List Out) : Type 0 where
+  table : s'.table ≡ s.table
+  up : s'.up ≡ s.up
+  images : s'.images ≡ s.images
+  opens : s'.opens ≡ s.opens
+  quiet : AreQuiet put
+
+network_rest : (s s' : State) (n : ℕ) (r : In) (put : List Out) (over : List Over) → Network s n r put s' over → LeavesRest s s' put
+network_rest s s' n r put over (passes_by _ device bytes link m on got brought none) = record { table = refl; up = refl; images = refl; opens = refl; quiet = reply_quiet (reply_beside device s.live link m) }
+network_rest s s' n r put over (brings _ device bytes link p d before behind after l _ _ on got brought is mine before_none behind_none takes) = record { table = refl; up = refl; images = refl; opens = refl; quiet = take_quiet _ _ _ _ _ _ takes }
+network_rest s s' n r put over (brings_reply _ device bytes link p e before behind after l _ _ on got brought is mine before_none behind_none takes) = record { table = refl; up = refl; images = refl; opens = refl; quiet = take_quiet _ _ _ _ _ _ takes }
+network_rest s s' n r put over (brings_segment _ device bytes link from p g before behind after l _ _ on got brought is mine before_none behind_none takes) = record { table = refl; up = refl; images = refl; opens = refl; quiet = take_quiet _ _ _ _ _ _ takes }
+network_rest s s' n r put over (passes_time ms after _ _ takes) = record { table = refl; up = refl; images = refl; opens = refl; quiet = take_quiet _ _ _ _ _ _ takes }
 
 pub network_leaves : (s s' : State) (n : ℕ) (r : In) (put : List Out) (over : List Over) → Network s n r put s' over → Leaves s s' put
-network_leaves s s' n r put over (passes_by _ device bytes link m on got brought none) = record { table = refl; up = refl; images = refl; opens = refl; quiet = reply_quiet (reply_beside device s.live link m) }
-network_leaves s s' n r put over (brings _ device bytes link p d before behind after l _ _ on got brought is mine before_none behind_none takes) = record { table = refl; up = refl; images = refl; opens = refl; quiet = take_quiet _ _ _ _ _ _ takes }
-network_leaves s s' n r put over (brings_reply _ device bytes link p e before behind after l _ _ on got brought is mine before_none behind_none takes) = record { table = refl; up = refl; images = refl; opens = refl; quiet = take_quiet _ _ _ _ _ _ takes }
-network_leaves s s' n r put over (brings_segment _ device bytes link from p g before behind after l _ _ on got brought is mine before_none behind_none takes) = record { table = refl; up = refl; images = refl; opens = refl; quiet = take_quiet _ _ _ _ _ _ takes }
-network_leaves s s' n r put over (passes_time ms after _ _ takes) = record { table = refl; up = refl; images = refl; opens = refl; quiet = take_quiet _ _ _ _ _ _ takes }
+network_leaves s s' n r put over net =
+    let rest = network_rest s s' n r put over net in
+    record { table = rest.table; up = rest.up; images = rest.images; opens = rest.opens; quiet = rest.quiet; some = λ m h. network_keeps m s s' n r put over net rest.opens h }
 
 -- THE COMMAND'S OPEN
 
@@ -165,7 +180,7 @@ comes es outs s s' inner outer still n e put used further leaves now script sett
       script = script_told es1 put (anew inner) outer (quiet_scripts put leaves.quiet) (quiet_begin (commands_begun es1) put leaves.quiet) (script_used es e inner outer (t.scripts es (so_far es)) (t.begun (commands_begun es)) script);
       same = same;
       settings = subst (λ m. SettingsAre m s' still) (sym same) (record { table = settings.table ∙ sym leaves.table; up = settings.up ∙ sym leaves.up; now = ap (λ z. z + ms_of e) settings.now ∙ sym now; is_open = settings.is_open });
-      images = images_as es (es1 ++ told put) outs (step n ∷ put) s s' (ap (λ (m : CommandsSoFar). m.images) same) leaves.images (tt, quiet_parts put leaves.quiet) images;
+      images = images_as es (es1 ++ told put) outs (step n ∷ put) s s' (ap (λ (m : CommandsSoFar). m.images) same) leaves.images (drives_keep (so_far es) (so_far (es1 ++ told put)) s s' (ap (λ (m : CommandsSoFar). m.hooked) same) (leaves.some (so_far es) images.drives) images.drives) (tt, quiet_parts put leaves.quiet) images;
       none_left = ap (λ (m : CommandsSoFar). m.left) same ∙ none_left;
       hard = told_hardware es1 put ∙ hardware_more es e ∙ t.same_hardware es;
       opens = used_command_open es e used;

@@ -3,14 +3,15 @@ use Rattle.std.specs.Prelude.{List, []}
 use Rattle.nb_laws.specs.Events.{Event, outputs, EachEvent, EachThen}
 use Rattle.nb_laws.specs.Frames.{TriesSo}
 use Rattle.nb_lawful.specs.ScriptAgreement.{HandsWhatCame}
+use Rattle.nb_laws.specs.Hookings.{NoneIsHooked}
 use Rattle.nb_laws.specs.Progress.{StepsSo, AdvancesSo, IsAdvanced, NoneIsAnswered, NoneOversleeps}
 use Rattle.nb_openlaws.specs.OpenEndings.{OpensEndSo, FramesSo}
 use Rattle.nb_lawful.specs.Results.{CommandsSo}
 
 pub record KeepsLaws (es : List Event) : Type 0 where
   -- each STEP has its record's place among those used, and when a record is used what no live open asks for has come, as a whole
-  -- file, and no sleep is over;
-  -- START is used first, and each other record while an open lives or a command sleeps, or where the step before had 4,096 COMMANDs
+  -- file, no disk has answered that a command hooks, and no sleep is over;
+  -- START is used first, and each other record while an open of a command lives or a command sleeps, or where the step before had 4,096 COMMANDs
   pub steps : EachEvent StepsSo [] es
   -- each ENDED has its cause in the records so far, and is Ok exactly where what the open asks for has come: its file is whole, or was
   -- moved, an address or a lease was given, or the host has replied
@@ -29,6 +30,8 @@ pub record KeepsLaws (es : List Event) : Type 0 where
   pub advanced : IsAdvanced es
   -- and what no live open asks for has come: it ended in that step
   pub unfinished : NoneIsAnswered es
+  -- nor has a disk answered that a command hooks: that had its result in that step
+  pub unhooked : NoneIsHooked es
   -- nor is a sleep over: its command ended in that step
   pub rested : NoneOversleeps es
   -- all PARTs are the hand-off's, of the images that the commands have left in the list, the selected one first

@@ -1,6 +1,5 @@
-pub mod CommandOpens
-pub mod OpenPurposes
 pub mod Results
 pub mod ScriptAgreement
 pub mod Lawful
 pub mod StateByLists
+pub mod CourseEvents

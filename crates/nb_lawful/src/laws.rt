@@ -10,6 +10,7 @@ ghost use Rattle.nb_machine.specs.Courses.{waiting, handed_off, Progress, stands
 ghost use Rattle.nb_machine.specs.Scripts.{Waiting};
 ghost use Rattle.nb_machine.specs.States.{State};
 ghost use Rattle.nb_openlaws.specs.Standings.{AgreesStanding};
+ghost use Rattle.nb_lawful.specs.CourseEvents.{HasEvents};
 ghost use Rattle.nb_lawful.specs.Lawful.{KeepsLaws};
 ghost use Rattle.nb_lawful.specs.ScriptAgreement.{ScriptsAgree};
 ghost use Rattle.nb_lawful.specs.StateByLists.{IsStateBy};
@@ -27,6 +28,12 @@ pub fn courses_are_lawful()
         → IsHistory ins outs es → AgreesStanding es p.standing × ScriptsAgree es outs p.standing }
     ensures hands_off { (ins : List In) (outs : List Out) (n : ℕ) (s : State) (es : List Event)
         → Course ins outs (stands n (handed_off s)) → IsHistory ins outs es → HandsOff es outs [] }
+{}
+
+/// The records of a course are those of a list of events. It says, of where the course stands, the time, how many opens
+/// were made, and of each that lives all that has come to it: what that open asks for isn't among it.
+pub fn courses_have_events()
+    ensures { (ins : List In) (outs : List Out) (p : Progress) → Course ins outs p → HasEvents ins outs p.standing }
 {}
 
 /// Where a command waits, the history of the records says the time, the device with its neighbours, the

@@ -6,4 +6,6 @@
 
 mod laws;
 
-pub use laws::{courses_are_lawful, courses_keep_todays_laws, state_by_the_lists};
+pub use laws::{
+    courses_are_lawful, courses_have_events, courses_keep_todays_laws, state_by_the_lists,
+};

@@ -4,17 +4,17 @@ use Rattle.nb_imagecmd.specs.declared.asking.Asking.{Asking}
 use Rattle.nb_imagecmd.specs.declared.error.ImageFailure.{ImageFailure}
 use Rattle.nb_imagecmd.specs.Asking.{target_host}
 use Rattle.nb_settings.specs.Tables.{TableLists}
-use Rattle.nb_machine.specs.Effects.{Effect, says, asks, goes, sleeps, shuts_device, inquires, on_images, concludes_at_once, next_effect, next_moved, ShownWords}
-use Rattle.nb_machine.specs.Errands.{Errand, fetches_then}
+use Rattle.nb_machine.specs.Effects.{Effect, says, asks, goes, sleeps, shuts_device, inquires, on_images, on_drives, hooks_disk, unhooks_drive, concludes_at_once, next_effect, next_moved, ShownWords}
+use Rattle.nb_machine.specs.Errands.{Errand, fetches_then, hooks_then}
 use Rattle.nb_machine.specs.Queries.{Query, for_host}
 use Rattle.nb_machine.proofs.Eithers.{host_either}
-use Rattle.nb_laws.specs.CommandsSoFar.{CommandsSoFar, shown_effect, shown_table, shown_query, left_table, comes_by, asking_in, asking_after, effect_moved, comes_after, concluded_in, query_in}
+use Rattle.nb_laws.specs.CommandsSoFar.{CommandsSoFar, shown_effect, shown_table, shown_query, left_table, comes_by, asking_in, asking_after, effect_moved, comes_after, concluded_in, query_in, hooking_in}
 use Rattle.nb_laws.specs.Events.{Event}
 use Rattle.nb_laws.specs.Lists.{made}
 use Rattle.nb_laws.specs.Moves.{MovedOpen}
 use Rattle.nb_laws.proofs.Fetching.{plain_asks}
 use Rattle.nb_laws.proofs.Moved.{asking_asks, after_either}
-use Rattle.nb_laws.proofs.Settling.{IsNoFetch, AsksFile, LeavesTable, WordsAre, images_words, other_words, words_are, plain_comes, comes_sleeps, comes_stays, comes_keeps, concludes_same}
+use Rattle.nb_laws.proofs.Settling.{IsNoFetch, AsksFile, LeavesTable, WordsAre, images_words, drives_words, other_words, words_are, plain_comes, comes_sleeps, comes_stays, comes_keeps, concludes_same, hooks_same, LooksUpNoDisk, looks_up_no_disk, same_errand, no_errand}
 use Rattle.nb_laws.proofs.SoFar.{left_unasked, left_by_host}
 use Rattle.nb_laws.proofs.Stays.{Stays, IsAsking, host_stays}
 use Rattle.std.proofs.lemmas.Option.{none-some}
@@ -44,6 +44,9 @@ asking_leaves (goes name) is = absurd is
 asking_leaves (sleeps seconds) is = absurd is
 asking_leaves shuts_device is = absurd is
 asking_leaves (on_images c) is = absurd is
+asking_leaves (on_drives c) is = absurd is
+asking_leaves (hooks_disk hooking) is = tt
+asking_leaves (unhooks_drive number cause) is = absurd is
 asking_leaves (concludes_at_once c) is = absurd is
 
 -- the settings, where its words ask for a file
@@ -61,6 +64,7 @@ asked_query j m shown asking is = by (words_are m.table shown.expanded shown.wor
   where
     by : WordsAre m.table shown.expanded shown.words → query_in (shown_effect j m.table shown) ≡ None
     by (images_words c at keeps stays) = ap query_in (at j)
+    by (drives_words c at keeps stays) = ap query_in (at j)
     by (other_words plain) = absurd (none-some asking (sym (ap asking_in (plain_comes 0 m shown (plain 0)) ∙ plain_asks (shown_effect 0 m.table shown) (plain 0)) ∙ is))
 
 pub asked_leaves : (es : List Event) (m : CommandsSoFar) (shown : ShownWords) (asking : Asking) → m.shown ≡ Some shown → asking_in (comes_by 0 m shown) ≡ Some asking → left_table es m.table m.shown ≡ shown_table m.table m.shown
@@ -82,6 +86,9 @@ asking_concludes (goes name) is = absurd is
 asking_concludes (sleeps seconds) is = absurd is
 asking_concludes shuts_device is = absurd is
 asking_concludes (on_images c) is = absurd is
+asking_concludes (on_drives c) is = absurd is
+asking_concludes (hooks_disk hooking) is = refl
+asking_concludes (unhooks_drive number cause) is = absurd is
 asking_concludes (concludes_at_once c) is = absurd is
 
 pub asked_none : (k : ℕ) (m : CommandsSoFar) (shown : ShownWords) (asking : Asking) → asking_in (comes_by 0 m shown) ≡ Some asking → concluded_in (comes_by k m shown) ≡ None
@@ -102,6 +109,16 @@ pub after_plainly : (k : ℕ) (m : CommandsSoFar) (shown : ShownWords) (ms : Lis
 after_plainly k m shown ms q none is = after_either (λ e. e ≡ inquires q → comes_by k m shown ≡ inquires q) k m shown ms
     (λ here. here) (λ first at moved. absurd (subst AsksFile moved (moved_fetches k m.table (asking_after first ms)) none)) is
 
+moved_looks_up : (k : ℕ) (table : TableLists) (r : Result Asking ImageFailure) → LooksUpNoDisk (next_effect (next_moved k table r))
+moved_looks_up k table (Ok asking) = host_either LooksUpNoDisk (λ o hooking name by is. absurd (cc)) k table (target_host asking.target) (fetches_then asking)
+    (λ own server hooking name by is. absurd (no_errand asking hooking (same_errand (fetches_then asking) (hooks_then hooking) own name server by is))) (λ address hooking name by is. absurd (cc))
+moved_looks_up k table (Err why) = λ hooking name by is. absurd (cc)
+
+-- nor once its file was moved
+pub looks_up_no_disk_after : (k : ℕ) (m : CommandsSoFar) (shown : ShownWords) (ms : List MovedOpen) → LooksUpNoDisk (comes_after k m shown ms)
+looks_up_no_disk_after k m shown ms = after_either (λ e. LooksUpNoDisk e) k m shown ms
+    (looks_up_no_disk k m shown) (λ first at. moved_looks_up k m.table (asking_after first ms))
+
 -- where they ask for no file, nothing is moved
 pub unasked_after : (k : ℕ) (m : CommandsSoFar) (shown : ShownWords) (ms : List MovedOpen) → asking_in (comes_by 0 m shown) ≡ None → comes_after k m shown ms ≡ comes_by k m shown
 unasked_after k m shown [] none = refl
@@ -116,9 +133,12 @@ IsNext (goes name) = ⊥
 IsNext (sleeps seconds) = ⊥
 IsNext shuts_device = ⊥
 IsNext (on_images c) = ⊥
+IsNext (on_drives c) = ⊥
+IsNext (hooks_disk hooking) = ⊥
+IsNext (unhooks_drive number cause) = ⊥
 IsNext (concludes_at_once c) = ⊥
 
-moved_next : (k : ℕ) (table : TableLists) (r : Result Asking ImageFailure) → IsNext (next_effect (next_moved k table r))
+pub moved_next : (k : ℕ) (table : TableLists) (r : Result Asking ImageFailure) → IsNext (next_effect (next_moved k table r))
 moved_next k table (Ok asking) = host_either IsNext (λ o. tt) k table (target_host asking.target) (fetches_then asking) (λ name by. tt) (λ address. tt)
 moved_next k table (Err why) = tt
 
@@ -131,6 +151,24 @@ after_by_words k m shown ms e never is = after_either (λ x. x ≡ e → comes_b
 pub asks_by_words : (k : ℕ) (m : CommandsSoFar) (shown : ShownWords) (ms : List MovedOpen) → IsAsking (comes_after k m shown ms) → (n : ℕ) × IsAsking (comes_by n m shown)
 asks_by_words k m shown ms is = after_either (λ e. IsAsking e → (n : ℕ) × IsAsking (comes_by n m shown)) k m shown ms
     (λ here. (k, here)) (λ first at moved. (0, asking_asks (comes_by 0 m shown) first at)) is
+
+-- where it comes to anything but a disk, its words hook none
+pub asking_hooks : (e : Effect) (asking : Asking) → asking_in e ≡ Some asking → hooking_in e ≡ None
+asking_hooks (asks wanted) asking is = refl
+asking_hooks (inquires q) asking is = refl
+asking_hooks (says o) asking is = refl
+asking_hooks (goes name) asking is = refl
+asking_hooks (sleeps seconds) asking is = refl
+asking_hooks shuts_device asking is = refl
+asking_hooks (on_images c) asking is = refl
+asking_hooks (on_drives c) asking is = refl
+asking_hooks (hooks_disk hooking) asking is = absurd (none-some asking is)
+asking_hooks (unhooks_drive number cause) asking is = refl
+asking_hooks (concludes_at_once c) asking is = refl
+
+pub after_unhooked : (k : ℕ) (m : CommandsSoFar) (shown : ShownWords) (ms : List MovedOpen) (e : Effect) → hooking_in e ≡ None → comes_after k m shown ms ≡ e → hooking_in (comes_by 0 m shown) ≡ None
+after_unhooked k m shown ms e none is = after_either (λ x. x ≡ e → hooking_in (comes_by 0 m shown) ≡ None) k m shown ms
+    (λ here. hooks_same 0 k m shown ∙ ap hooking_in here ∙ none) (λ first at moved. asking_hooks (comes_by 0 m shown) first at) is
 
 -- SLEEPING
 

@@ -1,5 +1,5 @@
 -- Where servers are honest, what a drive has answered is its server's.
-use Rattle.std.proofs.Common.{◌≡◌, ℕ, ◌*◌, length, List, [], ◌∷◌, Option, Some, None, refl, ap}
+use Rattle.std.proofs.Common.{◌≡◌, ℕ, List, [], ◌∷◌, Option, Some, None, ap}
 use Rattle.std.proofs.lemmas.Option.{none-some, same_Some}
 use Rattle.std.specs.List.{AllByRecursion}
 use Rattle.nb_sans.specs.Sessions.{TaskAnswer, session_chap, session_capacity, tasks_taken, task_answers}
@@ -10,7 +10,7 @@ use Rattle.nb_machine.specs.Drives.{DriveAnswer, drive_answer, last_answer}
 use Rattle.nb_machine.specs.Findings.{first_word}
 use Rattle.nb_laws.specs.Drives.{SessionOpening, sessions, session_so_far}
 use Rattle.nb_laws.specs.Events.{Event}
-use Rattle.nb_laws.specs.HandOff.{Store, ServesSession, IsHonestTo, AreHonest, IsAnsweredBy, AnswerTheirs}
+use Rattle.nb_laws.specs.HandOff.{Store, ServesSession, IsHonestTo, IsAnsweredBy, AnswerTheirs}
 use Rattle.nb_laws.specs.Lists.{hardware, Opening}
 use Rattle.nb_laws.proofs.SessionOpenings.{all_so, HoldsOfSession, each_session}
 

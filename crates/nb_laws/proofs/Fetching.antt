@@ -42,15 +42,17 @@ use Rattle.nb_imagecmd.specs.Executing.{ImageAnswer, selected_with, executed_kin
 use Rattle.nb_imagecmd.specs.Freeing.{are_all_listed, kept_list}
 use Rattle.nb_wire.specs.declared.address.Ip4.{Ip4}
 use Rattle.nb_machine.specs.Conclusions.{Conclusion, keeps, tells, boots_selected, runs_script}
-use Rattle.nb_machine.specs.Effects.{Effect, says, asks, goes, sleeps, shuts_device, inquires, on_images, concludes_at_once, full_opens, next_effect, next_open, next_look_up, next_by_name, at_host, planned_effect, words_effect, ShownWords, effect, expansion, expanded_effect, Surroundings, asked_effect, taken_effect, image_outcome_effect, image_answer_effect, images_effect, settled_effect}
-use Rattle.nb_machine.specs.Errands.{Wanted, fetches_then, echoes_then, Onward, onward}
+use Rattle.nb_machine.specs.Effects.{Effect, says, asks, goes, sleeps, shuts_device, inquires, on_images, on_drives, hooks_disk, unhooks_drive, concludes_at_once, full_opens, next_effect, next_open, next_look_up, next_by_name, at_host, planned_effect, words_effect, ShownWords, effect, expansion, expanded_effect, Surroundings, asked_effect, taken_effect, image_outcome_effect, image_answer_effect, images_effect, drives_effect, settled_effect}
+use Rattle.nb_machine.specs.Errands.{Wanted, fetches_then, echoes_then, hooks_then, Onward, onward}
 use Rattle.nb_machine.specs.Queries.{for_lease, for_echo, for_host, for_address, bad_name, no_server, dns_in, with_domain}
 use Rattle.nb_machine.proofs.Eithers.{host_either}
 use Rattle.nb_laws.specs.CommandsSoFar.{CommandsSoFar, shown_effect, surroundings_in, comes_by, asking_in}
 use Rattle.nb_laws.specs.Fetching.{expanded_shown, IsServerOf, by_decimals, by_look_up, AsksBy, by_fetch, by_select, by_exec}
 use Rattle.nb_laws.specs.Lists.{Opening}
 use Rattle.nb_laws.specs.Wanting.{wanted_by}
-use Rattle.nb_laws.proofs.Settling.{IsPlain, plain_settles, PlanIs, images_plan, other_plan, plan_is, WordsAre, images_words, other_words, words_are, images_come, plain_comes}
+use Rattle.nb_drivecmd.specs.declared.commands.DriveCommand.{DriveCommand}
+use Rattle.nb_machine.proofs.Eithers.{drives_either}
+use Rattle.nb_laws.proofs.Settling.{IsPlain, plain_settles, PlanIs, images_plan, drives_plan, other_plan, plan_is, WordsAre, images_words, drives_words, other_words, words_are, images_come, drives_come, plain_comes}
 
 -- WHICH FILE A COMMAND ASKS FOR
 
@@ -204,6 +206,7 @@ pub wanted_asks : (e : Effect) (o : Opening) (wanted : Wanted) → wanted_by e o
 wanted_asks (asks other) o wanted is = ap (λ w. Some w.asking) (same_Some other wanted is)
 wanted_asks (inquires (for_host (fetches_then asking) name by)) o wanted is = ap (λ w. Some w.asking) (same_Some (record { server = o.server; asking = asking }) wanted is)
 wanted_asks (inquires (for_host echoes_then name by)) o wanted is = absurd (none-some wanted is)
+wanted_asks (inquires (for_host (hooks_then hooking) name by)) o wanted is = absurd (none-some wanted is)
 wanted_asks (inquires for_lease) o wanted is = absurd (none-some wanted is)
 wanted_asks (inquires (for_echo server)) o wanted is = absurd (none-some wanted is)
 wanted_asks (inquires (for_address setting name by)) o wanted is = absurd (none-some wanted is)
@@ -212,6 +215,9 @@ wanted_asks (goes name) o wanted is = absurd (none-some wanted is)
 wanted_asks (sleeps seconds) o wanted is = absurd (none-some wanted is)
 wanted_asks shuts_device o wanted is = absurd (none-some wanted is)
 wanted_asks (on_images c) o wanted is = absurd (none-some wanted is)
+wanted_asks (on_drives c) o wanted is = absurd (none-some wanted is)
+wanted_asks (hooks_disk hooking) o wanted is = absurd (none-some wanted is)
+wanted_asks (unhooks_drive number cause) o wanted is = absurd (none-some wanted is)
 wanted_asks (concludes_at_once c) o wanted is = absurd (none-some wanted is)
 
 -- of a host no other file is asked for
@@ -297,6 +303,10 @@ images_serve x c o wanted = images_walk (λ e. wanted_by e o ≡ Some wanted →
 
 -- ITS WORDS
 
+-- a drive command asks for no file
+pub drives_ask : (x : Surroundings) (c : DriveCommand) (asking : Asking) → asking_in (drives_effect x c) ≡ Some asking → ⊥
+drives_ask x c asking = drives_either (λ e. asking_in e ≡ Some asking → ⊥) (λ o is. none-some asking is) (λ hooking is. none-some asking is) (λ number cause is. none-some asking is) x c
+
 -- no other command asks for a file
 pub plain_asks : (e : Effect) → IsPlain e → asking_in e ≡ None
 plain_asks (says x) is = refl
@@ -308,8 +318,12 @@ plain_asks (inquires for_lease) is = refl
 plain_asks (inquires (for_echo server)) is = refl
 plain_asks (inquires (for_address setting name by)) is = refl
 plain_asks (inquires (for_host echoes_then name by)) is = refl
+plain_asks (inquires (for_host (hooks_then hooking) name by)) is = refl
 plain_asks (inquires (for_host (fetches_then asking) name by)) is = absurd is
 plain_asks (on_images c) is = refl
+plain_asks (on_drives c) is = refl
+plain_asks (hooks_disk hooking) is = refl
+plain_asks (unhooks_drive number cause) is = refl
 plain_asks (concludes_at_once c) is = absurd is
 
 -- the words of a command on images, which asks first for a file
@@ -332,6 +346,8 @@ words_ask x shown words asking expanded e = by (planned words) refl e
       planned_so = is ∙ ap (λ y. Ok y) at;
       first = images_ask x c asking (subst (λ y. asking_in (settled_effect x (planned_effect x.opens x.table (Ok y))) ≡ Some asking) at asked);
     }
+    by_plan p (drives_plan c at) is asked =
+        absurd (drives_ask x c asking (subst (λ y. asking_in (settled_effect x (planned_effect x.opens x.table (Ok y))) ≡ Some asking) at asked))
     by_plan p (other_plan plain) is asked =
         absurd (none-some asking (sym (ap asking_in (plain_settles x (planned_effect x.opens x.table (Ok p)) (plain x.opens)) ∙ plain_asks (planned_effect x.opens x.table (Ok p)) (plain x.opens)) ∙ asked))
 
@@ -358,4 +374,5 @@ asks_server k m shown o wanted e = by (words_are m.table shown.expanded shown.wo
   where
     by : WordsAre m.table shown.expanded shown.words → IsServerOf m.table (target_host wanted.asking.target) wanted.server
     by (images_words c at same still) = images_serve (surroundings_in k m) c o wanted (subst (λ (y : Effect). wanted_by y o ≡ Some wanted) (images_come k m shown c (at k)) e)
+    by (drives_words c at same still) = absurd (drives_ask (surroundings_in k m) c wanted.asking (sym (ap asking_in (drives_come k m shown c (at k))) ∙ wanted_asks (comes_by k m shown) o wanted e))
     by (other_words plain) = absurd (none-some wanted.asking (sym (ap asking_in (plain_comes k m shown (plain k)) ∙ plain_asks (shown_effect k m.table shown) (plain k)) ∙ wanted_asks (comes_by k m shown) o wanted e))

@@ -1,5 +1,5 @@
 -- Records of opens, the end of the last open, and records that tell no PART.
-use Rattle.std.proofs.Common.{◌≡◌, ℕ, Bool, true, false, cond, List, [], ◌∷◌, ◌++◌, Option, Some, None}
+use Rattle.std.proofs.Common.{◌≡◌, ℕ, Bool, true, false, cond, List, [], ◌∷◌, ◌++◌, Option, Some, None, ap}
 use Rattle.std.specs.List.{AllByRecursion}
 use Rattle.std.proofs.lemmas.List.Sums.{fold-append}
 use Rattle.nb_terms.specs.declared.acts.Acts.{Acts}
@@ -14,7 +14,8 @@ use Rattle.nb_machine.specs.Running.{Running}
 use Rattle.nb_machine.specs.CommandRecords.{prints, command_record, command_records}
 use Rattle.nb_streams.proofs.FlowLaws.{all_append}
 use Rattle.nb_laws.specs.Events.{Event}
-use Rattle.nb_laws.specs.Lists.{last_end, end_by}
+use Rattle.nb_laws.specs.CommandOpens.{command_open, command_open_by, over_of}
+use Rattle.nb_laws.specs.Lists.{last_end}
 
 -- a FRAME, a TRY or an ADVANCE
 unfoldable pub IsOpens : Out → Type 0
@@ -66,9 +67,12 @@ pub opens_acts : (net : Client) (k : ℕ) (acts : Acts) → AreOpens (acts_recor
 unfolding acts_records
 opens_acts net k acts = more (advance_records k acts.advance) (sends_records net k acts.tried acts.sends.items) (opens_advance k acts.advance) (opens_sends net k acts.tried acts.sends.items)
 
-pub last_end_more : (es : List Event) (e : Event) → last_end (es ++ e ∷ []) ≡ end_by (last_end es) e
-unfolding last_end
-last_end_more es e = fold-append end_by None es (e ∷ [])
+open_then : (es : List Event) (e : Event) → command_open (es ++ e ∷ []) ≡ command_open_by (command_open es) e
+unfolding command_open
+open_then es e = fold-append command_open_by None es (e ∷ [])
+
+pub last_end_more : (es : List Event) (e : Event) → last_end (es ++ e ∷ []) ≡ over_of (command_open_by (command_open es) e)
+last_end_more es e = ap over_of (open_then es e)
 
 no_prints : (p : Option (List ℕ)) → HaveNoParts (prints p)
 no_prints None = tt

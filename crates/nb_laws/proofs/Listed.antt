@@ -22,9 +22,11 @@ use Rattle.nb_imagecmd.specs.Executing.{ImageAnswer, script_taken}
 use Rattle.nb_imagecmd.specs.Promises.{IsFileAmong, IsSelectedWithin, HoldsFilesOf}
 use Rattle.nb_imagecmd.proofs.HeldLemmas.{command_held, file_held, script_held}
 use Rattle.nb_machine.specs.Conclusions.{file_conclusion, conclusion}
-use Rattle.nb_machine.specs.Effects.{Effect, Surroundings, taken_effect, image_outcome_effect, image_answer_effect, images_effect, ShownWords}
+use Rattle.nb_machine.specs.Effects.{Effect, Surroundings, taken_effect, image_outcome_effect, image_answer_effect, images_effect, ShownWords, drives_effect}
+use Rattle.nb_machine.proofs.Eithers.{drives_either}
 use Rattle.nb_laws.specs.CommandsSoFar.{CommandsSoFar, shown_effect, surroundings_in, comes_by, concluded_in, list_after, images_after}
-use Rattle.nb_laws.proofs.Settling.{plain_concludes, asked_concludes, WordsAre, images_words, other_words, words_are, images_come, plain_comes}
+use Rattle.nb_laws.proofs.Settling.{plain_concludes, asked_concludes, WordsAre, images_words, other_words, words_are, images_come, plain_comes, drives_words, drives_come}
+use Rattle.nb_drivecmd.specs.declared.commands.DriveCommand.{DriveCommand}
 
 -- what is so of an image is so of one that has other arguments
 abbrev pub IsSteady : (Image → Type 0) → Type 0
@@ -87,10 +89,15 @@ images_conclude P steady x c h = by (image_effect c (base_by x.base x.table) x.i
     by (Ok (o, list)) is = by_outcome o list (held P steady x.images.images list h.images (command_held c (base_by x.base x.table) x.images list o h.within is))
     by (Err why) is = h
 
+-- a drive command leaves the images
+drives_conclude : (P : Image → Type 0) (k : ℕ) (m : CommandsSoFar) (c : DriveCommand) → AreAll P m.images → AreAll P (images_after (concluded_in (drives_effect (surroundings_in k m) c)) m.images)
+drives_conclude P k m c h = drives_either (λ e. AreAll P (images_after (concluded_in e) m.images)) (λ o. h) (λ hooking. h) (λ number cause. h) (surroundings_in k m) c
+
 -- and of a command's words
 pub comes_concludes : (P : Image → Type 0) → IsSteady P → (k : ℕ) (m : CommandsSoFar) (shown : ShownWords) → AreAll P m.images → AreAll P (images_after (concluded_in (comes_by k m shown)) m.images)
 comes_concludes P steady k m shown h = by (words_are m.table shown.expanded shown.words)
   where
     by : WordsAre m.table shown.expanded shown.words → AreAll P (images_after (concluded_in (comes_by k m shown)) m.images)
     by (images_words c at keeps stays) = subst (λ e. AreAll P (images_after (concluded_in e) m.images)) (sym (images_come k m shown c (at k))) (images_conclude P steady (surroundings_in k m) c h)
+    by (drives_words c at keeps stays) = subst (λ e. AreAll P (images_after (concluded_in e) m.images)) (sym (drives_come k m shown c (at k))) (drives_conclude P k m c h)
     by (other_words plain) = subst (λ z. AreAll P (images_after z m.images)) (sym (ap concluded_in (plain_comes k m shown (plain k)) ∙ plain_concludes (shown_effect k m.table shown) (plain k))) h

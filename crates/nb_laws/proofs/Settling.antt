@@ -11,6 +11,9 @@ use Rattle.nb_command.specs.Bases.{base_by}
 use Rattle.nb_command.specs.Device.{device_change}
 use Rattle.nb_command.specs.Planning.{planned}
 use Rattle.nb_image.specs.Images.{ImageList}
+use Rattle.nb_drivecmd.specs.declared.commands.DriveCommand.{DriveCommand}
+use Rattle.nb_drivecmd.specs.declared.drive.Drive.{Drive}
+use Rattle.nb_drivecmd.specs.declared.outcome.Hooking.{Hooking}
 use Rattle.nb_imagecmd.specs.declared.asking.Asking.{Asking}
 use Rattle.nb_imagecmd.specs.declared.commands.ImageCommand.{ImageCommand}
 use Rattle.nb_imagecmd.specs.declared.error.PlanError.{PlanError}
@@ -20,25 +23,27 @@ use Rattle.nb_imagecmd.specs.CarryingOut.{image_effect}
 use Rattle.nb_imagecmd.specs.Executing.{ImageAnswer}
 use Rattle.nb_uri.specs.declared.target.UriTarget.{UriTarget}
 use Rattle.nb_uri.specs.declared.target.UriTarget.TheVariants.{Tftp, Http, Iscsi}
-use Rattle.nb_machine.specs.Effects.{Effect, says, asks, goes, sleeps, shuts_device, inquires, on_images, concludes_at_once, unless_full, device_effect, plan_effect, planned_effect, planned_table, planned_up, words_effect, words_table, words_up, expansion, expanded_effect, effect, ShownWords, shown_as, Surroundings, settled_effect, images_effect, asked_effect, image_outcome_effect, image_answer_effect}
-use Rattle.nb_machine.specs.Errands.{Errand, fetches_then, echoes_then}
+use Rattle.nb_machine.specs.Effects.{Effect, says, asks, goes, sleeps, shuts_device, inquires, on_images, on_drives, hooks_disk, unhooks_drive, concludes_at_once, unless_full, device_effect, plan_effect, planned_effect, planned_table, planned_up, words_effect, words_table, words_up, expansion, expanded_effect, effect, ShownWords, shown_as, Surroundings, settled_effect, images_effect, drives_effect, asked_effect, image_outcome_effect, image_answer_effect}
+use Rattle.nb_machine.specs.Errands.{Errand, fetches_then, echoes_then, hooks_then}
 use Rattle.nb_machine.specs.Queries.{Query, for_lease, for_echo, for_host, for_address}
 use Rattle.nb_machine.proofs.Eithers.{either_of, full_either, pinged_case, pinged_either, looked_up_case, looked_up_either, asked_case, images_case, images_either}
 use Rattle.nb_machine.proofs.Words.{effect_of_words, effect_of_refused, KeepsTable, keeps_words}
-use Rattle.nb_laws.specs.CommandsSoFar.{CommandsSoFar, so_far, shown_effect, shown_table, shown_up, surroundings_in, comes_by, concluded_in, query_in}
+use Rattle.nb_laws.specs.CommandsSoFar.{CommandsSoFar, so_far, shown_effect, shown_table, shown_up, surroundings_in, comes_by, concluded_in, query_in, hooking_in}
 use Rattle.nb_laws.specs.Events.{Event}
 use Rattle.nb_laws.specs.Progress.{NoneOversleeps}
+use Rattle.nb_machine.proofs.Eithers.{drives_either}
 use Rattle.nb_laws.proofs.Inquiries.{shown_inquiry_keeps}
 use Rattle.nb_laws.proofs.Stays.{Stays, IsAsking, host_stays, shown_stays}
 
 -- A COMMAND ON IMAGES, OR ANOTHER
 
--- no file of a host that is looked up
+-- no file or disk of a host that is looked up
 abbrev pub IsNoFetch : Query → Type 0
 IsNoFetch for_lease = Unit {0}
 IsNoFetch (for_echo server) = Unit {0}
 IsNoFetch (for_address setting name by) = Unit {0}
 IsNoFetch (for_host echoes_then name by) = Unit {0}
+IsNoFetch (for_host (hooks_then hooking) name by) = ⊥
 IsNoFetch (for_host (fetches_then asking) name by) = ⊥
 
 -- it is settled by the opens and the settings alone
@@ -50,6 +55,9 @@ IsPlain (sleeps seconds) = Unit {0}
 IsPlain shuts_device = Unit {0}
 IsPlain (inquires q) = IsNoFetch q
 IsPlain (on_images c) = ⊥
+IsPlain (on_drives c) = ⊥
+IsPlain (hooks_disk hooking) = ⊥
+IsPlain (unhooks_drive number cause) = ⊥
 IsPlain (concludes_at_once c) = ⊥
 
 pub plain_settles : (x : Surroundings) (e : Effect) → IsPlain e → settled_effect x e ≡ e
@@ -60,6 +68,9 @@ plain_settles x (sleeps seconds) is = refl
 plain_settles x shuts_device is = refl
 plain_settles x (inquires q) is = refl
 plain_settles x (on_images c) is = absurd is
+plain_settles x (on_drives c) is = absurd is
+plain_settles x (hooks_disk hooking) is = absurd is
+plain_settles x (unhooks_drive number cause) is = absurd is
 plain_settles x (concludes_at_once c) is = absurd is
 
 device_plain : (e : Effect) → IsPlain e → (r : Result Bool ApplyError) → IsPlain (device_effect e r)
@@ -69,10 +80,12 @@ device_plain e is (Err why) = tt
 -- however many opens were made
 pub data PlanIs (table : TableLists) (p : CommandPlan) : Type 0 where
   images_plan : (c : ImageCommand) → p ≡ plan.Images c → PlanIs table p
+  drives_plan : (c : DriveCommand) → p ≡ plan.Drives c → PlanIs table p
   other_plan : ((k : ℕ) → IsPlain (plan_effect k table p)) → PlanIs table p
 
 pub plan_is : (table : TableLists) (p : CommandPlan) → PlanIs table p
 plan_is table (plan.Images c) = images_plan c refl
+plan_is table (plan.Drives c) = drives_plan c refl
 plan_is table (plan.Echo newline text) = other_plan (λ k. tt)
 plan_is table (plan.Goto label) = other_plan (λ k. tt)
 plan_is table (plan.Exit x) = other_plan (λ k. tt)
@@ -89,9 +102,10 @@ plan_is table (plan.Ping host) = other_plan (λ k. pinged_case IsPlain (λ o. tt
 plan_is table (plan.Nslookup name host) = other_plan (λ k. looked_up_case IsPlain (λ o. tt) k table name host (λ asked by. tt))
 plan_is table (plan.Sleep seconds) = other_plan (λ k. either_of IsPlain (seconds == 0) (says (refused ok)) (sleeps seconds) tt tt)
 
--- the words that a record shows are a command on images, which leaves the settings and the device as they are, or another
+-- the words that a record shows are a command on images or drives, which leaves the settings and the device as they are, or another
 pub data WordsAre (table : TableLists) (expanded : Bool) (ws : List (List ℕ)) : Type 0 where
   images_words : (c : ImageCommand) → ((k : ℕ) → shown_effect k table (shown_as expanded ws) ≡ on_images c) → shown_table table (Some (shown_as expanded ws)) ≡ table → ((up : Bool) → shown_up up (shown_as expanded ws) ≡ up) → WordsAre table expanded ws
+  drives_words : (c : DriveCommand) → ((k : ℕ) → shown_effect k table (shown_as expanded ws) ≡ on_drives c) → shown_table table (Some (shown_as expanded ws)) ≡ table → ((up : Bool) → shown_up up (shown_as expanded ws) ≡ up) → WordsAre table expanded ws
   other_words : ((k : ℕ) → IsPlain (shown_effect k table (shown_as expanded ws))) → WordsAre table expanded ws
 
 expanded_are : (table : TableLists) (ws : List (List ℕ)) → WordsAre table true ws
@@ -102,6 +116,15 @@ expanded_are table ws = by (planned ws) refl
     by_plan p is (images_plan c at) =
         let both : planned ws ≡ Ok (plan.Images c) = is ∙ ap (λ x. Ok x) at in
         images_words c (λ k. ap (planned_effect k table) both) (ap (λ r. shown_planned r) both) (λ up. ap (λ r. shown_planned_up up r) both)
+      where
+        shown_planned : Result CommandPlan PlanError → TableLists
+        shown_planned r = planned_table table r
+
+        shown_planned_up : Bool → Result CommandPlan PlanError → Bool
+        shown_planned_up up r = planned_up up r
+    by_plan p is (drives_plan c at) =
+        let both : planned ws ≡ Ok (plan.Drives c) = is ∙ ap (λ x. Ok x) at in
+        drives_words c (λ k. ap (planned_effect k table) both) (ap (λ r. shown_planned r) both) (λ up. ap (λ r. shown_planned_up up r) both)
       where
         shown_planned : Result CommandPlan PlanError → TableLists
         shown_planned r = planned_table table r
@@ -119,6 +142,7 @@ written_are table ws = by (expansion table ws) refl
   where
     by_words : (xs : List (List ℕ)) → expansion table ws ≡ Ok xs → WordsAre table true xs → WordsAre table false ws
     by_words xs is (images_words c at keeps stays) = images_words c (λ k. effect_of_words k table ws xs is ∙ at k) refl (λ up. refl)
+    by_words xs is (drives_words c at keeps stays) = drives_words c (λ k. effect_of_words k table ws xs is ∙ at k) refl (λ up. refl)
     by_words xs is (other_words plain) = other_words (λ k. subst IsPlain (sym (effect_of_words k table ws xs is)) (plain k))
 
     by : (r : Result (List (List ℕ)) ExpandError) → expansion table ws ≡ r → WordsAre table false ws
@@ -133,6 +157,13 @@ words_are table false ws = written_are table ws
 pub images_come : (k : ℕ) (m : CommandsSoFar) (shown : ShownWords) (c : ImageCommand) → shown_effect k m.table shown ≡ on_images c → comes_by k m shown ≡ images_effect (surroundings_in k m) c
 images_come k m shown c is = ap (settled_effect (surroundings_in k m)) is
 
+pub drives_come : (k : ℕ) (m : CommandsSoFar) (shown : ShownWords) (c : DriveCommand) → shown_effect k m.table shown ≡ on_drives c → comes_by k m shown ≡ drives_effect (surroundings_in k m) c
+drives_come k m shown c is = ap (settled_effect (surroundings_in k m)) is
+
+-- the same, whatever opens were made
+pub drives_stay : (k j : ℕ) (m : CommandsSoFar) (shown : ShownWords) (c : DriveCommand) → ((n : ℕ) → shown_effect n m.table shown ≡ on_drives c) → comes_by k m shown ≡ comes_by j m shown
+drives_stay k j m shown c at = drives_come k m shown c (at k) ∙ sym (drives_come j m shown c (at j))
+
 pub plain_comes : (k : ℕ) (m : CommandsSoFar) (shown : ShownWords) → IsPlain (shown_effect k m.table shown) → comes_by k m shown ≡ shown_effect k m.table shown
 plain_comes k m shown is = plain_settles (surroundings_in k m) (shown_effect k m.table shown) is
 
@@ -146,6 +177,9 @@ IsAwake (goes name) = Unit {0}
 IsAwake shuts_device = Unit {0}
 IsAwake (inquires q) = Unit {0}
 IsAwake (on_images c) = Unit {0}
+IsAwake (on_drives c) = Unit {0}
+IsAwake (hooks_disk hooking) = Unit {0}
+IsAwake (unhooks_drive number cause) = Unit {0}
 IsAwake (concludes_at_once c) = Unit {0}
 
 device_awake : (e : Effect) → IsAwake e → (r : Result Bool ApplyError) → IsAwake (device_effect e r)
@@ -163,6 +197,7 @@ plan_sleeps k j table (plan.Clear name) n e = e
 plan_sleeps k j table (plan.Show name) n e = e
 plan_sleeps k j table (plan.Inc name by) n e = e
 plan_sleeps k j table (plan.Images c) n e = e
+plan_sleeps k j table (plan.Drives c) n e = e
 plan_sleeps k j table (plan.Ifopen device) n e = e
 plan_sleeps k j table (plan.Ifclose device) n e = e
 plan_sleeps k j table (plan.Dhcp device) n e = absurd (subst IsAwake e (device_awake (unless_full k (inquires for_lease)) (full_either IsAwake (λ o. tt) k (inquires for_lease) tt) (device_change device true)))
@@ -195,27 +230,28 @@ comes_sleeps k j m shown n e = by (words_are m.table shown.expanded shown.words)
   where
     by : WordsAre m.table shown.expanded shown.words → comes_by j m shown ≡ sleeps n
     by (images_words c at keeps stays) = absurd (subst IsAwake (sym (images_come k m shown c (at k)) ∙ e) (images_either IsAwake (λ o. tt) (λ x. tt) (λ wanted. tt) (λ q. tt) (surroundings_in k m) c))
+    by (drives_words c at keeps stays) = drives_stay j k m shown c at ∙ e
     by (other_words plain) = plain_comes j m shown (plain j) ∙ shown_sleeps k j m.table shown.expanded shown.words n (sym (plain_comes k m shown (plain k)) ∙ e)
 
 -- SOMETHING IS ASKED FOR, WHILE MORE OPENS MAY BE MADE
 
-asked_stays : (k j : ℕ) (table : TableLists) (images : ImageList) (base : Option (List ℕ)) (depth : ℕ) (target : UriTarget) (asking : Asking) → j < 16384 →
-    Stays (asked_effect target (record { opens = k; table = table; images = images; base = base; depth = depth }) asking) (asked_effect target (record { opens = j; table = table; images = images; base = base; depth = depth }) asking)
-asked_stays k j table images base depth (Tftp host port path whole) asking few = host_stays k j table host (fetches_then asking) few
-asked_stays k j table images base depth (Http host port path whole) asking few = host_stays k j table host (fetches_then asking) few
-asked_stays k j table images base depth (Iscsi host port lun name whole) asking few = λ is. refl
+asked_stays : (k j : ℕ) (table : TableLists) (images : ImageList) (drives : List Drive) (base : Option (List ℕ)) (depth : ℕ) (target : UriTarget) (asking : Asking) → j < 16384 →
+    Stays (asked_effect target (record { opens = k; table = table; images = images; drives = drives; base = base; depth = depth }) asking) (asked_effect target (record { opens = j; table = table; images = images; drives = drives; base = base; depth = depth }) asking)
+asked_stays k j table images drives base depth (Tftp host port path whole) asking few = host_stays k j table host (fetches_then asking) few
+asked_stays k j table images drives base depth (Http host port path whole) asking few = host_stays k j table host (fetches_then asking) few
+asked_stays k j table images drives base depth (Iscsi host port lun name whole) asking few = λ is. refl
 
-images_stay : (k j : ℕ) (table : TableLists) (images : ImageList) (base : Option (List ℕ)) (depth : ℕ) (c : ImageCommand) → j < 16384 →
-    Stays (images_effect (record { opens = k; table = table; images = images; base = base; depth = depth }) c) (images_effect (record { opens = j; table = table; images = images; base = base; depth = depth }) c)
-images_stay k j table images base depth c few = by (image_effect c (base_by base table) images)
+images_stay : (k j : ℕ) (table : TableLists) (images : ImageList) (drives : List Drive) (base : Option (List ℕ)) (depth : ℕ) (c : ImageCommand) → j < 16384 →
+    Stays (images_effect (record { opens = k; table = table; images = images; drives = drives; base = base; depth = depth }) c) (images_effect (record { opens = j; table = table; images = images; drives = drives; base = base; depth = depth }) c)
+images_stay k j table images drives base depth c few = by (image_effect c (base_by base table) images)
   where
     at : ℕ → Surroundings
-    at n = record { opens = n; table = table; images = images; base = base; depth = depth }
+    at n = record { opens = n; table = table; images = images; drives = drives; base = base; depth = depth }
 
     by_outcome : (o : ImageOutcome) (list : ImageList) → Stays (image_outcome_effect (at k) o list) (image_outcome_effect (at j) o list)
     by_outcome Done list = λ is. refl
     by_outcome (Print lines) list = λ is. refl
-    by_outcome (Ask asking) list = asked_stays k j table images base depth asking.target asking few
+    by_outcome (Ask asking) list = asked_stays k j table images drives base depth asking.target asking few
     by_outcome (Run image replace) list = λ is. refl
     by_outcome Boot list = λ is. refl
 
@@ -229,10 +265,77 @@ comes_stays k j m shown few = by (words_are m.table shown.expanded shown.words)
     by : WordsAre m.table shown.expanded shown.words → Stays (comes_by k m shown) (comes_by j m shown)
     by (images_words c at keeps stays) = λ is.
         let here = images_come k m shown c (at k) in
-        images_come j m shown c (at j) ∙ images_stay k j m.table m.images (surroundings_in k m).base (surroundings_in k m).depth c few (subst IsAsking here is) ∙ sym here
+        images_come j m shown c (at j) ∙ images_stay k j m.table m.images m.drives (surroundings_in k m).base (surroundings_in k m).depth c few (subst IsAsking here is) ∙ sym here
+    by (drives_words c at keeps stays) = λ is. drives_stay j k m shown c at
     by (other_words plain) = λ is.
         let here = plain_comes k m shown (plain k) in
         plain_comes j m shown (plain j) ∙ shown_stays k j m.table shown few (subst IsAsking here is) ∙ sym here
+
+-- IT HOOKS A DISK OR LETS A DRIVE GO, WHATEVER OPENS WERE MADE
+
+-- no other command does
+abbrev IsNoDrive : Effect → Type 0
+IsNoDrive (says o) = Unit {0}
+IsNoDrive (asks wanted) = Unit {0}
+IsNoDrive (goes name) = Unit {0}
+IsNoDrive (sleeps seconds) = Unit {0}
+IsNoDrive shuts_device = Unit {0}
+IsNoDrive (inquires q) = Unit {0}
+IsNoDrive (on_images c) = Unit {0}
+IsNoDrive (on_drives c) = Unit {0}
+IsNoDrive (hooks_disk hooking) = ⊥
+IsNoDrive (unhooks_drive number cause) = ⊥
+IsNoDrive (concludes_at_once c) = Unit {0}
+
+plain_no_drive : (e : Effect) → IsPlain e → IsNoDrive e
+plain_no_drive (says o) is = tt
+plain_no_drive (asks wanted) is = tt
+plain_no_drive (goes name) is = tt
+plain_no_drive (sleeps seconds) is = tt
+plain_no_drive shuts_device is = tt
+plain_no_drive (inquires q) is = tt
+plain_no_drive (on_images c) is = tt
+plain_no_drive (on_drives c) is = tt
+plain_no_drive (hooks_disk hooking) is = absurd is
+plain_no_drive (unhooks_drive number cause) is = absurd is
+plain_no_drive (concludes_at_once c) is = tt
+
+pub comes_hooking : (k j : ℕ) (m : CommandsSoFar) (shown : ShownWords) (e : Effect) → (IsNoDrive e → ⊥) → comes_by k m shown ≡ e → comes_by j m shown ≡ e
+comes_hooking k j m shown e some is = by (words_are m.table shown.expanded shown.words)
+  where
+    by : WordsAre m.table shown.expanded shown.words → comes_by j m shown ≡ e
+    by (images_words c at keeps stays) = absurd (some (subst IsNoDrive (sym (images_come k m shown c (at k)) ∙ is) (images_either IsNoDrive (λ o. tt) (λ x. tt) (λ wanted. tt) (λ q. tt) (surroundings_in k m) c)))
+    by (drives_words c at keeps stays) = drives_stay j k m shown c at ∙ is
+    by (other_words plain) = absurd (some (subst IsNoDrive (sym (plain_comes k m shown (plain k)) ∙ is) (plain_no_drive (shown_effect k m.table shown) (plain k))))
+
+plain_hooks : (e : Effect) → IsPlain e → hooking_in e ≡ None
+plain_hooks (says o) is = refl
+plain_hooks (asks wanted) is = refl
+plain_hooks (goes name) is = refl
+plain_hooks (sleeps seconds) is = refl
+plain_hooks shuts_device is = refl
+plain_hooks (inquires q) is = refl
+plain_hooks (on_images c) is = refl
+plain_hooks (on_drives c) is = refl
+plain_hooks (hooks_disk hooking) is = absurd is
+plain_hooks (unhooks_drive number cause) is = refl
+plain_hooks (concludes_at_once c) is = refl
+
+abbrev HooksNone : Effect → Type 0
+HooksNone e = hooking_in e ≡ None
+
+pub hooks_same : (k j : ℕ) (m : CommandsSoFar) (shown : ShownWords) → hooking_in (comes_by k m shown) ≡ hooking_in (comes_by j m shown)
+hooks_same k j m shown = by (words_are m.table shown.expanded shown.words)
+  where
+    images_none : (n : ℕ) (c : ImageCommand) → HooksNone (images_effect (surroundings_in n m) c)
+    images_none n c = images_either HooksNone (λ o. refl) (λ y. refl) (λ wanted. refl) (λ q. refl) (surroundings_in n m) c
+
+    by : WordsAre m.table shown.expanded shown.words → hooking_in (comes_by k m shown) ≡ hooking_in (comes_by j m shown)
+    by (images_words c at keeps stays) = ap hooking_in (images_come k m shown c (at k)) ∙ images_none k c ∙ sym (ap hooking_in (images_come j m shown c (at j)) ∙ images_none j c)
+    by (drives_words c at keeps stays) = ap hooking_in (drives_stay k j m shown c at)
+    by (other_words plain) =
+        ap hooking_in (plain_comes k m shown (plain k)) ∙ plain_hooks (shown_effect k m.table shown) (plain k)
+        ∙ sym (ap hooking_in (plain_comes j m shown (plain j)) ∙ plain_hooks (shown_effect j m.table shown) (plain j))
 
 -- IT CONCLUDES AT ONCE, WHATEVER OPENS WERE MADE
 
@@ -244,6 +347,9 @@ plain_concludes (sleeps seconds) is = refl
 plain_concludes shuts_device is = refl
 plain_concludes (inquires q) is = refl
 plain_concludes (on_images c) is = refl
+plain_concludes (on_drives c) is = refl
+plain_concludes (hooks_disk hooking) is = refl
+plain_concludes (unhooks_drive number cause) is = refl
 plain_concludes (concludes_at_once c) is = absurd is
 
 abbrev ConcludesNone : Effect → Type 0
@@ -252,12 +358,12 @@ ConcludesNone e = concluded_in e ≡ None
 pub asked_concludes : (target : UriTarget) (x : Surroundings) (asking : Asking) → ConcludesNone (asked_effect target x asking)
 asked_concludes target x asking = asked_case ConcludesNone (λ o. refl) target x asking (λ server. refl) (λ name by. refl)
 
-images_conclude : (k j : ℕ) (table : TableLists) (images : ImageList) (base : Option (List ℕ)) (depth : ℕ) (c : ImageCommand) →
-    concluded_in (images_effect (record { opens = k; table = table; images = images; base = base; depth = depth }) c) ≡ concluded_in (images_effect (record { opens = j; table = table; images = images; base = base; depth = depth }) c)
-images_conclude k j table images base depth c = by (image_effect c (base_by base table) images)
+images_conclude : (k j : ℕ) (table : TableLists) (images : ImageList) (drives : List Drive) (base : Option (List ℕ)) (depth : ℕ) (c : ImageCommand) →
+    concluded_in (images_effect (record { opens = k; table = table; images = images; drives = drives; base = base; depth = depth }) c) ≡ concluded_in (images_effect (record { opens = j; table = table; images = images; drives = drives; base = base; depth = depth }) c)
+images_conclude k j table images drives base depth c = by (image_effect c (base_by base table) images)
   where
     at : ℕ → Surroundings
-    at n = record { opens = n; table = table; images = images; base = base; depth = depth }
+    at n = record { opens = n; table = table; images = images; drives = drives; base = base; depth = depth }
 
     by_outcome : (o : ImageOutcome) (list : ImageList) → concluded_in (image_outcome_effect (at k) o list) ≡ concluded_in (image_outcome_effect (at j) o list)
     by_outcome Done list = refl
@@ -274,7 +380,8 @@ pub concludes_same : (k j : ℕ) (m : CommandsSoFar) (shown : ShownWords) → co
 concludes_same k j m shown = by (words_are m.table shown.expanded shown.words)
   where
     by : WordsAre m.table shown.expanded shown.words → concluded_in (comes_by k m shown) ≡ concluded_in (comes_by j m shown)
-    by (images_words c at keeps stays) = ap concluded_in (images_come k m shown c (at k)) ∙ images_conclude k j m.table m.images (surroundings_in k m).base (surroundings_in k m).depth c ∙ ap concluded_in (sym (images_come j m shown c (at j)))
+    by (images_words c at keeps stays) = ap concluded_in (images_come k m shown c (at k)) ∙ images_conclude k j m.table m.images m.drives (surroundings_in k m).base (surroundings_in k m).depth c ∙ ap concluded_in (sym (images_come j m shown c (at j)))
+    by (drives_words c at keeps stays) = ap concluded_in (drives_stay k j m shown c at)
     by (other_words plain) =
         ap concluded_in (plain_comes k m shown (plain k)) ∙ plain_concludes (shown_effect k m.table shown) (plain k)
         ∙ sym (ap concluded_in (plain_comes j m shown (plain j)) ∙ plain_concludes (shown_effect j m.table shown) (plain j))
@@ -291,6 +398,9 @@ LeavesTable (goes name) = ⊥
 LeavesTable (sleeps seconds) = ⊥
 LeavesTable shuts_device = ⊥
 LeavesTable (on_images c) = ⊥
+LeavesTable (on_drives c) = ⊥
+LeavesTable (hooks_disk hooking) = Unit {0}
+LeavesTable (unhooks_drive number cause) = Unit {0}
 
 pub comes_keeps : (k : ℕ) (m : CommandsSoFar) (shown : ShownWords) (e : Effect) → comes_by k m shown ≡ e → LeavesTable e → shown_table m.table (Some shown) ≡ m.table
 comes_keeps k m shown e is leaves = by (words_are m.table shown.expanded shown.words)
@@ -303,10 +413,14 @@ comes_keeps k m shown e is leaves = by (words_are m.table shown.expanded shown.w
     by_plain (sleeps seconds) at plain l = absurd l
     by_plain shuts_device at plain l = absurd l
     by_plain (on_images c) at plain l = absurd l
+    by_plain (on_drives c) at plain l = absurd l
+    by_plain (hooks_disk hooking) at plain l = absurd plain
+    by_plain (unhooks_drive number cause) at plain l = absurd plain
     by_plain (concludes_at_once c) at plain l = absurd plain
 
     by : WordsAre m.table shown.expanded shown.words → shown_table m.table (Some shown) ≡ m.table
     by (images_words c at keeps stays) = keeps
+    by (drives_words c at keeps stays) = keeps
     by (other_words plain) = by_plain (shown_effect k m.table shown) refl (plain k) (subst LeavesTable (sym is ∙ plain_comes k m shown (plain k)) leaves)
 
 -- A QUERY OF ITS OWN
@@ -319,10 +433,42 @@ AsksFile (goes name) = Unit {0}
 AsksFile (sleeps seconds) = Unit {0}
 AsksFile shuts_device = Unit {0}
 AsksFile (on_images c) = Unit {0}
+AsksFile (on_drives c) = Unit {0}
+AsksFile (hooks_disk hooking) = Unit {0}
+AsksFile (unhooks_drive number cause) = Unit {0}
 AsksFile (concludes_at_once c) = Unit {0}
 
 images_ask : (x : Surroundings) (c : ImageCommand) → AsksFile (images_effect x c)
 images_ask x c = images_case AsksFile (λ o. tt) (λ y. tt) (λ wanted. tt) (λ asking name by. λ no. no) x c
+
+-- nor anything by one exchange
+drives_query : (x : Surroundings) (c : DriveCommand) (q : Query) → drives_effect x c ≡ inquires q → ⊥
+drives_query x c q = drives_either (λ e. e ≡ inquires q → ⊥) (λ o is. absurd (cc)) (λ hooking is. absurd (cc)) (λ number cause is. absurd (cc)) x c
+
+-- the host of a disk isn't looked up by the words of a command alone
+abbrev pub LooksUpNoDisk : Effect → Type 0
+LooksUpNoDisk e = (hooking : Hooking) (name : List ℕ) (by : ℕ) → e ≡ inquires (for_host (hooks_then hooking) name by) → ⊥
+
+plain_looks_up : (e : Effect) → IsPlain e → LooksUpNoDisk e
+plain_looks_up e plain hooking name by is = subst IsPlain is plain
+
+pub same_errand : (a b : Errand) (name other : List ℕ) (by at : ℕ) → inquires (for_host a name by) ≡ inquires (for_host b other at) → a ≡ b
+same_errand a b name other by at is = cc is
+
+pub no_errand : (asking : Asking) (hooking : Hooking) → fetches_then asking ≡ hooks_then hooking → ⊥
+no_errand asking hooking is = cc is
+
+images_look_up : (x : Surroundings) (c : ImageCommand) → LooksUpNoDisk (images_effect x c)
+images_look_up x c = images_case LooksUpNoDisk (λ o hooking name by is. absurd (cc)) (λ y hooking name by is. absurd (cc)) (λ wanted hooking name by is. absurd (cc))
+    (λ asking own server hooking name by is. absurd (no_errand asking hooking (same_errand (fetches_then asking) (hooks_then hooking) own name server by is))) x c
+
+pub looks_up_no_disk : (k : ℕ) (m : CommandsSoFar) (shown : ShownWords) → LooksUpNoDisk (comes_by k m shown)
+looks_up_no_disk k m shown = by (words_are m.table shown.expanded shown.words)
+  where
+    by : WordsAre m.table shown.expanded shown.words → LooksUpNoDisk (comes_by k m shown)
+    by (images_words c at keeps stays) = subst LooksUpNoDisk (sym (images_come k m shown c (at k))) (images_look_up (surroundings_in k m) c)
+    by (drives_words c at keeps stays) = λ hooking name server is. drives_query (surroundings_in k m) c (for_host (hooks_then hooking) name server) (sym (drives_come k m shown c (at k)) ∙ is)
+    by (other_words plain) = subst LooksUpNoDisk (sym (plain_comes k m shown (plain k))) (plain_looks_up (shown_effect k m.table shown) (plain k))
 
 -- the query of the words is the command's, unless it is for a file
 pub asked_plainly : (k : ℕ) (m : CommandsSoFar) (shown : ShownWords) (q : Query) → IsNoFetch q → comes_by k m shown ≡ inquires q → shown_effect k m.table shown ≡ inquires q
@@ -330,6 +476,7 @@ asked_plainly k m shown q none e = by (words_are m.table shown.expanded shown.wo
   where
     by : WordsAre m.table shown.expanded shown.words → shown_effect k m.table shown ≡ inquires q
     by (images_words c at keeps stays) = absurd (subst AsksFile (sym (images_come k m shown c (at k)) ∙ e) (images_ask (surroundings_in k m) c) none)
+    by (drives_words c at keeps stays) = absurd (drives_query (surroundings_in k m) c q (sym (drives_come k m shown c (at k)) ∙ e))
     by (other_words plain) = sym (plain_comes k m shown (plain k)) ∙ e
 
 -- what the words ask, where the command looks its server up
@@ -342,6 +489,7 @@ query_of_host k m shown errand name server e = by (words_are m.table shown.expan
   where
     by : WordsAre m.table shown.expanded shown.words → WordsAsk (query_in (shown_effect k m.table shown))
     by (images_words c at keeps stays) = ask_none (ap query_in (at k))
+    by (drives_words c at keeps stays) = ask_none (ap query_in (at k))
     by (other_words plain) = ask_host errand name server (ap query_in (sym (plain_comes k m shown (plain k)) ∙ e))
 
 -- a command that sleeps leaves the settings, and asks nothing
@@ -354,6 +502,7 @@ comes_asleep k m shown n e = by (words_are m.table shown.expanded shown.words)
 
     by : WordsAre m.table shown.expanded shown.words → shown_table m.table (Some shown) ≡ m.table
     by (images_words c at keeps stays) = keeps
+    by (drives_words c at keeps stays) = keeps
     by (other_words plain) = at_once shown.expanded shown.words (sym (plain_comes k m shown (plain k)) ∙ e)
 
 pub query_asleep : (k : ℕ) (m : CommandsSoFar) (shown : ShownWords) (n : ℕ) → comes_by k m shown ≡ sleeps n → query_in (shown_effect k m.table shown) ≡ None
@@ -361,6 +510,7 @@ query_asleep k m shown n e = by (words_are m.table shown.expanded shown.words)
   where
     by : WordsAre m.table shown.expanded shown.words → query_in (shown_effect k m.table shown) ≡ None
     by (images_words c at keeps stays) = ap query_in (at k)
+    by (drives_words c at keeps stays) = ap query_in (at k)
     by (other_words plain) = ap query_in (sym (plain_comes k m shown (plain k)) ∙ e)
 
 -- OVERSLEEPING

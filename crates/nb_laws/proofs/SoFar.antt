@@ -5,6 +5,7 @@ use Rattle.nb_defs.specs.Commands.{CommandOutcome}
 use Rattle.nb_terms.specs.declared.cause.Cause.{Cause}
 use Rattle.std.specs.List.{AllByRecursion}
 use Rattle.nb_defs.specs.Records.{Out, step, sent, text as prints_text, command, result, script, opened, tried, advanced, ended, graph, part, done, Start}
+use Rattle.nb_defs.specs.Causes.{is_ok_cause}
 use Rattle.nb_settings.specs.Tables.{TableLists}
 use Rattle.nb_expand.specs.declared.error.ExpandError.{ExpandError}
 use Rattle.nb_machine.specs.Conclusions.{Conclusion}
@@ -24,12 +25,14 @@ use Rattle.nb_laws.specs.Webs.{opens_a_file}
 use Rattle.nb_laws.specs.Wanting.{wanted_by}
 use Rattle.std.specs.Prelude.{find}
 use Rattle.nb_laws.specs.CommandsSoFar as commands
-use Rattle.nb_laws.specs.CommandsSoFar.{CommandsSoFar, so_far, so_far_by, no_commands, script_so_far, shown_effect, shown_table, shown_up, shown_query, found_table, left_table, comes_by, comes_after, concluded_in, file_fetched, wanted_so_far, arrived_so_far, concluded_by_open, conclusion_so_far, images_after}
+use Rattle.nb_laws.specs.CommandsSoFar.{CommandsSoFar, so_far, so_far_by, no_commands, script_so_far, shown_effect, shown_table, shown_up, shown_query, found_table, left_table, comes_by, comes_after, concluded_in, file_fetched, wanted_so_far, arrived_so_far, concluded_by_open, conclusion_so_far, images_after, finding, hooking, hooked_then, hooked_after, hooking_in, hooking_so_far}
 use Rattle.nb_laws.specs.Silence.{IsSilent}
 use Rattle.nb_laws.proofs.Histories.{followed_one, followed_append}
 use Rattle.nb_laws.proofs.Tellings.{told, made_more}
 use Rattle.nb_laws.proofs.HandOffs.{last_end_more}
 use Rattle.nb_laws.proofs.Settling.{WordsAsk, ask_none, ask_host, query_of_host}
+use Rattle.nb_drivecmd.specs.declared.outcome.Hooking.{Hooking}
+use Rattle.nb_drivecmd.specs.HookedDrives.{with_hooked}
 
 pub so_far_more : (es : List Event) (e : Event) → so_far (es ++ e ∷ []) ≡ so_far_by es (so_far es) e
 unfolding so_far
@@ -93,21 +96,50 @@ left_by_host before m shown errand name server said is = asked (query_of_host (m
     asked (ask_none e) = left_unasked before m.table m.shown (query None e)
     asked (ask_host other x y e) = host other x y (query (Some (for_host other x y)) e) (came_ok (last_end before))
 
+-- the drives that it hooks
+abbrev pub hooks_so_far : Cause → List Event → CommandsSoFar
+hooks_so_far cause es = hooking (hooked_then cause es (so_far es)) (so_far es)
+
 -- with the settings that it leaves
 pub result_is : (es : List Event) (cause : Cause) (c : Option Conclusion) (table : TableLists) → (so_far es).left ≡ None → conclusion_so_far (last_end es) es (so_far es) ≡ c → left_table es (so_far es).table (so_far es).shown ≡ table →
-    so_far (es ++ puts (result cause) ∷ []) ≡ record (so_far es) { table = table; images = images_after c (so_far es).images; is_open = false; concluded = c }
+    so_far (es ++ puts (result cause) ∷ []) ≡ record (so_far es) { table = table; images = images_after c (so_far es).images; is_open = false; concluded = c; hooked = hooked_then cause es (so_far es) }
 result_is es cause c table left is at =
-    so_far_more es (puts (result cause)) ∙ ap (λ l. commands.result_so_far l es (so_far es)) left
-    ∙ ap (λ t. record (so_far es) { table = t; images = images_after (conclusion_so_far (last_end es) es (so_far es)) (so_far es).images; is_open = false; concluded = conclusion_so_far (last_end es) es (so_far es) }) at
-    ∙ ap (λ x. record (so_far es) { table = table; images = images_after x (so_far es).images; is_open = false; concluded = x }) is
+    so_far_more es (puts (result cause)) ∙ ap (λ l. hooking (hooked_then cause es (so_far es)) (commands.result_so_far l es (so_far es))) left
+    ∙ ap (λ t. record (so_far es) { table = t; images = images_after (conclusion_so_far (last_end es) es (so_far es)) (so_far es).images; is_open = false; concluded = conclusion_so_far (last_end es) es (so_far es); hooked = hooked_then cause es (so_far es) }) at
+    ∙ ap (λ x. record (so_far es) { table = table; images = images_after x (so_far es).images; is_open = false; concluded = x; hooked = hooked_then cause es (so_far es) }) is
+
+-- where its words hook no disk, it hooks none
+pub hooks_none : (es : List Event) (cause : Cause) (shown : ShownWords) → (so_far es).shown ≡ Some shown → hooking_in (comes_by 0 (so_far es) shown) ≡ None → hooks_so_far cause es ≡ so_far es
+hooks_none es cause shown said none =
+    ap (λ h. hooking (hooked_after h cause (made es - 1) (so_far es).hooked) (so_far es)) (ap (option_and_then (λ x. hooking_in (comes_by 0 (so_far es) x))) said ∙ none)
+
+-- nor one that no words are known of
+pub hooks_unshown : (es : List Event) (cause : Cause) → (so_far es).shown ≡ None → hooks_so_far cause es ≡ so_far es
+hooks_unshown es cause none =
+    ap (λ h. hooking (hooked_after h cause (made es - 1) (so_far es).hooked) (so_far es)) (ap (option_and_then (λ x. hooking_in (comes_by 0 (so_far es) x))) none)
+
+-- nor where it fails
+pub hooks_failed : (es : List Event) (cause : Cause) → is_ok_cause cause ≡ false → hooks_so_far cause es ≡ so_far es
+hooks_failed es cause failed = by (hooking_so_far (so_far es))
+  where
+    by : (h : Option Hooking) → hooking (hooked_after h cause (made es - 1) (so_far es).hooked) (so_far es) ≡ so_far es
+    by None = refl
+    by (Some x) = ap (λ b. hooking (cond b (with_hooked (record { number = x.number; described = x.described; open_number = made es - 1 }) (so_far es).hooked) (so_far es).hooked) (so_far es)) failed
+
+-- it has hooked a disk
+pub hooks_one : (es : List Event) (cause : Cause) (x : Hooking) → hooking_so_far (so_far es) ≡ Some x → is_ok_cause cause ≡ true →
+    hooks_so_far cause es ≡ hooking (with_hooked (record { number = x.number; described = x.described; open_number = made es - 1 }) (so_far es).hooked) (so_far es)
+hooks_one es cause x is well =
+    ap (λ h. hooking (hooked_after h cause (made es - 1) (so_far es).hooked) (so_far es)) is
+    ∙ ap (λ b. hooking (cond b (with_hooked (record { number = x.number; described = x.described; open_number = made es - 1 }) (so_far es).hooked) (so_far es).hooked) (so_far es)) well
 
 pub result_so_far : (es : List Event) (cause : Cause) (c : Option Conclusion) → (so_far es).left ≡ None → conclusion_so_far (last_end es) es (so_far es) ≡ c →
-    left_table es (so_far es).table (so_far es).shown ≡ shown_table (so_far es).table (so_far es).shown → so_far (es ++ puts (result cause) ∷ []) ≡ over_so_far c (so_far es)
+    left_table es (so_far es).table (so_far es).shown ≡ shown_table (so_far es).table (so_far es).shown → so_far (es ++ puts (result cause) ∷ []) ≡ over_so_far c (hooks_so_far cause es)
 result_so_far es cause c left is table = result_is es cause c (shown_table (so_far es).table (so_far es).shown) left is table
 
 -- the result of a command whose script was left
-pub handed_so_far : (es : List Event) (cause left : Cause) → (so_far es).left ≡ Some left → so_far (es ++ puts (result cause) ∷ []) ≡ record (so_far es) { is_open = false; left = None; concluded = None }
-handed_so_far es cause left is = so_far_more es (puts (result cause)) ∙ ap (λ l. commands.result_so_far l es (so_far es)) is
+pub handed_so_far : (es : List Event) (cause left : Cause) → (so_far es).left ≡ Some left → so_far (es ++ puts (result cause) ∷ []) ≡ record (hooks_so_far cause es) { is_open = false; left = None; concluded = None }
+handed_so_far es cause left is = so_far_more es (puts (result cause)) ∙ ap (λ l. hooking (hooked_then cause es (so_far es)) (commands.result_so_far l es (so_far es))) is
 
 -- what a command comes to as one on images whose open hasn't ended well
 pub concludes_at_once_so : (es : List Event) (m : CommandsSoFar) (shown : ShownWords) → came_ok (last_end es) ≡ false → m.shown ≡ Some shown → conclusion_so_far (last_end es) es m ≡ concluded_in (comes_by (made es) m shown)
@@ -136,11 +168,15 @@ opened_no_file es m shown said none concluded = by (came_ok (last_end es))
     by true = ap (option_and_then (λ o. option_and_then (arrived_so_far (file_fetched (made es - 1) es o) m o) (wanted_so_far (made es - 1) m (moves es) o))) none
     by false = ap (option_and_then (λ x. concluded_in (comes_by (made es) m x))) said ∙ concluded
 
+-- the drives that a command finds
+abbrev pub found_so_far : List Event → CommandsSoFar
+found_so_far es = finding es (so_far es)
+
 -- a command begins
 abbrev pub begun_so_far : CommandsSoFar → ShownWords → CommandsSoFar
 begun_so_far m shown = record m { up = shown_up m.up shown; shown = Some shown; since = m.now; is_open = true }
 
-pub begins_so_far : (es : List Event) (s : Running) (shown : ShownWords) → so_far (es ++ puts (command_record s shown) ∷ []) ≡ begun_so_far (so_far es) shown
+pub begins_so_far : (es : List Event) (s : Running) (shown : ShownWords) → so_far (es ++ puts (command_record s shown) ∷ []) ≡ begun_so_far (found_so_far es) shown
 begins_so_far es s shown = so_far_more es (puts (command_record s shown))
 
 -- COMMAND and what it prints
@@ -151,25 +187,25 @@ made_begun : (es : List Event) (s : Running) (shown : ShownWords) → made (es +
 made_begun es s shown = made_more es (puts (command_record s shown)) ∙ add-zero (made es)
 
 -- what it comes to then, as one on images
-pub begun_concludes : (es es1 : List Event) (shown : ShownWords) → so_far es1 ≡ begun_so_far (so_far es) shown → made es1 ≡ made es → came_ok (last_end es1) ≡ false →
-    conclusion_so_far (last_end es1) es1 (so_far es1) ≡ concluded_in (comes_by (made es) (so_far es) shown)
+pub begun_concludes : (es es1 : List Event) (shown : ShownWords) → so_far es1 ≡ begun_so_far (found_so_far es) shown → made es1 ≡ made es → came_ok (last_end es1) ≡ false →
+    conclusion_so_far (last_end es1) es1 (so_far es1) ≡ concluded_in (comes_by (made es) (found_so_far es) shown)
 begun_concludes es es1 shown began many failed =
     concludes_at_once_so es1 (so_far es1) shown failed (ap (λ (m : CommandsSoFar). m.shown) began) ∙ ap (λ k. concluded_in (comes_by k (so_far es1) shown)) many
     ∙ ap (λ m. concluded_in (comes_by (made es) m shown)) began
 
-pub command_so_far : (es : List Event) (s : Running) (shown : ShownWords) (o : CommandOutcome) → (so_far es).left ≡ None → concluded_in (comes_by (made es) (so_far es) shown) ≡ None →
-    so_far (es ++ told (command_records s shown o)) ≡ over_so_far None (begun_so_far (so_far es) shown)
-command_so_far es s shown o left none = by o.prints
+pub command_so_far : (es : List Event) (s : Running) (shown : ShownWords) (o : CommandOutcome) → (so_far es).left ≡ None → concluded_in (comes_by (made es) (found_so_far es) shown) ≡ None →
+    hooking_in (comes_by 0 (found_so_far es) shown) ≡ None → so_far (es ++ told (command_records s shown o)) ≡ over_so_far None (begun_so_far (found_so_far es) shown)
+command_so_far es s shown o left none unhooked = by o.prints
   where
     e : Event
     e = puts (command_record s shown)
 
-    over : (es1 : List Event) → so_far es1 ≡ begun_so_far (so_far es) shown → made es1 ≡ made es → came_ok (last_end es1) ≡ false → so_far (es1 ++ puts (result o.cause) ∷ []) ≡ over_so_far None (begun_so_far (so_far es) shown)
+    over : (es1 : List Event) → so_far es1 ≡ begun_so_far (found_so_far es) shown → made es1 ≡ made es → came_ok (last_end es1) ≡ false → so_far (es1 ++ puts (result o.cause) ∷ []) ≡ over_so_far None (begun_so_far (found_so_far es) shown)
     over es1 began many failed =
         result_so_far es1 o.cause None (ap (λ (m : CommandsSoFar). m.left) began ∙ left) (begun_concludes es es1 shown began many failed ∙ none) (left_quiet es1 (so_far es1).table (so_far es1).shown failed)
-        ∙ ap (over_so_far None) began
+        ∙ ap (over_so_far None) (hooks_none es1 o.cause shown (ap (λ (m : CommandsSoFar). m.shown) began) (ap (λ m. hooking_in (comes_by 0 m shown)) began ∙ unhooked) ∙ began)
 
-    by : (p : Option (List ℕ)) → so_far (es ++ told ((command_record s shown ∷ []) ++ prints p ++ (result o.cause ∷ []))) ≡ over_so_far None (begun_so_far (so_far es) shown)
+    by : (p : Option (List ℕ)) → so_far (es ++ told ((command_record s shown ∷ []) ++ prints p ++ (result o.cause ∷ []))) ≡ over_so_far None (begun_so_far (found_so_far es) shown)
     by None =
         ap so_far (sym (append_assoc es (e ∷ []) (puts (result o.cause) ∷ []))) ∙ over (es ++ e ∷ []) (begins_so_far es s shown) (made_begun es s shown) (begun_quiet es s shown)
     by (Some bytes) =

@@ -18,7 +18,7 @@ use Rattle.nb_uri.specs.Addresses.{four_decimals}
 use Rattle.nb_terms.specs.declared.cause.Cause.{Cause}
 use Rattle.nb_machine.specs.Errands.{Errand, echoes_then, Onward, onward}
 use Rattle.nb_machine.specs.Queries.{for_lease, bad_name, dns_in, with_domain}
-use Rattle.nb_machine.specs.Effects.{Effect, says, asks, goes, sleeps, shuts_device, inquires, on_images, concludes_at_once, full_opens, unless_full, device_effect, next_effect, next_look_up, next_by_name, at_host, asked_name_server, name_effect, unless_refused, looked_up_effect, plan_effect, planned_effect, words_effect, expansion, expanded_effect, effect, ShownWords, shown_as}
+use Rattle.nb_machine.specs.Effects.{Effect, says, asks, goes, sleeps, shuts_device, inquires, on_images, on_drives, hooks_disk, unhooks_drive, concludes_at_once, full_opens, unless_full, device_effect, next_effect, next_look_up, next_by_name, at_host, asked_name_server, name_effect, unless_refused, looked_up_effect, plan_effect, planned_effect, words_effect, expansion, expanded_effect, effect, ShownWords, shown_as}
 use Rattle.nb_laws.specs.CommandsSoFar.{shown_effect}
 
 -- something is asked for by an open
@@ -30,6 +30,9 @@ IsAsking (goes name) = ⊥
 IsAsking (sleeps seconds) = ⊥
 IsAsking shuts_device = ⊥
 IsAsking (on_images c) = ⊥
+IsAsking (on_drives c) = ⊥
+IsAsking (hooks_disk hooking) = Unit {0}
+IsAsking (unhooks_drive number cause) = ⊥
 IsAsking (concludes_at_once c) = ⊥
 
 -- the second is the first, if something is asked for
@@ -105,6 +108,7 @@ plan_stays k j table (plan.Ifopen device) few = λ is. refl
 plan_stays k j table (plan.Ifclose device) few = λ is. refl
 plan_stays k j table (plan.Sleep seconds) few = λ is. refl
 plan_stays k j table (plan.Images c) few = λ is. refl
+plan_stays k j table (plan.Drives c) few = λ is. refl
 plan_stays k j table (plan.Dhcp device) few = device_stays k j (device_change device true) few
 plan_stays k j table (plan.Ping text) few = host_stays k j table text echoes_then few
 plan_stays k j table (plan.Nslookup setting text) few = address_stays k j table setting text few

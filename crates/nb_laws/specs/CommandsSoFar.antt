@@ -1,11 +1,14 @@
--- What a history says of the command that began last, of the settings, of the device, of the images, and of the scripts within one
--- another.
-use Rattle.std.specs.Prelude.{◌≡◌, ℕ, ◌+◌, ◌-◌, ◌==◌, Bool, true, false, List, [], ◌∷◌, ◌++◌, length, drop, find, fold, Option, Some, None, Result, Ok, Err, if◌then◌else◌}
+-- What a history says of the command that began last, of the settings, of the device, of the images, of the drives, and of the scripts
+-- within one another.
+use Rattle.std.specs.Prelude.{◌≡◌, ℕ, ◌+◌, ◌-◌, ◌==◌, Bool, true, false, List, [], ◌∷◌, ◌++◌, length, drop, find, fold, Option, Some, None, Result, Ok, Err, filter, if◌then◌else◌}
 use Rattle.std.specs.Option.{option_map_or, option_and_then}
 use Rattle.nb_terms.specs.declared.cause.Cause.{Cause}
-use Rattle.nb_defs.specs.Causes.{ok}
+use Rattle.nb_defs.specs.Causes.{ok, is_ok_cause}
 use Rattle.nb_defs.specs.Records.{step, command, result, script}
 use Rattle.nb_defs.specs.ScriptLines.{Line, script_reading}
+use Rattle.nb_drivecmd.specs.declared.drive.Drive.{Drive}
+use Rattle.nb_drivecmd.specs.declared.outcome.Hooking.{Hooking}
+use Rattle.nb_drivecmd.specs.HookedDrives.{with_hooked}
 use Rattle.nb_image.specs.Images.{ImageList}
 use Rattle.nb_tftp.specs.Blocks.{file, is_whole}
 use Rattle.nb_machine.specs.Conclusions.{Conclusion, keeps, tells, fails, boots, runs_script, conclusion}
@@ -14,13 +17,13 @@ use Rattle.nb_imagecmd.specs.declared.error.ImageFailure.{ImageFailure}
 use Rattle.nb_imagecmd.specs.declared.error.ImageFailure.TheVariants.{NoScheme}
 use Rattle.nb_imagecmd.specs.Moving.{moved_file}
 use Rattle.nb_responses.specs.Chunks.{Response}
-use Rattle.nb_machine.specs.Errands.{Wanted, fetches_then, echoes_then}
+use Rattle.nb_machine.specs.Errands.{Wanted, fetches_then, echoes_then, hooks_then}
 use Rattle.nb_machine.specs.FirstText.{first_text, lines_of}
 use Rattle.nb_laws.specs.Wanting.{wanted_by, is_open_of, is_open_for}
 use Rattle.nb_settings.specs.Tables.{TableLists, root_alone}
 use Rattle.nb_machine.specs.StartTable.{start_table}
 use Rattle.nb_machine.specs.Starting.{is_up, no_images}
-use Rattle.nb_machine.specs.Effects.{Effect, says, asks, goes, sleeps, shuts_device, inquires, on_images, concludes_at_once, Surroundings, settled_effect, ShownWords, shown_as, effect, next_effect, next_moved, words_effect, words_table, words_up, changed}
+use Rattle.nb_machine.specs.Effects.{Effect, says, asks, goes, sleeps, shuts_device, inquires, on_images, on_drives, hooks_disk, unhooks_drive, concludes_at_once, Surroundings, settled_effect, ShownWords, shown_as, effect, next_effect, next_moved, words_effect, words_table, words_up, changed}
 use Rattle.nb_machine.specs.Queries.{Query, for_lease, for_echo, for_host, for_address}
 use Rattle.nb_machine.specs.Findings.{lease_change}
 use Rattle.nb_command.specs.Settings.{Change}
@@ -29,7 +32,7 @@ use Rattle.nb_dns.specs.LookupReplies.{address_found}
 use Rattle.nb_dhcp.specs.History.{acknowledgement_in}
 use Rattle.nb_tftp.specs.Received.{Received}
 use Rattle.nb_laws.specs.Events.{Event, starts, hears, waits, stops, puts, followed}
-use Rattle.nb_laws.specs.Lists.{Hardware, hardware, Opening, openings, datagrams_of, made, last_end, came_ok}
+use Rattle.nb_laws.specs.Lists.{Hardware, hardware, Opening, openings, live, datagrams_of, made, last_end, came_ok}
 use Rattle.nb_laws.specs.Webs.{opens_web, opens_a_file, is_body, response_so_far}
 use Rattle.nb_laws.specs.Moves.{MovedOpen, moves}
 use Rattle.nb_laws.specs.Cores.{lookup_by, asker_by, looked_at, handed_over}
@@ -67,7 +70,8 @@ running_base (s ∷ outer) = s.base
 
 -- the time; the settings; the images; whether the device is up; the scripts, the one that runs first; the words of the command that
 -- began last, and when it began; whether a command has no result yet; the cause with which a script within the one that runs was left,
--- until its command has it; and what came of the command that has its result, if it was one on images
+-- until its command has it; what came of the command that has its result, if it was one on images; the drives that commands have hooked,
+-- also where their opens have ended since; and those of them that lived when the command began
 pub record CommandsSoFar : Type 0 where
   pub now : ℕ
   pub table : TableLists
@@ -79,13 +83,15 @@ pub record CommandsSoFar : Type 0 where
   pub is_open : Bool
   pub left : Option Cause
   pub concluded : Option Conclusion
+  pub hooked : List Drive
+  pub drives : List Drive
 
 abbrev pub no_commands : CommandsSoFar
-no_commands = record { now = 0; table = root_alone; images = no_images; up = false; scripts = []; shown = None; since = 0; is_open = false; left = None; concluded = None }
+no_commands = record { now = 0; table = root_alone; images = no_images; up = false; scripts = []; shown = None; since = 0; is_open = false; left = None; concluded = None; hooked = []; drives = [] }
 
--- what a command on images finds, where so many opens were made
+-- what a command on images or drives finds, where so many opens were made
 abbrev pub surroundings_in : ℕ → CommandsSoFar → Surroundings
-surroundings_in opens m = record { opens = opens; table = m.table; images = m.images; base = running_base m.scripts; depth = length m.scripts }
+surroundings_in opens m = record { opens = opens; table = m.table; images = m.images; drives = m.drives; base = running_base m.scripts; depth = length m.scripts }
 
 -- what the command of these words comes to
 abbrev pub comes_by : ℕ → CommandsSoFar → ShownWords → Effect
@@ -95,6 +101,7 @@ comes_by opens m shown = settled_effect (surroundings_in opens m) (shown_effect 
 abbrev pub asking_of_query : Query → Option Asking
 asking_of_query (for_host (fetches_then asking) name by) = Some asking
 asking_of_query (for_host echoes_then name by) = None
+asking_of_query (for_host (hooks_then hooking) name by) = None
 asking_of_query for_lease = None
 asking_of_query (for_echo server) = None
 asking_of_query (for_address setting name by) = None
@@ -107,6 +114,9 @@ asking_in (goes name) = None
 asking_in (sleeps seconds) = None
 asking_in shuts_device = None
 asking_in (on_images c) = None
+asking_in (on_drives c) = None
+asking_in (hooks_disk hooking) = None
+asking_in (unhooks_drive number cause) = None
 asking_in (concludes_at_once c) = None
 
 -- the same, where the server of this open has moved it, or why its command fails; an open that asked for another file moves it nowhere
@@ -161,6 +171,9 @@ query_in (goes name) = None
 query_in (sleeps seconds) = None
 query_in shuts_device = None
 query_in (on_images c) = None
+query_in (on_drives c) = None
+query_in (hooks_disk hooking) = None
+query_in (unhooks_drive number cause) = None
 query_in (concludes_at_once c) = None
 
 -- the settings with what a command has found, unless they refuse it
@@ -214,6 +227,9 @@ concluded_in (sleeps seconds) = None
 concluded_in shuts_device = None
 concluded_in (inquires q) = None
 concluded_in (on_images c) = None
+concluded_in (on_drives c) = None
+concluded_in (hooks_disk hooking) = None
+concluded_in (unhooks_drive number cause) = None
 
 -- what the command that began last comes to as one on images: by its file, where its open has ended so, or else by its words
 abbrev pub conclusion_so_far : Option Cause → List Event → CommandsSoFar → Option Conclusion
@@ -243,6 +259,53 @@ script_in (boots list kernel) = []
 abbrev pub script_run : Option Conclusion → List ScriptSoFar
 script_run None = []
 script_run (Some c) = script_in c
+
+-- THE DRIVES
+
+abbrev pub has_opening : List Opening → Bool
+has_opening [] = false
+has_opening (o ∷ os) = true
+
+-- a drive is hooked as long as its open lives
+abbrev pub drive_lives : List Event → Drive → Bool
+drive_lives es drive = has_opening (live drive.open_number es)
+
+abbrev pub still_living : List Event → List Drive → List Drive
+still_living es drives = filter (drive_lives es) drives
+
+-- the disk that the words of a command hook, if they hook one
+abbrev pub hooking_in : Effect → Option Hooking
+hooking_in (hooks_disk hooking) = Some hooking
+hooking_in (says o) = None
+hooking_in (asks wanted) = None
+hooking_in (goes name) = None
+hooking_in (sleeps seconds) = None
+hooking_in shuts_device = None
+hooking_in (inquires q) = None
+hooking_in (on_images c) = None
+hooking_in (on_drives c) = None
+hooking_in (unhooks_drive number cause) = None
+hooking_in (concludes_at_once c) = None
+
+abbrev pub hooking_so_far : CommandsSoFar → Option Hooking
+hooking_so_far m = option_and_then (λ shown. hooking_in (comes_by 0 m shown)) m.shown
+
+-- with a drive that is hooked on this open, where the command succeeds
+abbrev pub hooked_after : Option Hooking → Cause → ℕ → List Drive → List Drive
+hooked_after None cause k drives = drives
+hooked_after (Some hooking) cause k drives =
+    if is_ok_cause cause then with_hooked (record { number = hooking.number; described = hooking.described; open_number = k }) drives else drives
+
+-- a command finds the drives that are hooked
+abbrev pub finding : List Event → CommandsSoFar → CommandsSoFar
+finding before m = record m { drives = still_living before m.hooked }
+
+-- a result hooks the disk of its command, on the open made last
+abbrev pub hooked_then : Cause → List Event → CommandsSoFar → List Drive
+hooked_then cause before m = hooked_after (hooking_so_far m) cause (made before - 1) m.hooked
+
+abbrev pub hooking : List Drive → CommandsSoFar → CommandsSoFar
+hooking drives m = record m { hooked = drives }
 
 -- WHAT THE COMMANDS DID
 
@@ -281,14 +344,16 @@ script_done what depth cause before m =
     if what == 0 then entered_so_far depth before m else if what == 1 then left_so_far depth cause m else replaced_so_far m
 
 -- START gives the first settings and the first script, and says whether the device is up; a command begins, and sets the device up or
--- down; a result leaves its command's settings and images, by the events before it; scripts are entered, left and replaced; time passes
+-- down, and finds the drives that are hooked; a result leaves its command's settings and images, and the drive that it hooks, by the events
+-- before it; scripts are entered, left and replaced; time passes
 abbrev pub so_far_by : List Event → CommandsSoFar → Event → CommandsSoFar
 so_far_by before m (starts n s) = record m { table = start_table s; up = is_up s; scripts = script_so_far (first_text s.script) None ∷ [] }
 so_far_by before m (hears n bytes b) = m
 so_far_by before m (waits n ms) = record m { now = m.now + ms }
 so_far_by before m (stops n) = m
-so_far_by before m (puts (command depth line place expanded words)) = record m { up = shown_up m.up (shown_as expanded words); shown = Some (shown_as expanded words); since = m.now; is_open = true }
-so_far_by before m (puts (result cause)) = result_so_far m.left before m
+so_far_by before m (puts (command depth line place expanded words)) =
+    record (finding before m) { up = shown_up m.up (shown_as expanded words); shown = Some (shown_as expanded words); since = m.now; is_open = true }
+so_far_by before m (puts (result cause)) = hooking (hooked_then cause before m) (result_so_far m.left before m)
 so_far_by before m (puts (script what depth cause)) = script_done what depth cause before m
 so_far_by before m (puts (step number)) = m
 so_far_by before m (puts o) = m

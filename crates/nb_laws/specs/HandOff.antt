@@ -1,13 +1,19 @@
 -- What is handed off: the images that the commands have left in the list, by the history alone.
-use Rattle.std.specs.Prelude.{◌≡◌, ℕ, ◌-◌, true, List, [], ◌∷◌, ◌++◌, map, Some, ◌*◌, length}
-use Rattle.std.specs.List.{AllByRecursion}
+use Rattle.std.specs.Prelude.{◌≡◌, ℕ, ◌-◌, true, List, [], ◌∷◌, ◌++◌, map, Some, ◌*◌, length, Option, option_map}
+use Rattle.std.specs.List.{AllByRecursion, flat_map}
+use Rattle.std.specs.Option.{option_map_or}
 use Rattle.nb_defs.specs.Causes.{ok}
 use Rattle.nb_defs.specs.Parts.{HaveNoParts}
 use Rattle.nb_defs.specs.Records.{Out, result}
 use Rattle.nb_image.specs.declared.image.Image.{Image}
-use Rattle.nb_image.specs.Images.{ImageList}
 use Rattle.nb_imagecmd.specs.Asking.{target_uri}
-use Rattle.nb_machine.specs.Conclusions.{boots, handoff_records}
+use Rattle.nb_command.specs.SettingAddresses.{host}
+use Rattle.nb_drivecmd.specs.declared.drive.Drive.{Drive}
+use Rattle.nb_drivecmd.specs.HookedDrives.{described_drives}
+use Rattle.nb_drivelogin.specs.DriveInfos.{drive_info}
+use Rattle.nb_drivelogin.specs.DriveOpens.{DriveOpen}
+use Rattle.nb_ibft.specs.Tables.{ibft}
+use Rattle.nb_machine.specs.Conclusions.{handoff_records}
 use Rattle.nb_machine.specs.Effects.{ShownWords}
 use Rattle.nb_machine.specs.Errands.{Wanted}
 use Rattle.nb_machine.specs.Findings.{first_word}
@@ -18,37 +24,40 @@ use Rattle.nb_sans.specs.Sessions.{tasks_taken, task_answers}
 use Rattle.nb_streams.specs.Streams.{front}
 use Rattle.nb_talks.specs.Talking.{talk_held}
 use Rattle.nb_webs.specs.Entries.{StoreEntry, file, elsewhere, disk, ServesEntry}
-use Rattle.nb_laws.specs.CommandsSoFar.{so_far, surroundings_in, comes_after, conclusion_so_far}
+use Rattle.nb_laws.specs.CommandsSoFar.{so_far, surroundings_in, comes_after}
 use Rattle.nb_laws.specs.Drives.{SessionOpening, sessions, session_so_far, answered_so_far}
 use Rattle.nb_machine.specs.Drives.{DriveAnswer}
 use Rattle.nb_laws.specs.Events.{Event, puts, EachEvent}
 use Rattle.nb_laws.specs.Fetching.{FetchesFile}
 use Rattle.nb_laws.specs.Lists.{hardware, Opening, openings, datagrams_of, came_ok, last_end, made}
 use Rattle.nb_laws.specs.Moves.{MovedOpen, moves}
-use Rattle.nb_laws.specs.Silence.{AreSilent}
+use Rattle.nb_laws.specs.Endings.{ClosesToBoot}
+use Rattle.nb_laws.specs.Hookings.{hooked_drives}
 use Rattle.nb_laws.specs.Wanting.{wanted_by, is_open_of}
 use Rattle.nb_laws.specs.Webs.{opens_a_file, brought_to, talk_by}
 
--- the last RESULT is Ok, of a command that boots the image at this place of this list, and no COMMAND stands after it
-pub record HasBooted (es : List Event) : Type 0 where
-  pub before : List Event
-  pub since : List Out
-  pub ends : es ≡ before ++ puts (result ok) ∷ map puts since
-  pub silent : AreSilent since
-  pub list : ImageList
-  pub kernel : ℕ
-  pub boots : conclusion_so_far (last_end before) before (so_far before) ≡ Some (boots list kernel)
+-- the open of a drive, by which it was hooked, and how its login went
+abbrev pub drive_open_by_session : ℕ → SessionOpening → Option DriveAnswer → DriveOpen
+drive_open_by_session k s answered =
+    record { number = k; server = host s.opening.server; port = s.opening.port; chap = option_map_or (λ (a : DriveAnswer). a.chap) answered 0; login = s.login }
+
+abbrev pub drive_open_so_far : List Event → Drive → List DriveOpen
+drive_open_so_far es drive = map (λ s. drive_open_by_session drive.open_number s (answered_so_far drive.open_number s es)) (sessions drive.open_number es)
+
+-- the boot table of the described drives that are hooked then, as the settings and their logins say; none where none is
+unfoldable pub boot_table_so_far : List Event → Option (List ℕ)
+boot_table_so_far es = option_map ibft (drive_info (hardware es).mac (so_far es).table (flat_map (drive_open_so_far es) (described_drives (hooked_drives es))))
 
 -- The output, with these records still to come, ends with the hand-off of the images that the commands have left, the selected one
--- first, after the RESULT of the command that boots it; no PART stands before it.
+-- first, and of the boot table of the drives that are hooked then, after the RESULT of the command that boots it; no PART stands before it.
 pub record HandsOff (es : List Event) (outs rest : List Out) : Type 0 where
-  pub booted : HasBooted es
+  pub booted : ClosesToBoot es
   pub place : booted.list.selected ≡ Some booted.kernel
   -- the list is the one of which it is said what each image is
   pub list_is : booted.list ≡ (so_far es).images
   pub before : List Out
   pub none : HaveNoParts before
-  pub ends : outs ++ rest ≡ before ++ handoff_records booted.kernel booted.list.images
+  pub ends : outs ++ rest ≡ before ++ handoff_records booted.kernel booted.list.images (boot_table_so_far (booted.before ++ puts (result ok) ∷ []))
 
 -- what servers hold: by an address, a port and a target, a path or a whole URI, a file, another place or a refusal; under a disk's name and unit
 -- its bytes

@@ -6,8 +6,8 @@ use Rattle.nb_imagecmd.specs.Asking.{target_host, target_port, target_text}
 use Rattle.nb_uri.specs.Addresses.{four_decimals}
 use Rattle.nb_uri.specs.declared.target.UriTarget.{UriTarget}
 use Rattle.nb_uri.specs.declared.target.UriTarget.TheVariants.{Tftp, Http, Iscsi}
-use Rattle.nb_machine.specs.Effects.{Effect, says, asks, goes, sleeps, shuts_device, inquires, on_images, concludes_at_once}
-use Rattle.nb_machine.specs.Errands.{Wanted, fetches_then, echoes_then}
+use Rattle.nb_machine.specs.Effects.{Effect, says, asks, goes, sleeps, shuts_device, inquires, on_images, on_drives, hooks_disk, unhooks_drive, concludes_at_once}
+use Rattle.nb_machine.specs.Errands.{Wanted, fetches_then, echoes_then, hooks_then}
 use Rattle.nb_machine.specs.Queries.{Query, for_lease, for_echo, for_host, for_address}
 use Rattle.nb_laws.specs.Lists.{Opening}
 
@@ -15,6 +15,7 @@ use Rattle.nb_laws.specs.Lists.{Opening}
 abbrev pub wanted_of_host : Query → Opening → Option Wanted
 wanted_of_host (for_host (fetches_then asking) name by) o = Some (record { server = o.server; asking = asking })
 wanted_of_host (for_host echoes_then name by) o = None
+wanted_of_host (for_host (hooks_then hooking) name by) o = None
 wanted_of_host for_lease o = None
 wanted_of_host (for_echo server) o = None
 wanted_of_host (for_address setting name by) o = None
@@ -28,6 +29,9 @@ wanted_by (sleeps seconds) o = None
 wanted_by shuts_device o = None
 wanted_by (inquires q) o = wanted_of_host q o
 wanted_by (on_images command) o = None
+wanted_by (on_drives command) o = None
+wanted_by (hooks_disk hooking) o = None
+wanted_by (unhooks_drive number cause) o = None
 wanted_by (concludes_at_once c) o = None
 
 -- the kind of an open for a target: 1 by TFTP, 2 by HTTP; a disk isn't fetched

@@ -10,11 +10,12 @@ use Rattle.nb_command.specs.declared.command_plan.CommandPlan.TheVariants as pla
 use Rattle.nb_command.specs.declared.error.ApplyError.{ApplyError}
 use Rattle.nb_imagecmd.specs.declared.error.PlanError.{PlanError}
 use Rattle.nb_imagecmd.specs.declared.commands.ImageCommand.{ImageCommand}
+use Rattle.nb_drivecmd.specs.declared.commands.DriveCommand.{DriveCommand}
 use Rattle.nb_command.specs.Planning.{planned}
 use Rattle.nb_command.specs.Device.{device_change}
 use Rattle.nb_machine.specs.Queries.{Query, for_lease}
-use Rattle.nb_machine.proofs.Eithers.{full_either, images_either, pinged_either, looked_up_either}
-use Rattle.nb_machine.specs.Effects.{Effect, says, asks, goes, sleeps, shuts_device, inquires, on_images, concludes_at_once, Surroundings, settled_effect, effect_in, unless_full, sleeping_for, device_effect, plan_effect, plan_table, plan_up, set_up, planned_effect, planned_table, planned_up, words_effect, words_table, words_up, expansion, expanded_effect, expanded_table, expanded_up, expand_cause, effect, table_after, up_after, shown_words, shown_by, shown_as}
+use Rattle.nb_machine.proofs.Eithers.{drives_either, full_either, images_either, looked_up_either, pinged_either}
+use Rattle.nb_machine.specs.Effects.{Effect, says, asks, goes, sleeps, shuts_device, inquires, on_images, on_drives, hooks_disk, unhooks_drive, concludes_at_once, Surroundings, settled_effect, effect_in, unless_full, sleeping_for, device_effect, plan_effect, plan_table, plan_up, set_up, planned_effect, planned_table, planned_up, words_effect, words_table, words_up, expansion, expanded_effect, expanded_table, expanded_up, expand_cause, effect, table_after, up_after, shown_words, shown_by, shown_as}
 
 -- expanded words say the effect
 pub effect_of_words : (opens : ℕ) (table : TableLists) (written ws : List (List ℕ)) → expansion table written ≡ Ok ws → effect opens table written ≡ words_effect opens table ws
@@ -73,6 +74,9 @@ KeepsTable (sleeps seconds) table other = other ≡ table
 KeepsTable shuts_device table other = Unit {0}
 KeepsTable (inquires q) table other = Unit {0}
 KeepsTable (on_images command) table other = other ≡ table
+KeepsTable (on_drives command) table other = other ≡ table
+KeepsTable (hooks_disk hooking) table other = other ≡ table
+KeepsTable (unhooks_drive number cause) table other = other ≡ table
 KeepsTable (concludes_at_once c) table other = other ≡ table
 
 keeps_same : (e : Effect) (table : TableLists) → KeepsTable e table table
@@ -83,6 +87,9 @@ keeps_same (sleeps seconds) table = refl
 keeps_same shuts_device table = tt
 keeps_same (inquires q) table = tt
 keeps_same (on_images command) table = refl
+keeps_same (on_drives command) table = refl
+keeps_same (hooks_disk hooking) table = refl
+keeps_same (unhooks_drive number cause) table = refl
 keeps_same (concludes_at_once c) table = refl
 
 keeps_plan : (opens : ℕ) (table : TableLists) (p : CommandPlan) → KeepsTable (plan_effect opens table p) table (plan_table p table)
@@ -96,6 +103,7 @@ keeps_plan opens table (plan.Clear name) = tt
 keeps_plan opens table (plan.Show name) = tt
 keeps_plan opens table (plan.Inc name by) = tt
 keeps_plan opens table (plan.Images command) = refl
+keeps_plan opens table (plan.Drives command) = refl
 keeps_plan opens table (plan.Ifopen device) = keeps_same (plan_effect opens table (plan.Ifopen device)) table
 keeps_plan opens table (plan.Ifclose device) = keeps_same (plan_effect opens table (plan.Ifclose device)) table
 keeps_plan opens table (plan.Dhcp device) = keeps_same (plan_effect opens table (plan.Dhcp device)) table
@@ -130,6 +138,9 @@ KeepsUp (sleeps seconds) up other = other ≡ up
 KeepsUp shuts_device up other = Unit {0}
 KeepsUp (inquires q) up other = Unit {0}
 KeepsUp (on_images command) up other = other ≡ up
+KeepsUp (on_drives command) up other = other ≡ up
+KeepsUp (hooks_disk hooking) up other = other ≡ up
+KeepsUp (unhooks_drive number cause) up other = other ≡ up
 KeepsUp (concludes_at_once c) up other = other ≡ up
 
 keeps_same_up : (e : Effect) (up : Bool) → KeepsUp e up up
@@ -140,6 +151,9 @@ keeps_same_up (sleeps seconds) up = refl
 keeps_same_up shuts_device up = tt
 keeps_same_up (inquires q) up = tt
 keeps_same_up (on_images command) up = refl
+keeps_same_up (on_drives command) up = refl
+keeps_same_up (hooks_disk hooking) up = refl
+keeps_same_up (unhooks_drive number cause) up = refl
 keeps_same_up (concludes_at_once c) up = refl
 
 device_keeps : (e : Effect) (r : Result Bool ApplyError) (up : Bool) → ((other : Bool) → KeepsUp e up other) → KeepsUp (device_effect e r) up (set_up up r)
@@ -157,6 +171,7 @@ keeps_plan_up opens table up (plan.Clear name) = keeps_same_up (plan_effect open
 keeps_plan_up opens table up (plan.Show name) = keeps_same_up (plan_effect opens table (plan.Show name)) up
 keeps_plan_up opens table up (plan.Inc name by) = keeps_same_up (plan_effect opens table (plan.Inc name by)) up
 keeps_plan_up opens table up (plan.Images command) = refl
+keeps_plan_up opens table up (plan.Drives command) = refl
 keeps_plan_up opens table up (plan.Sleep seconds) = keeps_same_up (plan_effect opens table (plan.Sleep seconds)) up
 keeps_plan_up opens table up (plan.Dhcp device) =
     device_keeps (unless_full opens (inquires for_lease)) (device_change device true) up (λ other. full_either (λ e. KeepsUp e up other) (λ o. tt) opens (inquires for_lease) tt)
@@ -191,6 +206,7 @@ pub record Covers (P : Effect → Type 0) : Type 0 where
   pub of_shut : P shuts_device
   pub of_inquiry : (q : Query) → P (inquires q)
   pub of_images : (command : ImageCommand) → P (on_images command)
+  pub of_drives : (command : DriveCommand) → P (on_drives command)
 
 device_covered : (P : Effect → Type 0) → Covers P → (e : Effect) → P e → (r : Result Bool ApplyError) → P (device_effect e r)
 device_covered P c e is (Ok up) = is
@@ -207,6 +223,7 @@ plan_covered P c opens table (plan.Clear name) = c.of_says _
 plan_covered P c opens table (plan.Show name) = c.of_says _
 plan_covered P c opens table (plan.Inc name by) = c.of_says _
 plan_covered P c opens table (plan.Images command) = c.of_images command
+plan_covered P c opens table (plan.Drives command) = c.of_drives command
 plan_covered P c opens table (plan.Ifopen device) = device_covered P c (says (refused ok)) (c.of_says _) (device_change device true)
 plan_covered P c opens table (plan.Ifclose device) = device_covered P c shuts_device c.of_shut (device_change device false)
 plan_covered P c opens table (plan.Dhcp device) =
@@ -239,6 +256,9 @@ IsRested (goes name) = Unit {0}
 IsRested shuts_device = Unit {0}
 IsRested (inquires q) = Unit {0}
 IsRested (on_images command) = Unit {0}
+IsRested (on_drives command) = Unit {0}
+IsRested (hooks_disk hooking) = Unit {0}
+IsRested (unhooks_drive number cause) = Unit {0}
 IsRested (concludes_at_once c) = Unit {0}
 
 rested_for : (seconds : ℕ) (b : Bool) → (seconds == 0) ≡ b → IsRested (cond b (says (refused ok)) (sleeps seconds))
@@ -253,6 +273,7 @@ all_rested = record {
   of_inquiry = λ q. tt;
   of_sleep = λ seconds. rested_for seconds (seconds == 0) refl;
   of_images = λ command. tt;
+  of_drives = λ command. tt;
 }
 
 -- a command that sleeps does so for some time
@@ -263,6 +284,9 @@ sleeps_some opens table ws seconds is = subst IsRested is (effect_covered IsRest
 
 rested_in : (x : Surroundings) (e : Effect) → IsRested e → IsRested (settled_effect x e)
 rested_in x (on_images command) h = images_either IsRested (λ o. tt) (λ c. tt) (λ wanted. tt) (λ q. tt) x command
+rested_in x (on_drives command) h = drives_either IsRested (λ o. tt) (λ hooking. tt) (λ number cause. tt) x command
+rested_in x (hooks_disk hooking) h = tt
+rested_in x (unhooks_drive number cause) h = tt
 rested_in x (says o) h = tt
 rested_in x (asks wanted) h = tt
 rested_in x (goes name) h = tt
@@ -278,6 +302,9 @@ sleeps_some_in x ws seconds is = subst IsRested is (rested_in x (effect x.opens 
 
 settled_keeps : (x : Surroundings) (e : Effect) (table other : TableLists) → KeepsTable e table other → KeepsTable (settled_effect x e) table other
 settled_keeps x (on_images command) table other h = images_either (λ e. KeepsTable e table other) (λ o. tt) (λ c. h) (λ wanted. h) (λ q. tt) x command
+settled_keeps x (on_drives command) table other h = drives_either (λ e. KeepsTable e table other) (λ o. tt) (λ hooking. h) (λ number cause. h) x command
+settled_keeps x (hooks_disk hooking) table other h = h
+settled_keeps x (unhooks_drive number cause) table other h = h
 settled_keeps x (says o) table other h = h
 settled_keeps x (asks wanted) table other h = h
 settled_keeps x (goes name) table other h = h
@@ -288,6 +315,9 @@ settled_keeps x (concludes_at_once c) table other h = h
 
 settled_keeps_up : (x : Surroundings) (e : Effect) (up other : Bool) → KeepsUp e up other → KeepsUp (settled_effect x e) up other
 settled_keeps_up x (on_images command) up other h = images_either (λ e. KeepsUp e up other) (λ o. tt) (λ c. h) (λ wanted. h) (λ q. tt) x command
+settled_keeps_up x (on_drives command) up other h = drives_either (λ e. KeepsUp e up other) (λ o. tt) (λ hooking. h) (λ number cause. h) x command
+settled_keeps_up x (hooks_disk hooking) up other h = h
+settled_keeps_up x (unhooks_drive number cause) up other h = h
 settled_keeps_up x (says o) up other h = h
 settled_keeps_up x (asks wanted) up other h = h
 settled_keeps_up x (goes name) up other h = h

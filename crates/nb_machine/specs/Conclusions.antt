@@ -1,12 +1,12 @@
 -- What comes of a command on images, at once or when its file has come, and the records of a hand-off.
-use Rattle.std.specs.Prelude.{ℕ, Bool, true, false, List, [], ◌∷◌, ◌++◌, map, unwrap_or, Ok, Err, if◌then◌else◌}
+use Rattle.std.specs.Prelude.{ℕ, Bool, true, false, List, [], ◌∷◌, ◌++◌, map, Option, unwrap_or, Ok, Err, if◌then◌else◌}
 use Rattle.std.specs.List.{flat_map}
 use Rattle.nb_terms.specs.declared.cause.Cause.{Cause}
 use Rattle.nb_defs.specs.Causes.{ok, is_ok_cause}
 use Rattle.nb_defs.specs.Records.{Out, text, result, part}
 use Rattle.nb_image.specs.declared.image.Image.{Image}
 use Rattle.nb_image.specs.Images.{ImageList}
-use Rattle.nb_image.specs.Parts.{PartText, PieceText, part_number, parts, part_pieces}
+use Rattle.nb_image.specs.Parts.{PartText, PieceText, part_number, parts, table_parts, part_pieces}
 use Rattle.nb_imagecmd.specs.declared.arriving.Arrival.{Arrival}
 use Rattle.nb_imagecmd.specs.declared.arriving.Arrival.TheVariants as arrival
 use Rattle.nb_imagecmd.specs.declared.asking.Asking.{Asking}
@@ -62,6 +62,6 @@ piece_record p piece = part (part_number p.kind) p.index piece.offset piece.byte
 abbrev pub part_records : PartText → List Out
 part_records p = map (piece_record p) (part_pieces p.bytes)
 
--- the records of a hand-off: each part in its pieces
-abbrev pub handoff_records : ℕ → List Image → List Out
-handoff_records kernel images = flat_map part_records (parts kernel images)
+-- the records of a hand-off: each part in its pieces, and last the boot table, where there is one
+abbrev pub handoff_records : ℕ → List Image → Option (List ℕ) → List Out
+handoff_records kernel images table = flat_map part_records (parts kernel images ++ table_parts table)

@@ -1,6 +1,7 @@
 -- The machine over a whole run: records used and records written, by the network and the scripts. It reads whole
 -- lists, and knows nothing of bytes, buffers or calls.
-use Rattle.std.specs.Prelude.{◌≡◌, ◌<◌, ℕ, ◌+◌, Bool, true, false, List, [], ◌∷◌, ◌++◌, Option, Some, None, slice_get}
+use Rattle.std.specs.Prelude.{◌≡◌, ◌<◌, ℕ, ◌+◌, ◌==◌, Bool, true, false, List, [], ◌∷◌, ◌++◌, Option, Some, None, Result, Ok, Err, filter, not, slice_get}
+use Rattle.std.specs.List.{list_any}
 use Rattle.nb_terms.specs.declared.cause.Cause.{Cause}
 use Rattle.nb_defs.specs.Causes.{ok, plain_cause}
 use Rattle.nb_defs.specs.Commands.{CommandOutcome, refused}
@@ -8,23 +9,42 @@ use Rattle.nb_defs.specs.Records.{Start, In, start, off, IsIn, Out, step, enter,
 use Rattle.nb_defs.specs.ScriptLines.{Line, script, script_reading, label_place}
 use Rattle.nb_stack.specs.Client.{Client}
 use Rattle.nb_imagecmd.specs.declared.outcome.ScriptImage.{ScriptImage}
+use Rattle.nb_drivecmd.specs.declared.drive.Drive.{Drive}
+use Rattle.nb_drivecmd.specs.declared.outcome.Hooking.{Hooking}
+use Rattle.nb_drivecmd.specs.HookedDrives.{is_drive}
 use Rattle.nb_scripts.specs.Records.{replace}
 use Rattle.nb_machine.specs.Conclusions.{Conclusion, keeps, tells, fails, boots, runs_script, conclusion_records, handoff_records}
-use Rattle.nb_machine.specs.Effects.{shown_words, full_opens}
+use Rattle.nb_machine.specs.BootTables.{boot_table}
+use Rattle.nb_machine.specs.Effects.{shown_words, full_opens, next_at_target}
 use Rattle.nb_machine.specs.Errands.{Onward}
 use Rattle.nb_machine.specs.FirstText.{first_reading, text_refusal, lines_of}
 use Rattle.nb_machine.specs.Running.{Running, first_script, coming, passing, leaving, beginning, entered, further, behind_line, with_result, anew, script_within, script_in_place, counting_on, no_label}
 use Rattle.nb_machine.specs.CommandRecords.{command_record, command_records, no_route, stopped_cause}
 use Rattle.nb_machine.specs.Lives.{close, Live, open_record, end_record}
 use Rattle.nb_machine.specs.Kinds.{first_records}
-use Rattle.nb_machine.specs.States.{State, state_at_start, with_images, with_settings, with_live, with_opened, with_one_made}
+use Rattle.nb_machine.specs.States.{State, state_at_start, with_images, with_settings, with_live, with_drive, with_opened, with_one_made}
 use Rattle.nb_machine.specs.Takings.{Over, AllTake}
 use Rattle.nb_machine.specs.Network.{Network}
-use Rattle.nb_machine.specs.Scripts.{Job, sleep, ends, opens, goes_to, waits_until, shuts, concludes_now, doing, live_onward, job_onward, answer, moment, Answer, answer_in, Waiting, waiting_anew, Upshot, concludes, settles, goes_onward, upshot_records, concluded_by}
+use Rattle.nb_machine.specs.Scripts.{Job, sleep, ends, opens, goes_to, waits_until, shuts, concludes_now, hooks_one, lets_go, doing, live_onward, job_onward, answer, moment, awaited_onward, Answer, answer_in, has_number, Waiting, waiting_anew, Upshot, concludes, settles, hooks_drive, goes_onward, upshot_records, concluded_by}
 
 -- the device went down
 abbrev pub down_cause : Cause
 down_cause = plain_cause 25
+
+-- the open is that of one of these drives
+abbrev pub is_drives_own : List Drive → Live → Bool
+is_drives_own drives l = list_any (λ d. d.open_number == l.number) drives
+
+-- all that lives, the drives first as they are numbered: each drive's open, and then what remains
+abbrev pub drives_first : List Drive → List Live → List Live
+drives_first [] live = live
+drives_first (d ∷ drives) live = filter (has_number d.open_number) live ++ drives_first drives (filter (λ l. not (has_number d.open_number l)) live)
+
+-- The drive of this number is closed, if one is hooked: it puts these records, and all else lives on.
+pub record DropsDrive (s : State) (number : ℕ) (put : List Out) (s' : State) : Type 0 where
+  pub over : List Over
+  pub closes : AllTake s.devices (close stopped_cause) (filter (is_drives_own (filter (is_drive number) s.drives)) s.live) put [] over
+  pub leaves : s' ≡ with_live s (filter (λ l. not (is_drives_own (filter (is_drive number) s.drives) l)) s.live)
 
 -- where a run stands
 pub data Standing : Type 0 where
@@ -34,7 +54,7 @@ pub data Standing : Type 0 where
   running : State → Running → (outer : List Running) → Standing
   -- a command of the innermost waits
   waiting : State → Waiting → Standing
-  -- a command of the innermost has looked up its server, and its own open is to be made
+  -- a command of the innermost has looked up its server, or hooks a disk, and its own open is to be made
   reaching : State → Running → (outer : List Running) → Onward → Standing
   -- the innermost had all the commands of a step, and another is to begin
   yielded : State → Running → (outer : List Running) → Standing
@@ -86,14 +106,15 @@ ConclusionLeads s inner outer (tells list lines) put p = (put ≡ []) × (p ≡ 
 ConclusionLeads s inner outer (fails cause) put p = (put ≡ []) × (p ≡ running s (with_result inner cause) outer)
 ConclusionLeads s inner outer (boots list kernel) put p =
     (over : List Over) × AllTake s.devices (close stopped_cause) s.live put [] over
-    × (p ≡ handing (with_live (with_images s list) []) (handoff_records kernel list.images))
+    × (p ≡ handing (with_live (with_images s list) []) (handoff_records kernel list.images (boot_table s)))
 ConclusionLeads s inner outer (runs_script list image replaces) put p = ScriptLeads (with_images s list) inner outer image replaces put p
 
--- The same of what comes of a command: where that is settings, the device follows them; and where its server was looked up, its own
--- open is next.
+-- The same of what comes of a command: where that is settings, the device follows them; a drive is hooked, if its open lives on; and where
+-- its server was looked up, its own open is next.
 abbrev pub LeadsTo : State → Running → List Running → Upshot → List Out → Standing → Type 0
 LeadsTo s inner outer (concludes c) put p = ConclusionLeads s inner outer c put p
 LeadsTo s inner outer (settles x) put p = (put ≡ []) × (p ≡ running (with_settings s x.table s.up) (with_result inner x.cause) outer)
+LeadsTo s inner outer (hooks_drive d) put p = (put ≡ []) × (p ≡ running (with_drive s d) (with_result inner ok) outer)
 LeadsTo s inner outer (goes_onward next) put p = (put ≡ []) × (p ≡ reaching s inner outer next)
 
 -- A record is used, and its step begins. A first record comes before any other; each later one comes while a command
@@ -144,11 +165,25 @@ pub data Proceeds : Progress → List Out → Progress → Type 0 where
   does : (n : ℕ) (s s' : State) (inner : Running) (outer : List Running) (c : List ℕ) (cs : List (List ℕ)) (o : CommandOutcome) →
       coming inner ≡ beginning c cs → inner.begun < 4096 → doing s inner (c ∷ cs) ≡ ends o s' → o.leaves ≡ false →
       Proceeds (stands n (running s inner outer)) (command_records inner (shown_words s.table (c ∷ cs)) o) (stands n (running s' (further inner o.cause) outer))
-  -- `ifclose`: the device is down, and then all that lives is closed with Down
+  -- `ifclose`: the device is down, and then all that lives is closed with Down, the drives by rising number
   closes_device : (n : ℕ) (s s' : State) (inner : Running) (outer : List Running) (c : List ℕ) (cs : List (List ℕ)) (put : List Out) (over : List Over) →
-      coming inner ≡ beginning c cs → inner.begun < 4096 → doing s inner (c ∷ cs) ≡ shuts s' → AllTake s'.devices (close down_cause) s'.live put [] over →
+      coming inner ≡ beginning c cs → inner.begun < 4096 → doing s inner (c ∷ cs) ≡ shuts s' → AllTake s'.devices (close down_cause) (drives_first s'.drives s'.live) put [] over →
       Proceeds (stands n (running s inner outer)) (command_record inner (shown_words s.table (c ∷ cs)) ∷ put ++ (result ok ∷ []))
       (stands n (running (with_live s' []) (further inner ok) outer))
+  -- a disk is to be hooked: the drive of its number is closed, and the command's open is next
+  goes_to_hook : (n : ℕ) (s s' : State) (inner : Running) (outer : List Running) (c : List ℕ) (cs : List (List ℕ)) (hooking : Hooking) (put : List Out) (next : Onward) →
+      coming inner ≡ beginning c cs → inner.begun < 4096 → doing s inner (c ∷ cs) ≡ hooks_one hooking → DropsDrive s hooking.number put s' →
+      next_at_target s'.opens s'.table s'.drives hooking ≡ Ok next →
+      Proceeds (stands n (running s inner outer)) (command_record inner (shown_words s.table (c ∷ cs)) ∷ put) (stands n (reaching s' (entered inner) outer next))
+  -- the drive of its number is closed, and nothing may be opened
+  hooks_none : (n : ℕ) (s s' : State) (inner : Running) (outer : List Running) (c : List ℕ) (cs : List (List ℕ)) (hooking : Hooking) (put : List Out) (cause : Cause) →
+      coming inner ≡ beginning c cs → inner.begun < 4096 → doing s inner (c ∷ cs) ≡ hooks_one hooking → DropsDrive s hooking.number put s' →
+      next_at_target s'.opens s'.table s'.drives hooking ≡ Err cause →
+      Proceeds (stands n (running s inner outer)) (command_record inner (shown_words s.table (c ∷ cs)) ∷ put ++ (result cause ∷ [])) (stands n (running s' (further inner cause) outer))
+  -- the drive of a number is closed, and the command is over
+  unhooks : (n : ℕ) (s s' : State) (inner : Running) (outer : List Running) (c : List ℕ) (cs : List (List ℕ)) (number : ℕ) (put : List Out) (cause : Cause) →
+      coming inner ≡ beginning c cs → inner.begun < 4096 → doing s inner (c ∷ cs) ≡ lets_go number cause → DropsDrive s number put s' →
+      Proceeds (stands n (running s inner outer)) (command_record inner (shown_words s.table (c ∷ cs)) ∷ put ++ (result cause ∷ [])) (stands n (running s' (further inner cause) outer))
   -- a command on images that waits for nothing
   concludes_there : (n : ℕ) (s : State) (inner : Running) (outer : List Running) (c : List ℕ) (cs : List (List ℕ)) (x : Conclusion) (put : List Out) (p : Standing) →
       coming inner ≡ beginning c cs → inner.begun < 4096 → doing s inner (c ∷ cs) ≡ concludes_now x → ConclusionLeads s (entered inner) outer x put p →
@@ -183,11 +218,11 @@ pub data Proceeds : Progress → List Out → Progress → Type 0 where
       Proceeds (stands n (running s inner outer))
       (command_record inner (shown_words s.table (c ∷ cs)) ∷ open_record l ∷ end_record l (no_route l.server) ∷ conclusion_records (fails (no_route l.server)))
       (stands n (running (with_one_made s') (further inner (no_route l.server)) outer))
-  -- a command's server was looked up: its own open begins, and it waits for that
+  -- a command's server was looked up, or hooks a disk: its own open begins, and it waits for that
   opens_onward : (n : ℕ) (s : State) (inner : Running) (outer : List Running) (next : Onward) (link : Client) (put : List Out) → s.opens < 16384 →
       slice_get s.devices (live_onward s next).device ≡ Some link → first_records (live_onward s next).kind (live_onward s next) link ≡ Some put →
       Proceeds (stands n (reaching s inner outer next)) (open_record (live_onward s next) ∷ put)
-      (stands n (waiting (with_opened s (live_onward s next)) (record { script = inner; outer = outer; awaited = answer (live_onward s next).number; job = job_onward next })))
+      (stands n (waiting (with_opened s (live_onward s next)) (record { script = inner; outer = outer; awaited = awaited_onward next (live_onward s next).number; job = job_onward next })))
   -- there is no way to it: the open was made, and has ended
   finds_no_way : (n : ℕ) (s : State) (inner : Running) (outer : List Running) (next : Onward) (link : Client) → s.opens < 16384 →
       slice_get s.devices (live_onward s next).device ≡ Some link → first_records (live_onward s next).kind (live_onward s next) link ≡ None →

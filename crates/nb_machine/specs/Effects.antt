@@ -1,10 +1,11 @@
 -- What a command comes to: it is over with an outcome, it asks for a file, or for something by one exchange, it goes to a
--- label, it sleeps, it shuts the device, or it is a command on images; and what it does to the settings and the device. Its
--- words are expanded first. What a command on images comes to, depends on the images and its script besides.
-use Rattle.std.specs.Prelude.{ℕ, ◌==◌, Bool, true, false, List, Option, Some, None, Result, Ok, Err, if◌then◌else◌}
-use Rattle.std.specs.Option.{option_map_or}
+-- label, it sleeps, it shuts the device, it hooks or unhooks a drive, or it is a command on images; and what it does to the settings
+-- and the device. Its words are expanded first. What a command on images or drives comes to, depends on these and its script besides.
+use Rattle.std.specs.Prelude.{ℕ, ◌==◌, ◌||◌, nat_le, length, Bool, true, false, List, Option, Some, None, Result, Ok, Err, if◌then◌else◌}
+use Rattle.std.specs.Option.{option_map_or, is_some}
 use Rattle.std.specs.Str.{bytes_eq}
 use Rattle.nb_terms.specs.declared.cause.Cause.{Cause}
+use Rattle.nb_terms.specs.declared.reason.Fullness.TheVariants as fullness
 use Rattle.nb_terms.specs.declared.reason.Long.TheVariants as long
 use Rattle.nb_terms.specs.declared.reason.Plain.TheVariants as plain
 use Rattle.nb_terms.specs.declared.reason.Reason.TheVariants as reason
@@ -34,6 +35,14 @@ use Rattle.nb_imagecmd.specs.CarryingOut.{image_effect}
 use Rattle.nb_imagecmd.specs.Executing.{ImageAnswer, script_taken}
 use Rattle.nb_imagecmd.specs.Failures.{image_cause}
 use Rattle.nb_image.specs.Images.{ImageList}
+use Rattle.nb_drivecmd.specs.declared.commands.DriveCommand.{DriveCommand}
+use Rattle.nb_drivecmd.specs.declared.drive.Drive.{Drive}
+use Rattle.nb_drivecmd.specs.declared.error.DriveRefusal.{DriveRefusal}
+use Rattle.nb_drivecmd.specs.declared.outcome.DriveOutcome.{DriveOutcome}
+use Rattle.nb_drivecmd.specs.declared.outcome.DriveOutcome.TheVariants as drive_outcome
+use Rattle.nb_drivecmd.specs.declared.outcome.Hooking.{Hooking}
+use Rattle.nb_drivecmd.specs.DriveEffect.{drive_effect}
+use Rattle.nb_drivecmd.specs.DriveFailures.{drive_cause}
 use Rattle.nb_uri.specs.declared.target.UriTarget.{UriTarget}
 use Rattle.nb_uri.specs.declared.target.UriTarget.TheVariants.{Tftp, Http, Iscsi}
 use Rattle.nb_command.specs.Failures.{apply_cause}
@@ -53,12 +62,16 @@ use Rattle.nb_uri.specs.Addresses.{four_decimals}
 use Rattle.nb_dns.specs.WrittenNames.{is_lookup_name}
 use Rattle.nb_wire.specs.declared.address.Ip4.{Ip4}
 use Rattle.nb_machine.specs.Conclusions.{Conclusion, keeps, tells, boots_selected, runs_script}
-use Rattle.nb_machine.specs.Errands.{Wanted, Errand, fetches_then, echoes_then, Onward, fetches_now, echoes_now, looks_up_now, onward}
+use Rattle.nb_machine.specs.Errands.{Wanted, Errand, fetches_then, echoes_then, hooks_then, Onward, fetches_now, echoes_now, hooks_now, looks_up_now, onward}
 use Rattle.nb_machine.specs.Queries.{Query, for_lease, for_echo, for_address, for_host, bad_name, no_server, dns_in, with_domain}
 
 -- 16,384 opens were made
 abbrev pub full_opens : Cause
 full_opens = record { code = 8; a = 2; b = 0 }
+
+-- two other drives are hooked
+abbrev pub full_drives : Cause
+full_drives = as_cause (reason.Full fullness.Drives)
 
 pub data Effect : Type 0 where
   says : CommandOutcome → Effect
@@ -71,6 +84,12 @@ pub data Effect : Type 0 where
   inquires : Query → Effect
   -- it is a command on images: `effect_in` says what that comes to
   on_images : ImageCommand → Effect
+  -- it is a drive command: `effect_in` says what that comes to
+  on_drives : DriveCommand → Effect
+  -- a disk is to be hooked; the drive of its number is closed before, if one is hooked
+  hooks_disk : Hooking → Effect
+  -- the drive of this number is closed, if one is hooked, and the command is over with this cause
+  unhooks_drive : (number : ℕ) → Cause → Effect
   -- it is one that waits for nothing
   concludes_at_once : Conclusion → Effect
 
@@ -97,9 +116,25 @@ abbrev pub next_at_host : ℕ → TableLists → List ℕ → Errand → Result 
 next_at_host opens table text errand =
     option_map_or (λ address. next_open opens (onward errand address)) (four_decimals text) (next_by_name opens table errand (with_domain table text))
 
+-- two drives are hooked, and a third isn't
+abbrev pub unless_two_hooked : List Drive → Result Onward Cause → Result Onward Cause
+unless_two_hooked drives next = if nat_le 2 (length drives) then Err full_drives else next
+
+-- a text is four decimals, or a name that may be looked up
+abbrev pub is_host_text : TableLists → List ℕ → Bool
+is_host_text table text = is_some (four_decimals text) || is_lookup_name (with_domain table text)
+
+-- what is asked of the host of a disk that is to be hooked, or why nothing is, once the drive of its number is closed
+abbrev pub next_at_target : ℕ → TableLists → List Drive → Hooking → Result Onward Cause
+next_at_target opens table drives hooking =
+    if is_host_text table hooking.disk.host
+    then unless_two_hooked drives (next_at_host opens table hooking.disk.host (hooks_then hooking))
+    else Err bad_name
+
 abbrev pub onward_effect : Onward → Effect
 onward_effect (fetches_now wanted) = asks wanted
 onward_effect (echoes_now server) = inquires (for_echo server)
+onward_effect (hooks_now hooking server) = hooks_disk hooking
 onward_effect (looks_up_now errand name by) = inquires (for_host errand name by)
 
 abbrev pub next_effect : Result Onward Cause → Effect
@@ -167,6 +202,7 @@ plan_effect opens table (plan.Clear name) = says (change_outcome (cleared_table 
 plan_effect opens table (plan.Show name) = says (text_told (setting_shown name table))
 plan_effect opens table (plan.Inc name by) = says (change_outcome (increased_table name by table))
 plan_effect opens table (plan.Images command) = on_images command
+plan_effect opens table (plan.Drives command) = on_drives command
 plan_effect opens table (plan.Ifopen device) = device_effect (says (refused ok)) (device_change device true)
 plan_effect opens table (plan.Ifclose device) = device_effect shuts_device (device_change device false)
 plan_effect opens table (plan.Dhcp device) = device_effect (unless_full opens (inquires for_lease)) (device_change device true)
@@ -191,6 +227,7 @@ plan_table (plan.Isset word) table = table
 plan_table (plan.Iseq a b) table = table
 plan_table (plan.Show name) table = table
 plan_table (plan.Images command) table = table
+plan_table (plan.Drives command) table = table
 plan_table (plan.Ifopen device) table = table
 plan_table (plan.Ifclose device) table = table
 plan_table (plan.Dhcp device) table = table
@@ -220,6 +257,7 @@ plan_up (plan.Clear name) up = up
 plan_up (plan.Show name) up = up
 plan_up (plan.Inc name by) up = up
 plan_up (plan.Images command) up = up
+plan_up (plan.Drives command) up = up
 plan_up (plan.Sleep seconds) up = up
 
 -- why words are no command
@@ -276,11 +314,12 @@ expanded_up up (Err why) = up
 unfoldable pub effect : ℕ → TableLists → List (List ℕ) → Effect
 effect opens table ws = expanded_effect opens table (expansion table ws)
 
--- what a command on images finds: how many opens were made, the settings, the images, and its script's URI and depth
+-- what a command on images or drives finds: how many opens were made, the settings, the images, the drives, and its script's URI and depth
 pub record Surroundings : Type 0 where
   pub opens : ℕ
   pub table : TableLists
   pub images : ImageList
+  pub drives : List Drive
   pub base : Option (List ℕ)
   pub depth : ℕ
 
@@ -320,9 +359,30 @@ image_answer_effect x (Err why) = fails_for why
 abbrev pub images_effect : Surroundings → ImageCommand → Effect
 images_effect x command = image_answer_effect x (image_effect command (base_by x.base x.table) x.images)
 
--- each command's effect, of those on images by what they find
+-- what a drive command comes to; no drive is booted yet
+abbrev pub drive_outcome_effect : DriveOutcome → Effect
+drive_outcome_effect (drive_outcome.Hook hooking) = hooks_disk hooking
+drive_outcome_effect (drive_outcome.Boot number keep) = says (refused unknown)
+drive_outcome_effect (drive_outcome.Unhook number) = unhooks_drive number ok
+
+-- one that is refused may let a drive go
+abbrev pub refusal_effect : Cause → Option ℕ → Effect
+refusal_effect cause None = says (refused cause)
+refusal_effect cause (Some number) = unhooks_drive number cause
+
+abbrev pub drive_answer_effect : Result DriveOutcome DriveRefusal → Effect
+drive_answer_effect (Ok outcome) = drive_outcome_effect outcome
+drive_answer_effect (Err refusal) = refusal_effect (drive_cause refusal.why) refusal.unhooks
+
+abbrev pub drives_effect : Surroundings → DriveCommand → Effect
+drives_effect x command = drive_answer_effect (drive_effect command (base_by x.base x.table) x.table x.drives)
+
+-- each command's effect, of those on images and drives by what they find
 abbrev pub settled_effect : Surroundings → Effect → Effect
 settled_effect x (on_images command) = images_effect x command
+settled_effect x (on_drives command) = drives_effect x command
+settled_effect x (hooks_disk hooking) = hooks_disk hooking
+settled_effect x (unhooks_drive number cause) = unhooks_drive number cause
 settled_effect x (says o) = says o
 settled_effect x (asks wanted) = asks wanted
 settled_effect x (goes name) = goes name

@@ -1,3 +1,4 @@
+pub mod BootTables
 pub mod Closings
 pub mod CommandRecords
 pub mod Conclusions

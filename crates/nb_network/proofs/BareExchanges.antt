@@ -22,9 +22,13 @@ use Rattle.nb_machine.specs.Cores.{CoreExchanged, at_first, takes_message, takes
 use Rattle.nb_machine.specs.Kinds.{Keeps, KeepsBy, fetched_by, granted_of, moved_by, resolved_of}
 use Rattle.nb_machine.specs.Lives.{OpenInput, message, time, OpenKind, tftp, http, iscsi, dns, dhcp, ping, Exchange, exchange, Live, continued}
 use Rattle.nb_machine.specs.Connections.{Connection, connection_of, came_on, talk_of, KeepsAt, EachExchange, Talking}
-use Rattle.nb_machine.specs.Drives.{session_talking}
+use Rattle.nb_machine.specs.Drives.{came_to_session, session_of, session_talking}
+use Rattle.nb_login.specs.declared.info.LoginInfo.{LoginInfo}
+use Rattle.nb_sans.specs.Sessions.{ReadTask, session_talker}
+use Rattle.nb_drivechains.specs.declared.drive_chain.DriveChain.{DriveChain}
+use Rattle.nb_drivetalks.specs.SessionStands.{StandsForSession}
 use Rattle.nb_machine.specs.Webs.{web_at, web_talking}
-use Rattle.nb_talks.specs.Talking.{Talk, Talker, talk_after}
+use Rattle.nb_talks.specs.Talking.{Talk, talk_after}
 use Rattle.nb_readings.specs.Ends.{text_of}
 use Rattle.nb_webs.specs.Webs.{NoTask, response_come}
 use Rattle.nb_machine.specs.States.{bare}
@@ -39,7 +43,7 @@ use Rattle.nb_open.specs.declared.ended.Ended.{Ended}
 use Rattle.nb_open.specs.declared.open.Open.{Open}
 use Rattle.nb_open.specs.declared.objects.OpenObjects.{OpenObjects}
 use Rattle.nb_open.specs.declared.objects.OpenObjects.TheVariants as objects
-use Rattle.nb_open.specs.Open.{AreOfKind, AreUnderWay, IsAskingCore, IsOpenOf, IsUnderWay, IsWebUnderWay, ask_of}
+use Rattle.nb_open.specs.Open.{AreOfKind, AreUnderWay, IsAskingCore, IsDriveUnderWay, IsOpenOf, IsUnderWay, IsWebUnderWay, ask_of, session_ask}
 use Rattle.nb_open.specs.Exchanges.{Exchanges, ExchangesBy, HandsOut, last_put}
 use Rattle.nb_network.proofs.Bares.{bare_core, bare_transfer, put_bare}
 
@@ -124,6 +128,9 @@ same_found f xs x y e = flat_map-append f xs (x ∷ []) ∙ ap (λ z. flat_map f
 talk_bare : (isn : ℕ) (l : Live) (x : Exchange) → talk_of (web_talking l.target) (connection_of isn l) (l.exchanges ++ bared x ∷ []) ≡ talk_of (web_talking l.target) (connection_of isn l) (l.exchanges ++ x ∷ [])
 talk_bare isn l x = ap (talk_after (web_at l.target) isn l.since) (same_found (λ y. came_on y.came) l.exchanges (bared x) x refl)
 
+session_bare : (isn : ℕ) (i : LoginInfo) (l : Live) (x : Exchange) → session_of isn i (continued l (bared x)) ≡ session_of isn i (continued l x)
+session_bare isn i l x = ap (talk_after (session_talker i) isn l.since) (same_found (λ y. came_to_session y.came) l.exchanges (bared x) x refl)
+
 fetched_bare : (k : OpenKind) (l : Live) (x : Exchange) → fetched_by k (continued l (bared x)) ≡ fetched_by k (continued l x)
 fetched_bare tftp l x = ap file (same_found (λ y. datagram_in y.came) l.exchanges (bared x) x refl)
 fetched_bare (http isn) l x = ap (λ d. (response_come isn d.calls).bytes) (talk_bare isn l x)
@@ -156,8 +163,8 @@ resolved_bare (dns id) l x = ap (address_found (look_up_of id l)) (same_found (�
 resolved_bare (dhcp a) l x = refl
 resolved_bare ping l x = refl
 
-pub hands_bare : (l : Live) (x : Exchange) (e : Ended) (s : Spelling) → HandsOut (continued l x) e s → HandsOut (continued l (bared x)) e s
-hands_bare l x e s h = record {
+pub hands_bare : (o : Open) (l : Live) (x : Exchange) (e : Ended) (s : Spelling) → HandsOut o (continued l x) e s → HandsOut o (continued l (bared x)) e s
+hands_bare o l x e s h = record {
   body = λ still. fetched_bare l.kind l x ∙ h.body still;
   moved = moved_bare l.kind l x ∙ h.moved;
   bytes = granted_bare l.kind l.exchanges x ∙ h.bytes;
@@ -205,13 +212,29 @@ web_under_way_bare (dns id) own c g l x i = absurd i
 web_under_way_bare (dhcp a) own c g l x i = absurd i
 web_under_way_bare ping own c g l x i = absurd i
 
+drive_under_way_bare : (k : OpenKind) (own : Ip4) (c : DriveChain) (g : Objects Obj) (l : Live) (x : Exchange) → IsDriveUnderWay k own c g (continued l x) → IsDriveUnderWay k own c g (continued l (bared x))
+drive_under_way_bare (iscsi isn a) own c g l x i = record {
+  opened = i.opened;
+  kinds = i.kinds;
+  hosted = i.hosted;
+  stands = subst (λ (d : Talk ReadTask). StandsForSession (session_ask isn own a l) l.since d c g) (sym (session_bare isn a l x)) i.stands;
+  keeps = each_bare (session_talking a) (connection_of isn l) [] l.exchanges x i.keeps;
+}
+drive_under_way_bare (http isn) own c g l x i = absurd i
+drive_under_way_bare tftp own c g l x i = absurd i
+drive_under_way_bare (dns id) own c g l x i = absurd i
+drive_under_way_bare (dhcp a) own c g l x i = absurd i
+drive_under_way_bare ping own c g l x i = absurd i
+
 objects_bare : (os : OpenObjects) (g : Objects Obj) (l : Live) (x : Exchange) → AreUnderWay os g (continued l x) → AreUnderWay os g (continued l (bared x))
 objects_bare (objects.Chain kind chain) g l x i = under_way_bare l.kind chain g l x i
 objects_bare (objects.Web port own chain) g l x i = web_under_way_bare l.kind own chain g l x i
+objects_bare (objects.Drive port own chain) g l x i = drive_under_way_bare l.kind own chain g l x i
 
 kind_bare : (os : OpenObjects) (l : Live) (x : Exchange) → AreOfKind os (continued l x) → AreOfKind os (continued l (bared x))
 kind_bare (objects.Chain kind chain) l x i = i
 kind_bare (objects.Web port own chain) l x i = i
+kind_bare (objects.Drive port own chain) l x i = i
 
 pub open_bare : (g : Objects Obj) (o : Open) (l : Live) (x : Exchange) → IsOpenOf g o (continued l x) → IsOpenOf g o (continued l (bared x))
 open_bare g o l x i = record {
@@ -237,9 +260,9 @@ exchanges_by_bare (Some e) o l came link way g h records s x = record {
   released = x.released;
   call = x.call;
   close = x.close;
-  hands = λ ok. hands_bare l (exchange came link (last_put l records e.cause)) e s (x.hands ok);
+  hands = λ ok. hands_bare o l (exchange came link (last_put l records e.cause)) e s (x.hands ok);
   message = x.message;
 }
 
 pub exchanges_bare : (o : Open) (l : Live) (came : OpenInput) (link : Client) (way : Option Way) (g h : Objects Obj) (s : Spelling) (e : Option Ended) → Exchanges o l came link way g h s e → Exchanges o l came (bare link) way g h s e
-exchanges_bare o l came link way g h s e x = record { records = x.records; text = x.text; does = exchanges_by_bare e o l came link way g h x.records s x.does }
+exchanges_bare o l came link way g h s e x = record { records = x.records; text = x.text; does = exchanges_by_bare e o l came link way g h x.records s x.does; answers = x.answers }

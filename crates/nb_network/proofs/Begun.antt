@@ -17,30 +17,33 @@ use Rattle.nb_teller.specs.Spelling.{Spelling}
 use Rattle.nb_traced.specs.Holdings.{Holdings, GraphObject}
 use Rattle.nb_traced.specs.Outputs.{Arrived, MayWaitOn, Traced, opens, calls, ends}
 use Rattle.nb_traced.specs.Pieces.{event_records, pieces_made}
-use Rattle.nb_open.specs.declared.open.Open.{Open}
+use Rattle.nb_network.specs.declared.living.Living.{Living}
 use Rattle.nb_open.specs.declared.opening.Opening.{Opening}
 use Rattle.nb_open.specs.declared.objects.OpenObjects.{OpenObjects}
 use Rattle.nb_open.specs.declared.objects.OpenObjects.TheVariants as objects
 use Rattle.nb_open.specs.Objects.{objects_ids}
 use Rattle.nb_open.specs.Begins.{IsLatest, MakesObjects, SetsOutOr, waiting_pieces}
-use Rattle.nb_open.specs.Open.{IsOpenOf, kin_of, objects_pieces}
+use Rattle.nb_open.specs.Open.{objects_pieces}
 use Rattle.nb_open.specs.Opening.{chain_kind, kind_by, live_by, speaker_for}
-use Rattle.nb_network.specs.Many.{AreOpensOf, FitsHoldings, IsApartFrom, IsStateOf}
+use Rattle.nb_network.specs.Many.{AreOpensOf, FitsHoldings, IsApartFrom, IsOpenOf, IsStateOf, kin_of, bare_open}
 use Rattle.nb_network.specs.Openings.{BegunBy, EntersBy, FirstBy, begun_records}
 use Rattle.nb_network.specs.Takes.{TracesOn}
 use Rattle.nb_network.proofs.Lists.{opens_append, opens_move}
+use Rattle.nb_network.specs.Drives.{drive_by}
+use Rattle.nb_network.proofs.DriveBegins.{begins_as}
 
 -- THE OUTPUT
 
-pub number_is : (a : Opening) (number : ℕ) (o : Open) → o.speaker ≡ speaker_for a number → o.speaker.number ≡ number
+pub number_is : (a : Opening) (number : ℕ) (o : Living) → o.speaker ≡ speaker_for a number → o.speaker.number ≡ number
 number_is a number o is = ap (λ s. s.number) is
 
 -- each open has objects
 some_pieces : (os : OpenObjects) → objects_pieces os ≡ [] → ⊥
 some_pieces (objects.Chain kind chain) e = cc
 some_pieces (objects.Web port own chain) e = cc
+some_pieces (objects.Drive port own chain) e = cc
 
-module _ (left : List GraphObject) (waits : Option Chain) (a : Opening) (number now : ℕ) (link : Client) (o : Open) (is : o.speaker ≡ speaker_for a number) (g : Objects Obj) (list : List Open) (made : Spelling) (mid : GraphState) (x : MakesObjects left (chain_kind a) (kind_number (kind_by a)) waits o g made mid) (latest : IsLatest waits g) (lone : (left ≡ []) ⊎ (waits ≡ None)) where
+module _ (left : List GraphObject) (waits : Option Chain) (a : Opening) (number now : ℕ) (link : Client) (o : Living) (is : o.speaker ≡ speaker_for a number) (g : Objects Obj) (list : List Living) (made : Spelling) (mid : GraphState) (x : MakesObjects left (chain_kind a) (kind_number (kind_by a)) waits (bare_open o) g made mid) (latest : IsLatest waits g) (lone : (left ≡ []) ⊎ (waits ≡ None)) where
   -- what waits on is alone
   waits_alone : (h : Holdings) → h.waits ≡ waiting_pieces (chain_kind a) waits → (left ≡ []) ⊎ (h.waits ≡ [])
   waits_alone h are = elim lone [
@@ -64,7 +67,7 @@ module _ (left : List GraphObject) (waits : Option Chain) (a : Opening) (number 
   all_records outs told =
       ap (λ z. outs ++ z) (sym (append_assoc (event_records x.events) (open_record (live_by a number now) ∷ []) told)) ∙ sym (append_assoc outs (event_records x.events ++ (open_record (live_by a number now) ∷ [])) told)
 
-  pub begun_traces : (end : Option Cause) (h : Objects Obj) (told : List Out) (list' : List Open) (net net' : Client) → SetsOutOr end a number now link o mid h told → EntersBy end o list net list' net' →
+  pub begun_traces : (end : Option Cause) (h : Objects Obj) (told : List Out) (list' : List Living) (net net' : Client) → SetsOutOr end a number now link (bare_open o) mid h told → EntersBy end o list net list' net' →
       (outs : List Out) (hold : Holdings) (so_far : List Arrived) → Traced outs hold so_far → FitsHoldings (record { graph = g; list = list }) number (waiting_pieces (chain_kind a) waits) hold →
       MayWaitOn (kind_number (kind_by a)) left → TracesOn (record { graph = g; list = list }) number (waiting_pieces (chain_kind a) waits) (begun_records x.events (live_by a number now) told end) [] (record { graph = h; list = list' }) (number + 1) left outs hold so_far
   begun_traces None h told list' net net' sets enters outs hold so_far traced fits on =
@@ -92,21 +95,21 @@ module _ (left : List GraphObject) (waits : Option Chain) (a : Opening) (number 
 
 -- THE MACHINE
 
-first_by : (end : Option Cause) (a : Opening) (number now : ℕ) (link : Client) (o : Open) (mid : GraphState) (h : Objects Obj) (told : List Out) → SetsOutOr end a number now link o mid h told → FirstBy end (live_by a number now) link (without_graph told)
+first_by : (end : Option Cause) (a : Opening) (number now : ℕ) (link : Client) (o : Living) (mid : GraphState) (h : Objects Obj) (told : List Out) → SetsOutOr end a number now link (bare_open o) mid h told → FirstBy end (live_by a number now) link (without_graph told)
 first_by None a number now link o mid h told sets = sets.first
 first_by (Some cause) a number now link o mid h told sets = (sets.1.first, sets.1.silent, sets.0)
 
-module _ (a : Opening) (number now : ℕ) (link : Client) (o : Open) (mid : GraphState) (g h : Objects Obj) (list list' : List Open) (net' : Client) (told : List Out) (far : AllByRecursion (IsApartFrom (objects_ids o.objects)) list) (stay : (p : Open) (l : Live) → IsApartFrom (objects_ids o.objects) p → IsOpenOf g p l → IsOpenOf h p l) where
-  pub begun_first : (end : Option Cause) → SetsOutOr end a number now link o mid h told → FirstBy end (live_by a number now) link (without_graph told)
+module _ (a : Opening) (number now : ℕ) (link : Client) (o : Living) (mid : GraphState) (g h : Objects Obj) (list list' : List Living) (net' : Client) (told : List Out) (kept : o.drive ≡ drive_by a) (far : AllByRecursion (IsApartFrom (objects_ids o.objects)) list) (stay : (p : Living) (l : Live) → IsApartFrom (objects_ids o.objects) p → IsOpenOf g p l → IsOpenOf h p l) where
+  pub begun_first : (end : Option Cause) → SetsOutOr end a number now link (bare_open o) mid h told → FirstBy end (live_by a number now) link (without_graph told)
   begun_first end sets = first_by end a number now link o mid h told sets
 
-  pub begun_state : (end : Option Cause) → SetsOutOr end a number now link o mid h told → EntersBy end o list link list' net' → (s : State) → IsStateOf (record { graph = g; list = list }) link now s →
+  pub begun_state : (end : Option Cause) → SetsOutOr end a number now link (bare_open o) mid h told → EntersBy end o list link list' net' → (s : State) → IsStateOf (record { graph = g; list = list }) link now s →
       BegunBy end (record { graph = h; list = list' }) net' now (live_by a number now) (without_graph told) s
   begun_state None sets enters s state = record {
     devices = state.devices ∙ ap (λ c. bare c ∷ []) (sym enters.1);
     time = state.time;
     live = subst (λ os. AreOpensOf h os (s.live ++ live_by a number now ∷ [])) (sym enters.0)
-        (opens_append h list s.live (o ∷ []) (live_by a number now ∷ []) (opens_move g h (IsApartFrom (objects_ids o.objects)) stay list s.live far state.live) (sets.lives, tt));
+        (opens_append h list s.live (o ∷ []) (live_by a number now ∷ []) (opens_move g h (IsApartFrom (objects_ids o.objects)) stay list s.live far state.live) (begins_as a number now h o kept sets.lives, tt));
   }
   begun_state (Some cause) sets enters s state = record {
     devices = state.devices ∙ ap (λ c. bare c ∷ []) (sym enters.1);

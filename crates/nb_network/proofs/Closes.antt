@@ -15,7 +15,7 @@ use Rattle.nb_machine.specs.Lives.{Live, close, exchange}
 use Rattle.nb_machine.specs.States.{State, bare, net0, with_live}
 use Rattle.nb_machine.specs.Takings.{Over, AllTake, all_have, end_among, is_over}
 use Rattle.nb_traced.specs.Outputs.{Traced, last_step}
-use Rattle.nb_open.specs.declared.open.Open.{Open}
+use Rattle.nb_network.specs.declared.living.Living.{Living}
 use Rattle.nb_open.specs.Ends.{closed_open}
 use Rattle.nb_network.specs.Closings.{ClosesMany, closes_with}
 use Rattle.nb_network.specs.Many.{AreApart, AreOpensOf, AreSound, IsStateOf, Many}
@@ -24,6 +24,7 @@ use Rattle.nb_network.proofs.BareExchanges.{keeps_bare}
 use Rattle.nb_network.proofs.Lists.{AreAround, apart_around}
 use Rattle.nb_network.proofs.Stepping.{LeavesAll, its_link, leaves_last, texts_more}
 use Rattle.nb_network.proofs.Traces.{traces_end, traces_none}
+use Rattle.nb_network.proofs.Hearing.{bare_is}
 
 -- none lives
 pub no_close : (g : Objects Obj) (devices : List Client) (cause : Cause) (ls : List Live) → AreOpensOf g [] ls → (overs : List Over) × AllTake devices (close cause) ls [] [] overs
@@ -53,7 +54,7 @@ closes_before s net l ls cause k records later devices device number keeps its_e
     )
 
 -- the first of them, and then the others
-module _ (m : Many) (net : Client) (w opens now : ℕ) (cause : Cause) (o : Open) (rest : List Open) (m1 : Many) (net1 : Client) (old mid : Logged) (is : m.list ≡ o ∷ rest) (sound : AreSound w opens net m) (x : FirstCloses m net o rest cause m1 net1 old mid) where
+module _ (m : Many) (net : Client) (w opens now : ℕ) (cause : Cause) (o : Living) (rest : List Living) (m1 : Many) (net1 : Client) (old mid : Logged) (is : m.list ≡ o ∷ rest) (sound : AreSound w opens net m) (x : FirstCloses m net o rest cause m1 net1 old mid) where
   pub first_leaves : LeavesAll m net w opens o m1 net1
   first_leaves = leaves_last m net w opens [] o rest m1 net1 is x.noded x.closes.released.others x.closes.released.same_room sound x.list x.net_is
 
@@ -68,7 +69,7 @@ module _ (m : Many) (net : Client) (w opens now : ℕ) (cause : Cause) (o : Open
     closes_live s [] state = absurd (subst (λ os. AreOpensOf m.graph os []) is state.live)
     closes_live s (l ∷ ls) state =
         let i : AreOpensOf m.graph (o ∷ rest) (l ∷ ls) = subst (λ os. AreOpensOf m.graph os (l ∷ ls)) is state.live in
-        closes_before s net l ls cause o.speaker.number x.closes.records y.records state.devices i.0.called.device i.0.called.number (x.closes.keeps l i.0) (x.closes.its_end l.number)
+        closes_before s net l ls cause o.speaker.number x.closes.records y.records state.devices i.0.called.device i.0.called.number (x.closes.keeps l (bare_is i.0)) (x.closes.its_end l.number)
         (y.closes (with_live s ls) (record {
           devices = state.devices ∙ ap (λ c. bare c ∷ []) (sym first_leaves.same_net);
           time = state.time;
@@ -81,7 +82,7 @@ module _ (m : Many) (net : Client) (w opens now : ℕ) (cause : Cause) (o : Open
       puts = Puts-outs first_records y.records (subst (Puts old mid) (ap (λ z. z ++ out_texts (ended o.speaker.number cause ∷ [])) x.closes.text ∙ sym (texts_more x.closes.records (ended o.speaker.number cause ∷ []))) x.puts) y.puts;
       none = y.none;
       closes_first = λ some. let f = x.closes.closes_first in (f.0, (f.1 ++ ended o.speaker.number cause ∷ []) ++ y.records, ap (λ z. (z ++ ended o.speaker.number cause ∷ []) ++ y.records) f.2);
-      closes = λ s state. closes_live s s.live state;
+      closes = λ s state. closes_live s s.live (record { devices = state.devices; time = state.time; live = state.live });
       traces = λ outs h so_far traced fits.
           let a = traces_end (last_step outs) m opens [] o rest None x.closes.records cause m1 is x.list x.closes.call x.closes.close x.closes.released.gone [] outs h so_far refl traced fits in
           let b = y.traces (outs ++ first_records) a.0.after (so_far ++ []) a.0.traced a.0.fits in

@@ -1,4 +1,9 @@
 pub mod Lists
+pub mod TaskAnswers
+pub mod Hearing
+pub mod Noting
+pub mod DriveBegins
+pub mod HookedOpens
 pub mod Staying
 pub mod Bares
 pub mod BareExchanges
@@ -24,3 +29,4 @@ pub mod Timing
 pub mod Closes
 pub mod GivingUp
 pub mod Shuts
+pub mod Ones

@@ -8,9 +8,8 @@ use Rattle.nb_frames.specs.Frames.{is_one_of}
 use Rattle.nb_chains.specs.Chains.{AreOthers}
 use Rattle.nb_machine.specs.Lives.{Live}
 use Rattle.nb_open.specs.Objects.{objects_ids}
-use Rattle.nb_open.specs.declared.open.Open.{Open}
-use Rattle.nb_open.specs.Open.{IsOpenOf}
-use Rattle.nb_network.specs.Many.{AreApart, AreOpensOf, AreRising, IsApartFrom}
+use Rattle.nb_network.specs.declared.living.Living.{Living}
+use Rattle.nb_network.specs.Many.{AreApart, AreOpensOf, AreRising, IsApartFrom, IsOpenOf}
 
 -- ALL OF A LIST
 
@@ -43,21 +42,21 @@ all_at P xs y ys h = (all_back P xs (y ∷ ys) h).0
 
 -- OPENS OF THE MACHINE
 
-pub opens_append : (g : Objects Obj) (os : List Open) (ls : List Live) (ps : List Open) (ms : List Live) → AreOpensOf g os ls → AreOpensOf g ps ms → AreOpensOf g (os ++ ps) (ls ++ ms)
+pub opens_append : (g : Objects Obj) (os : List Living) (ls : List Live) (ps : List Living) (ms : List Live) → AreOpensOf g os ls → AreOpensOf g ps ms → AreOpensOf g (os ++ ps) (ls ++ ms)
 opens_append g [] [] ps ms h k = k
 opens_append g [] (l ∷ ls) ps ms h k = absurd h
 opens_append g (o ∷ os) [] ps ms h k = absurd h
 opens_append g (o ∷ os) (l ∷ ls) ps ms h k = (h.0, opens_append g os ls ps ms h.1 k)
 
 -- those of the machine that two parts of a list are
-pub record Parted (g : Objects Obj) (os ps : List Open) (ls : List Live) : Type 0 where
+pub record Parted (g : Objects Obj) (os ps : List Living) (ls : List Live) : Type 0 where
   pub front : List Live
   pub back : List Live
   pub all : ls ≡ front ++ back
   pub fronts : AreOpensOf g os front
   pub backs : AreOpensOf g ps back
 
-pub opens_part : (g : Objects Obj) (os ps : List Open) (ls : List Live) → AreOpensOf g (os ++ ps) ls → Parted g os ps ls
+pub opens_part : (g : Objects Obj) (os ps : List Living) (ls : List Live) → AreOpensOf g (os ++ ps) ls → Parted g os ps ls
 opens_part g [] ps ls h = record { front = []; back = ls; all = refl; fronts = tt; backs = h }
 opens_part g (o ∷ os) ps [] h = absurd h
 opens_part g (o ∷ os) ps (l ∷ ls) h =
@@ -65,7 +64,7 @@ opens_part g (o ∷ os) ps (l ∷ ls) h =
     record { front = l ∷ p.front; back = p.back; all = ap (λ z. l ∷ z) p.all; fronts = (h.0, p.fronts); backs = p.backs }
 
 -- one between two parts
-pub record PartedAt (g : Objects Obj) (before : List Open) (o : Open) (behind : List Open) (ls : List Live) : Type 0 where
+pub record PartedAt (g : Objects Obj) (before : List Living) (o : Living) (behind : List Living) (ls : List Live) : Type 0 where
   pub front : List Live
   pub live : Live
   pub back : List Live
@@ -74,15 +73,15 @@ pub record PartedAt (g : Objects Obj) (before : List Open) (o : Open) (behind : 
   pub is : IsOpenOf g o live
   pub backs : AreOpensOf g behind back
 
-one_first : (g : Objects Obj) (before : List Open) (o : Open) (behind : List Open) (ls front back : List Live) → ls ≡ front ++ back → AreOpensOf g before front → AreOpensOf g (o ∷ behind) back → PartedAt g before o behind ls
+one_first : (g : Objects Obj) (before : List Living) (o : Living) (behind : List Living) (ls front back : List Live) → ls ≡ front ++ back → AreOpensOf g before front → AreOpensOf g (o ∷ behind) back → PartedAt g before o behind ls
 one_first g before o behind ls front [] e h k = absurd k
 one_first g before o behind ls front (l ∷ back) e h k = record { front = front; live = l; back = back; all = e; fronts = h; is = k.0; backs = k.1 }
 
-pub opens_part_at : (g : Objects Obj) (before : List Open) (o : Open) (behind : List Open) (ls : List Live) → AreOpensOf g (before ++ o ∷ behind) ls → PartedAt g before o behind ls
+pub opens_part_at : (g : Objects Obj) (before : List Living) (o : Living) (behind : List Living) (ls : List Live) → AreOpensOf g (before ++ o ∷ behind) ls → PartedAt g before o behind ls
 opens_part_at g before o behind ls h = let p = opens_part g before (o ∷ behind) ls h in one_first g before o behind ls p.front p.back p.all p.fronts p.backs
 
 -- on another graph, where each stays
-pub opens_move : (g h : Objects Obj) (P : Open → Type 0) → ((o : Open) (l : Live) → P o → IsOpenOf g o l → IsOpenOf h o l) → (os : List Open) (ls : List Live) → AllByRecursion P os → AreOpensOf g os ls → AreOpensOf h os ls
+pub opens_move : (g h : Objects Obj) (P : Living → Type 0) → ((o : Living) (l : Live) → P o → IsOpenOf g o l → IsOpenOf h o l) → (os : List Living) (ls : List Live) → AllByRecursion P os → AreOpensOf g os ls → AreOpensOf h os ls
 opens_move g h P f [] [] a k = tt
 opens_move g h P f [] (l ∷ ls) a k = absurd k
 opens_move g h P f (o ∷ os) [] a k = absurd k
@@ -97,12 +96,12 @@ other_way xs ys h x o = by (is_one_of ys x) refl
     by false e = e
     by true e = absurd (let no : true ≡ false = sym o ∙ h x e in cc)
 
-pub record AreAround (before : List Open) (o : Open) (behind : List Open) : Type 0 where
+pub record AreAround (before : List Living) (o : Living) (behind : List Living) : Type 0 where
   pub front : AllByRecursion (IsApartFrom (objects_ids o.objects)) before
   pub back : AllByRecursion (IsApartFrom (objects_ids o.objects)) behind
   pub rest : AreApart (before ++ behind)
 
-pub apart_around : (before : List Open) (o : Open) (behind : List Open) → AreApart (before ++ o ∷ behind) → AreAround before o behind
+pub apart_around : (before : List Living) (o : Living) (behind : List Living) → AreApart (before ++ o ∷ behind) → AreAround before o behind
 apart_around [] o behind h = record { front = tt; back = h.0; rest = h.1 }
 apart_around (p ∷ before) o behind h =
     let r = apart_around before o behind h.1 in
@@ -114,39 +113,39 @@ apart_around (p ∷ before) o behind h =
     }
 
 -- one more at the end, which is apart from all
-pub apart_more : (os : List Open) (o : Open) → AreApart os → AllByRecursion (IsApartFrom (objects_ids o.objects)) os → AreApart (os ++ o ∷ [])
+pub apart_more : (os : List Living) (o : Living) → AreApart os → AllByRecursion (IsApartFrom (objects_ids o.objects)) os → AreApart (os ++ o ∷ [])
 apart_more [] o h k = (tt, tt)
 apart_more (p ∷ os) o h k =
     (all_append (IsApartFrom (objects_ids p.objects)) os (o ∷ []) h.0 (other_way (objects_ids o.objects) (objects_ids p.objects) k.0, tt), apart_more os o h.1 k.1)
 
 -- RISING
 
-rising_less : (least low most : ℕ) (os : List Open) → least ≤ low → AreRising low most os → AreRising least most os
+rising_less : (least low most : ℕ) (os : List Living) → least ≤ low → AreRising low most os → AreRising least most os
 rising_less least low most [] i h = tt
 rising_less least low most (o ∷ os) i h = (let j = h.0 in omega (arith, i, j), h.1, h.2)
 
-pub rising_without : (least most : ℕ) (before : List Open) (o : Open) (behind : List Open) → AreRising least most (before ++ o ∷ behind) → AreRising least most (before ++ behind)
+pub rising_without : (least most : ℕ) (before : List Living) (o : Living) (behind : List Living) → AreRising least most (before ++ o ∷ behind) → AreRising least most (before ++ behind)
 rising_without least most [] o behind h = rising_less least (o.speaker.number + 1) most behind (let i = h.0 in omega (arith, i)) h.2
 rising_without least most (p ∷ before) o behind h = (h.0, h.1, rising_without (p.speaker.number + 1) most before o behind h.2)
 
-pub rising_more : (least most : ℕ) (os : List Open) (o : Open) → least ≤ most → o.speaker.number ≡ most → AreRising least most os → AreRising least (most + 1) (os ++ o ∷ [])
+pub rising_more : (least most : ℕ) (os : List Living) (o : Living) → least ≤ most → o.speaker.number ≡ most → AreRising least most os → AreRising least (most + 1) (os ++ o ∷ [])
 rising_more least most [] o i e h = (omega (arith, i, e), omega (arith, e), tt)
 rising_more least most (p ∷ os) o i e h = (h.0, let j = h.1 in omega (arith, j), rising_more (p.speaker.number + 1) most os o (let j = h.1 in omega (arith, j)) e h.2)
 
 -- at least the least of them, and below the most
-pub rising_within : (least most : ℕ) (before : List Open) (o : Open) (behind : List Open) → AreRising least most (before ++ o ∷ behind) → (least ≤ o.speaker.number) × (o.speaker.number < most)
+pub rising_within : (least most : ℕ) (before : List Living) (o : Living) (behind : List Living) → AreRising least most (before ++ o ∷ behind) → (least ≤ o.speaker.number) × (o.speaker.number < most)
 rising_within least most [] o behind h = (h.0, h.1)
 rising_within least most (p ∷ before) o behind h = let r = rising_within (p.speaker.number + 1) most before o behind h.2 in (let i = r.0 in let j = h.0 in omega (arith, i, j), r.1)
 
-above_least : (least most : ℕ) (os : List Open) → AreRising least most os → AllByRecursion (λ o. least ≤ o.speaker.number) os
+above_least : (least most : ℕ) (os : List Living) → AreRising least most os → AllByRecursion (λ o. least ≤ o.speaker.number) os
 above_least least most [] h = tt
 above_least least most (o ∷ os) h = (h.0, all_map (λ p. o.speaker.number + 1 ≤ p.speaker.number) (λ p. least ≤ p.speaker.number) os (λ p i. let j = h.0 in omega (arith, i, j)) (above_least (o.speaker.number + 1) most os h.2))
 
-abbrev pub HasOtherNumber : Open → Open → Type 0
+abbrev pub HasOtherNumber : Living → Living → Type 0
 HasOtherNumber o p = p.speaker.number ≡ o.speaker.number → ⊥
 
 -- no other has its number
-pub rising_differ : (least most : ℕ) (before : List Open) (o : Open) (behind : List Open) → AreRising least most (before ++ o ∷ behind) → AllByRecursion (HasOtherNumber o) before × AllByRecursion (HasOtherNumber o) behind
+pub rising_differ : (least most : ℕ) (before : List Living) (o : Living) (behind : List Living) → AreRising least most (before ++ o ∷ behind) → AllByRecursion (HasOtherNumber o) before × AllByRecursion (HasOtherNumber o) behind
 rising_differ least most [] o behind h =
     (tt, all_map (λ p. o.speaker.number + 1 ≤ p.speaker.number) (HasOtherNumber o) behind (λ p i e. absurd (omega (arith, i, e))) (above_least (o.speaker.number + 1) most behind h.2))
 rising_differ least most (p ∷ before) o behind h =

@@ -20,15 +20,14 @@ use Rattle.nb_traced.specs.Outputs.{CallsOpen, own_serials}
 use Rattle.nb_traced.specs.Pieces.{IsMaking, pieces_made}
 use Rattle.nb_traced.proofs.Serials.{AreRising, one_later}
 use Rattle.nb_traced.proofs.StateLemmas.{making, run_leaves}
-use Rattle.nb_open.specs.declared.beginning.Begun.{Begun}
-use Rattle.nb_open.specs.declared.open.Open.{Open}
+use Rattle.nb_network.specs.declared.living.Living.{Living}
 use Rattle.nb_open.specs.declared.opening.Opening.{Opening}
 use Rattle.nb_open.specs.Begins.{BeginsBeside, SetsOutOr}
 use Rattle.nb_open.specs.declared.objects.OpenObjects.{OpenObjects}
 use Rattle.nb_open.specs.declared.objects.OpenObjects.TheVariants as objects
 use Rattle.nb_open.specs.Objects.{objects_ids}
-use Rattle.nb_open.specs.Open.{kin_of, objects_pieces, pieces_below}
-use Rattle.nb_network.specs.Many.{IsNewestBut, IsOfNumber}
+use Rattle.nb_open.specs.Open.{objects_pieces, pieces_below}
+use Rattle.nb_network.specs.Many.{IsNewestBut, IsOfNumber, kin_of, bare_open}
 use Rattle.nb_network.specs.Openings.{EntersBy, number_by}
 use Rattle.nb_network.proofs.Begun.{number_is}
 use Rattle.nb_network.proofs.Lists.{all_map}
@@ -73,40 +72,41 @@ none_between p (q ∷ qs) m n y above rising upto count low out =
 lowest_after : (x : ℕ) (os : OpenObjects) → lowest_of (serials (objects_pieces os)) ≡ lowest_of (x ∷ serials (objects_pieces os))
 lowest_after x (objects.Chain kind chain) = refl
 lowest_after x (objects.Web port own chain) = refl
+lowest_after x (objects.Drive port own chain) = refl
 
-of_last : (k y : ℕ) (os : List Open) (o : Open) → o.speaker.number ≡ k → is_one_of (objects_ids o.objects) y ≡ true → IsOfNumber k y (os ++ o ∷ [])
+of_last : (k y : ℕ) (os : List Living) (o : Living) → o.speaker.number ≡ k → is_one_of (objects_ids o.objects) y ≡ true → IsOfNumber k y (os ++ o ∷ [])
 of_last k y [] o n own = inl (n, own)
 of_last k y (p ∷ os) o n own = inr (of_last k y os o n own)
 
-module _ (kind : ChainKind) (a : Opening) (number now : ℕ) (link : Client) (g h : Objects Obj) (list list' : List Open) (made told : Spelling) (c : Chain) (b : Begun) (x : BeginsBeside kind a number now link g h made told c b)
-    (net' : Client) (end : Option Cause) (same : end ≡ b.ended) (enters : EntersBy end b.open list link list' net') where
+module _ (kind : ChainKind) (a : Opening) (number now : ℕ) (link : Client) (g h : Objects Obj) (list list' : List Living) (made told : Spelling) (c : Chain) (o : Living) (ended : Option Cause) (x : BeginsBeside kind a number now link g h made told c (record { «open» = bare_open o; ended = ended }))
+    (net' : Client) (end : Option Cause) (same : end ≡ ended) (enters : EntersBy end o list link list' net') where
   abbrev first : GraphObject
   first = record { serial = c.top.0; kind = top_number kind }
 
-  pieces : pieces_made x.makes.events ≡ first ∷ objects_pieces b.open.objects
-  pieces = sym x.makes.pieces ∙ ap (λ d. (first ∷ pieces_below d) ++ objects_pieces b.open.objects) x.leaves.waits.alone
+  pieces : pieces_made x.makes.events ≡ first ∷ objects_pieces o.objects
+  pieces = sym x.makes.pieces ∙ ap (λ d. (first ∷ pieces_below d) ++ objects_pieces o.objects) x.leaves.waits.alone
 
   -- no other object that lives is newer than what waits
-  not_newer : CallsOpen (kin_of b.open) None x.records x.mid (run_state h.book []) → (y : ℕ) → object_lives h.book y ≡ true → is_one_of (objects_ids b.open.objects) y ≡ false → y ≤ c.top.0
+  not_newer : CallsOpen (kin_of o) None x.records x.mid (run_state h.book []) → (y : ℕ) → object_lives h.book y ≡ true → is_one_of (objects_ids o.objects) y ≡ false → y ≤ c.top.0
   not_newer call y live out =
-      let own = own_serials (kin_of b.open) in
-      let are : own ≡ objects_ids b.open.objects = own_are b.open in
+      let own = own_serials (kin_of o) in
+      let are : own ≡ objects_ids o.objects = own_are o in
       let left = run_leaves (is_one_of own) call.events x.mid (run_state h.book []) call.within call.run in
       let lived : x.mid.live y ≡ true = sym (left.live y (ap (λ z. is_one_of z y) are ∙ out)) ∙ live in
       let m = making x.makes.events (run_state g.book []) x.mid x.makes.makes x.makes.run in
       let count = made_count x.makes.events (run_state g.book []) x.mid x.makes.makes x.makes.run ∙ ap (λ z. g.book.made + length z) pieces in
-      none_between first (objects_pieces b.open.objects) g.book.made x.mid.made y (subst (AllByRecursion (λ q. g.book.made < q.serial)) pieces m.new) (subst AreRising pieces m.rising) (subst (AllByRecursion (λ q. q.serial ≤ x.mid.made)) pieces m.below) count
-      (subst (λ z. y ≤ z) (lowest_after c.top.0 b.open.objects) (x.makes.newest tt y lived)) (ap (λ z. is_one_of z y) are ∙ out)
+      none_between first (objects_pieces o.objects) g.book.made x.mid.made y (subst (AllByRecursion (λ q. g.book.made < q.serial)) pieces m.new) (subst AreRising pieces m.rising) (subst (AllByRecursion (λ q. q.serial ≤ x.mid.made)) pieces m.below) count
+      (subst (λ z. y ≤ z) (lowest_after c.top.0 o.objects) (x.makes.newest tt y lived)) (ap (λ z. is_one_of z y) are ∙ out)
 
-  newest_by : (e : Option Cause) → EntersBy e b.open list link list' net' → SetsOutOr e a number now link b.open x.mid h x.records → IsNewestBut (number_by e number) c (record { graph = h; list = list' })
+  newest_by : (e : Option Cause) → EntersBy e o list link list' net' → SetsOutOr e a number now link (bare_open o) x.mid h x.records → IsNewestBut (number_by e number) c (record { graph = h; list = list' })
   newest_by None enter sets = λ y live.
-      either_test (is_one_of (objects_ids b.open.objects) y)
-      (λ t. inl (subst (IsOfNumber number y) (sym enter.0) (of_last number y list b.open (number_is a number b.open x.speaker) t)))
+      either_test (is_one_of (objects_ids o.objects) y)
+      (λ t. inl (subst (IsOfNumber number y) (sym enter.0) (of_last number y list o (number_is a number o x.speaker) t)))
       (λ f. inr (not_newer sets.call y live f))
   newest_by (Some cause) enter sets = λ y live.
-      either_test (is_one_of (objects_ids b.open.objects) y)
-      (λ t. absurd (let no : true ≡ false = sym live ∙ sets.1.gone y (ap (λ z. is_one_of z y) (own_are b.open) ∙ t) in cc))
+      either_test (is_one_of (objects_ids o.objects) y)
+      (λ t. absurd (let no : true ≡ false = sym live ∙ sets.1.gone y (ap (λ z. is_one_of z y) (own_are o) ∙ t) in cc))
       (λ f. not_newer sets.1.call y live f)
 
   pub beside_newest : IsNewestBut (number_by end number) c (record { graph = h; list = list' })
-  beside_newest = newest_by end enters (subst (λ z. SetsOutOr z a number now link b.open x.mid h x.records) (sym same) x.sets_out)
+  beside_newest = newest_by end enters (subst (λ z. SetsOutOr z a number now link (bare_open o) x.mid h x.records) (sym same) x.sets_out)

@@ -23,7 +23,7 @@ use Rattle.nb_machine.specs.Network.{on_net0, Network, passes_by, is_for_one}
 use Rattle.nb_machine.specs.States.{State, bare, net0, with_device}
 use Rattle.nb_traced.specs.Holdings.{Holdings, GraphObject}
 use Rattle.nb_traced.specs.Outputs.{Arrived, Traced, apart, replies}
-use Rattle.nb_open.specs.declared.open.Open.{Open}
+use Rattle.nb_network.specs.declared.living.Living.{Living}
 use Rattle.nb_network.specs.Many.{AreOpensOf, AreSound, FitsHoldings, IsStateOf, Many}
 use Rattle.nb_network.specs.Receiving.{DoesNotCount, NoneTakes}
 use Rattle.nb_network.specs.Steps.{counts_by}
@@ -62,14 +62,14 @@ any_at f front l back a b = list_any-append f front (l ∷ back) ∙ ap (λ z. z
 module _ (m : Many) (net : Client) (now w opens n : ℕ) (bytes : List ℕ) (out : Outcome) (none : NoneTakes m.list out) (s : State) (sound : AreSound w opens net m) (state : IsStateOf m net now s) where
   -- none of these opens is such, where another port is theirs
   abbrev pub NoneElsewhere : (Live → Bool) → ℕ → ℕ → Type 0
-  NoneElsewhere f proto number = (os : List Open) (ls : List Live) → AreOpensOf m.graph os ls → AllByRecursion (IsElsewhere proto number) os → list_any f ls ≡ false
+  NoneElsewhere f proto number = (os : List Living) (ls : List Live) → AreOpensOf m.graph os ls → AllByRecursion (IsElsewhere proto number) os → list_any f ls ≡ false
 
   unowned : (f : Live → Bool) (proto number : ℕ) → owner_of proto number net.ports ≡ None → NoneElsewhere f proto number → list_any f s.live ≡ false
   unowned f proto number e each = each m.list s.live state.live (owned_by_none proto number m.list (sym (ap (owner_of proto number) sound.ports) ∙ e))
 
   -- the one of that number, for which it doesn't count
   module _ (to : ℕ) (source : Ip4) (port : ℕ) (x : DoesNotCount m.list to source port) where
-    abbrev pub it : Open
+    abbrev pub it : Living
     it = x.taker
 
     parted : PartedAt m.graph x.at.before it x.at.behind s.live
@@ -114,7 +114,7 @@ module _ (m : Many) (net : Client) (now w opens n : ℕ) (bytes : List ℕ) (out
   taker_of : (proto number to : ℕ) (source dst : Ip4) (port : ℕ) (body : List ℕ) → owner_of proto number net.ports ≡ Some to → out ≡ handed to source dst proto port body → DoesNotCount m.list to source port
   taker_of proto number to source dst port body owned is = by (none to source dst proto port body is)
     where
-      by : (AllByRecursion (λ (o : Open). o.speaker.number ≡ to → ⊥) m.list ⊎ DoesNotCount m.list to source port) → DoesNotCount m.list to source port
+      by : (AllByRecursion (λ (o : Living). o.speaker.number ≡ to → ⊥) m.list ⊎ DoesNotCount m.list to source port) → DoesNotCount m.list to source port
       by (inl far) = absurd (owned_by_nobody proto number to m.list far (sym (ap (owner_of proto number) sound.ports) ∙ owned))
       by (inr x) = x
 

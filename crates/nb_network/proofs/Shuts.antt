@@ -21,15 +21,15 @@ use Rattle.nb_teller.specs.Speakers.{carrier_number}
 use Rattle.nb_traced.specs.Holdings.{Holdings, lowest_of, serials}
 use Rattle.nb_traced.specs.Outputs.{Arrived, Traced, last_step, own_serials, ends_with_all}
 use Rattle.nb_traced.specs.Pieces.{IsCallOn, event_records}
-use Rattle.nb_open.specs.declared.open.Open.{Open}
+use Rattle.nb_network.specs.declared.living.Living.{Living}
 use Rattle.nb_open.specs.Begins.{waiting_pieces}
 use Rattle.nb_open.specs.Ends.{MayWaitBeside, ShutsWith, chain_ids_of}
 use Rattle.nb_open.specs.declared.objects.OpenObjects.{OpenObjects}
 use Rattle.nb_open.specs.declared.objects.OpenObjects.TheVariants as objects
 use Rattle.nb_open.specs.Objects.{objects_ids}
-use Rattle.nb_open.specs.Open.{IsOpenOf, LivesSome, kin_of, pieces_of}
+use Rattle.nb_open.specs.Open.{pieces_of}
 use Rattle.nb_network.specs.Closings.{ClosesMany, closes_with}
-use Rattle.nb_network.specs.Many.{AreApart, AreOpensOf, AreRising, AreSound, FitsHoldings, HasAddress, HasOwnPort, IsApartFrom, IsStateOf, Many, WaitsBeside, bound_port, lease_count_of}
+use Rattle.nb_network.specs.Many.{AreApart, AreOpensOf, AreRising, AreSound, FitsHoldings, HasOwnPort, IsApartFrom, IsOpenOf, IsStateOf, LivesSome, Many, WaitsBeside, bound_port, kin_of, lease_count_of, bare_open}
 use Rattle.nb_network.specs.Shutting.{LetsWaitingGo, ShutsFirst, ends_beside, parted_by}
 use Rattle.nb_network.specs.Takes.{TracesOn}
 use Rattle.nb_network.proofs.Closes.{closes_before, closes_none, no_close}
@@ -38,6 +38,7 @@ use Rattle.nb_network.proofs.Ports.{either_test, freed_port, stands_alone}
 use Rattle.nb_network.proofs.Staying.{open_stays, waits_on}
 use Rattle.nb_network.proofs.Stepping.{same_ports, texts_more, top_apart}
 use Rattle.nb_network.proofs.Traces.{own_are, serials_are, traces_end}
+use Rattle.nb_network.proofs.Hearing.{bare_is}
 
 one_of_both : (xs ys : List ℕ) (x : ℕ) → is_one_of xs x ≡ false → is_one_of ys x ≡ false → is_one_of (xs ++ ys) x ≡ false
 one_of_both [] ys x a b = b
@@ -47,14 +48,14 @@ one_of_both (z ∷ xs) ys x a b =
     (λ e. ap (λ t. t || is_one_of (xs ++ ys) x) e ∙ one_of_both xs ys x (sym (ap (λ t. t || is_one_of xs x) e) ∙ a) b)
 
 -- no object of it is one of these
-abbrev pub IsFar : List ℕ → Open → Type 0
+abbrev pub IsFar : List ℕ → Living → Type 0
 IsFar ids p = (x : ℕ) → is_one_of (objects_ids p.objects) x ≡ true → is_one_of ids x ≡ false
 
-far_of : (o : Open) (with : Option Chain) (p : Open) → IsApartFrom (objects_ids o.objects) p → ((c : Chain) → with ≡ Some c → IsApartFrom (chain_ids c) p) → IsFar (objects_ids o.objects ++ chain_ids_of with) p
+far_of : (o : Living) (with : Option Chain) (p : Living) → IsApartFrom (objects_ids o.objects) p → ((c : Chain) → with ≡ Some c → IsApartFrom (chain_ids c) p) → IsFar (objects_ids o.objects ++ chain_ids_of with) p
 far_of o None p a f x own = one_of_both (objects_ids o.objects) [] x (a x own) refl
 far_of o (Some c) p a f x own = one_of_both (objects_ids o.objects) (chain_ids c) x (a x own) (f c refl x own)
 
-far_all : (o : Open) (with : Option Chain) (os : List Open) → AllByRecursion (IsApartFrom (objects_ids o.objects)) os → ((c : Chain) → with ≡ Some c → AllByRecursion (IsApartFrom (chain_ids c)) os) → AllByRecursion (IsFar (objects_ids o.objects ++ chain_ids_of with)) os
+far_all : (o : Living) (with : Option Chain) (os : List Living) → AllByRecursion (IsApartFrom (objects_ids o.objects)) os → ((c : Chain) → with ≡ Some c → AllByRecursion (IsApartFrom (chain_ids c)) os) → AllByRecursion (IsFar (objects_ids o.objects ++ chain_ids_of with)) os
 far_all o with [] a f = tt
 far_all o with (p ∷ os) a f = (far_of o with p a.0 (λ c e. (f c e).0), far_all o with os a.1 (λ c e. (f c e).1))
 
@@ -70,8 +71,9 @@ left_is false waits c e = (e, refl)
 pub may_beside : (os : OpenObjects) (same : Bool) (waits : Option Chain) → MayWaitBeside (parted_by (ends_beside os same) waits).0 os
 may_beside (objects.Chain kind chain) same waits = tt
 may_beside (objects.Web port own chain) same waits = refl
+may_beside (objects.Drive port own chain) same waits = refl
 
-module _ (kind : ChainKind) (m : Many) (net : Client) (w opens now : ℕ) (cause : Cause) (o : Open) (rest : List Open) (waits left : Option Chain) (m1 : Many) (net1 : Client) (old mid : Logged) (is : m.list ≡ o ∷ rest) (sound : AreSound w opens net m) (beside : (c : Chain) → waits ≡ Some c → WaitsBeside kind c m)
+module _ (kind : ChainKind) (m : Many) (net : Client) (w opens now : ℕ) (cause : Cause) (o : Living) (rest : List Living) (waits left : Option Chain) (m1 : Many) (net1 : Client) (old mid : Logged) (is : m.list ≡ o ∷ rest) (sound : AreSound w opens net m) (beside : (c : Chain) → waits ≡ Some c → WaitsBeside kind c m)
     (x : ShutsFirst kind m net o rest cause waits left m1 net1 old mid) where
   abbrev pub with_it : Option Chain
   with_it = (parted_by x.now waits).0
@@ -85,10 +87,10 @@ module _ (kind : ChainKind) (m : Many) (net : Client) (w opens now : ℕ) (cause
   later : m.graph.book.made ≤ m1.graph.book.made
   later = let e = x.shuts.others.same_made in omega (arith, e)
 
-  stay : (p : Open) (l : Live) → IsFar (objects_ids o.objects ++ chain_ids_of with_it) p → IsOpenOf m.graph p l → IsOpenOf m1.graph p l
+  stay : (p : Living) (l : Live) → IsFar (objects_ids o.objects ++ chain_ids_of with_it) p → IsOpenOf m.graph p l → IsOpenOf m1.graph p l
   stay p l a i = open_stays m.graph m1.graph p l x.noded (λ y own. x.shuts.others.others y (i.chained.given y own) (a y own)) later i
 
-  all_live : (os : List Open) → AllByRecursion (IsFar (objects_ids o.objects ++ chain_ids_of with_it)) os → AllByRecursion (LivesSome m.graph) os → AllByRecursion (LivesSome m1.graph) os
+  all_live : (os : List Living) → AllByRecursion (IsFar (objects_ids o.objects ++ chain_ids_of with_it)) os → AllByRecursion (LivesSome m.graph) os → AllByRecursion (LivesSome m1.graph) os
   all_live [] a i = tt
   all_live (p ∷ os) a i = ((i.0.0, stay p i.0.0 a.0 i.0.1), all_live os a.1 i.1)
 
@@ -107,7 +109,6 @@ module _ (kind : ChainKind) (m : Many) (net : Client) (w opens now : ℕ) (cause
         ports = ap (λ (c : Client). c.ports) x.net_is ∙ ap (without (carrier_number o.speaker.carrier) o.speaker.own_port) (sound.ports ∙ ap (map bound_port) is) ∙ freed_port [] o rest tt alone.back ∙ ap (map bound_port) (sym x.list);
         rising = subst (AreRising 0 opens) (sym x.list) (rising_without 0 opens [] o rest rising);
         own = subst (AllByRecursion (HasOwnPort w)) (sym x.list) own.1;
-        addressed = subst (λ (c : Client). AllByRecursion (HasAddress c.address) m1.list) (sym x.net_is) (subst (AllByRecursion (HasAddress net.address)) (sym x.list) (subst (AllByRecursion (HasAddress net.address)) is sound.addressed).1);
         one_lease = subst (λ os. sum_by lease_count_of os ≤ 1) (sym x.list) (count_without lease_count_of [] o rest 1 one);
         lives = subst (AllByRecursion (LivesSome m1.graph)) (sym x.list) (all_live rest far (subst (AllByRecursion (LivesSome m.graph)) is sound.lives).1);
         apart = subst AreApart (sym x.list) around.rest;
@@ -130,8 +131,8 @@ module _ (kind : ChainKind) (m : Many) (net : Client) (w opens now : ℕ) (cause
   first_put = x.shuts.records ++ ended o.speaker.number cause ∷ []
 
   -- where it ends alone
-  alone_traces : (with : Option Chain) → ShutsWith kind o with cause net m.graph m1.graph x.told → with ≡ None → (outs : List Out) (h : Holdings) (so_far : List Arrived) → Traced outs h so_far → (waits : Option Chain) → FitsHoldings m opens (waiting_pieces kind waits) h →
-      (s : ShutsWith kind o with cause net m.graph m1.graph x.told) → TracesOn m opens (waiting_pieces kind waits) (s.records ++ ended o.speaker.number cause ∷ []) [] m1 opens (waiting_pieces kind waits) outs h so_far
+  alone_traces : (with : Option Chain) → ShutsWith kind (bare_open o) with cause net m.graph m1.graph x.told → with ≡ None → (outs : List Out) (h : Holdings) (so_far : List Arrived) → Traced outs h so_far → (waits : Option Chain) → FitsHoldings m opens (waiting_pieces kind waits) h →
+      (s : ShutsWith kind (bare_open o) with cause net m.graph m1.graph x.told) → TracesOn m opens (waiting_pieces kind waits) (s.records ++ ended o.speaker.number cause ∷ []) [] m1 opens (waiting_pieces kind waits) outs h so_far
   alone_traces (Some c) z e outs h so_far traced waits fits s = absurd (cc)
   alone_traces None z e outs h so_far traced waits fits s =
       (traces_end (last_step outs) m opens [] o rest None s.records cause m1 is x.list
@@ -139,7 +140,7 @@ module _ (kind : ChainKind) (m : Many) (net : Client) (w opens now : ℕ) (cause
       (λ y own. s.gone y (subst (λ ids. is_one_of ids y ≡ true) (sym (append-nil (objects_ids o.objects))) own)) (waiting_pieces kind waits) outs h so_far refl traced fits).0
 
   -- where what waits ends with it
-  both_traces : (c : Chain) (s : ShutsWith kind o (Some c) cause net m.graph m1.graph x.told) (outs : List Out) (h : Holdings) (so_far : List Arrived) → Traced outs h so_far → FitsHoldings m opens (pieces_of kind c) h →
+  both_traces : (c : Chain) (s : ShutsWith kind (bare_open o) (Some c) cause net m.graph m1.graph x.told) (outs : List Out) (h : Holdings) (so_far : List Arrived) → Traced outs h so_far → FitsHoldings m opens (pieces_of kind c) h →
       TracesOn m opens (pieces_of kind c) (s.records ++ ended o.speaker.number cause ∷ []) [] m1 opens [] outs h so_far
   both_traces c s outs h so_far traced fits =
       let t = run_state m1.graph.book [] in
@@ -156,7 +157,7 @@ module _ (kind : ChainKind) (m : Many) (net : Client) (w opens now : ℕ) (cause
         fits = record { state = refl; living = ap (map kin_of) (sym x.list); waiting = refl; numbered = fits.numbered };
       }
 
-  first_traces_by : (b : Bool) (z : Option Chain) (s : ShutsWith kind o (parted_by b z).0 cause net m.graph m1.graph x.told) (outs : List Out) (h : Holdings) (so_far : List Arrived) → Traced outs h so_far → FitsHoldings m opens (waiting_pieces kind z) h →
+  first_traces_by : (b : Bool) (z : Option Chain) (s : ShutsWith kind (bare_open o) (parted_by b z).0 cause net m.graph m1.graph x.told) (outs : List Out) (h : Holdings) (so_far : List Arrived) → Traced outs h so_far → FitsHoldings m opens (waiting_pieces kind z) h →
       TracesOn m opens (waiting_pieces kind z) (s.records ++ ended o.speaker.number cause ∷ []) [] m1 opens (waiting_pieces kind (parted_by b z).1) outs h so_far
   first_traces_by true None s outs h so_far traced fits = alone_traces None s refl outs h so_far traced None fits s
   first_traces_by true (Some c) s outs h so_far traced fits = both_traces c s outs h so_far traced fits
@@ -167,7 +168,7 @@ module _ (kind : ChainKind) (m : Many) (net : Client) (w opens now : ℕ) (cause
     shuts_live s [] state = absurd (subst (λ os. AreOpensOf m.graph os []) is state.live)
     shuts_live s (l ∷ ls) state =
         let i : AreOpensOf m.graph (o ∷ rest) (l ∷ ls) = subst (λ os. AreOpensOf m.graph os (l ∷ ls)) is state.live in
-        closes_before s net l ls cause o.speaker.number x.shuts.records y.records state.devices i.0.called.device i.0.called.number (x.shuts.keeps l i.0) (x.shuts.its_end l.number)
+        closes_before s net l ls cause o.speaker.number x.shuts.records y.records state.devices i.0.called.device i.0.called.number (x.shuts.keeps l (bare_is i.0)) (x.shuts.its_end l.number)
         (y.closes (with_live s ls) (record {
           devices = state.devices ∙ ap (λ c. bare c ∷ []) (sym shut_net);
           time = state.time;
@@ -180,7 +181,7 @@ module _ (kind : ChainKind) (m : Many) (net : Client) (w opens now : ℕ) (cause
       puts = Puts-outs first_put y.records (subst (Puts old mid) (ap (λ z. z ++ out_texts (ended o.speaker.number cause ∷ [])) x.shuts.text ∙ sym (texts_more x.shuts.records (ended o.speaker.number cause ∷ []))) x.puts) y.puts;
       none = y.none;
       closes_first = λ some. let f = x.shuts.closes_first in (f.0, (f.1 ++ ended o.speaker.number cause ∷ []) ++ y.records, ap (λ z. (z ++ ended o.speaker.number cause ∷ []) ++ y.records) f.2);
-      closes = λ s state. shuts_live s s.live state;
+      closes = λ s state. shuts_live s s.live (record { devices = state.devices; time = state.time; live = state.live });
       traces = λ outs h so_far traced fits.
           let a : TracesOn m opens (waiting_pieces kind waits) first_put [] m1 opens (waiting_pieces kind left) outs h so_far =
           subst (λ z. TracesOn m opens (waiting_pieces kind waits) first_put [] m1 opens (waiting_pieces kind z) outs h so_far) (sym x.parts) (first_traces_by x.now waits x.shuts outs h so_far traced fits) in

@@ -12,14 +12,15 @@ use Rattle.nb_chains.specs.Chains.{Awaits}
 use Rattle.nb_chains.specs.Kinds.{top_mark, top_rank}
 use Rattle.nb_chains.proofs.FreshOnes.{fresh_kept}
 use Rattle.nb_chains.proofs.Staying.{stays}
-use Rattle.nb_open.specs.declared.open.Open.{Open}
+use Rattle.nb_network.specs.declared.living.Living.{Living}
+use Rattle.nb_network.specs.Many.{IsOpenOf, bare_open}
 use Rattle.nb_open.specs.Objects.{objects_ids}
-use Rattle.nb_open.specs.Open.{IsOpenOf}
 use Rattle.nb_open.proofs.Keepings.{open_stays as stays_chained}
+use Rattle.nb_network.proofs.Hearing.{bare_is, living_is}
 
 -- an open whose objects stay as they are stays what it is
-pub open_stays : (g h : Objects Obj) (o : Open) (l : Live) → AreNoded rank_of_obj h → ((x : ℕ) → is_one_of (objects_ids o.objects) x ≡ true → KeepsObject g h x) → g.book.made ≤ h.book.made → IsOpenOf g o l → IsOpenOf h o l
-open_stays g h o l noded kept later i = stays_chained g h o l (stays (objects_ids o.objects) g h noded i.chained kept later) i
+pub open_stays : (g h : Objects Obj) (o : Living) (l : Live) → AreNoded rank_of_obj h → ((x : ℕ) → is_one_of (objects_ids o.objects) x ≡ true → KeepsObject g h x) → g.book.made ≤ h.book.made → IsOpenOf g o l → IsOpenOf h o l
+open_stays g h o l noded kept later i = living_is (stays_chained g h (bare_open o) l (stays (objects_ids o.objects) g h noded i.chained kept later) (bare_is i)) i.drive
 
 -- what waits waits on
 pub waits_on : (kind : ChainKind) (c : Chain) (g h : Objects Obj) → KeepsObject g h c.top.0 → g.book.made ≤ h.book.made → Awaits kind c g → Awaits kind c h

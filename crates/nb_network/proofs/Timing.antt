@@ -18,7 +18,7 @@ use Rattle.nb_machine.specs.States.{State, bare, later_by, with_live}
 use Rattle.nb_machine.specs.Takings.{Over, AllTake, all_have, lives_on, is_over}
 use Rattle.nb_open.specs.Objects.{objects_ids}
 use Rattle.nb_open.specs.declared.ended.Ended.{Ended}
-use Rattle.nb_open.specs.declared.open.Open.{Open}
+use Rattle.nb_network.specs.declared.living.Living.{Living}
 use Rattle.nb_network.specs.declared.over.HasEnded.{HasEnded}
 use Rattle.nb_network.specs.Many.{AreApart, AreOpensOf, AreSound, HasTiedOnlyOf, IsApartFrom, IsNewestBut, IsStateOf, Many}
 use Rattle.nb_network.specs.Steps.{ComesAt, IsOpenAt, StaysOn, TimesCome, TimesGive, TracesAt, left_by, place_after}
@@ -57,7 +57,7 @@ answers_both awaited a b over overs h k = subst (AnswersBy (option_or a b)) (sym
 
 -- NONE IS LEFT
 
-pub times_none : (m : Many) (net : Client) (opens now : ℕ) (done : List Open) (awaited : Option ℕ) (log : Logged) → m.list ≡ done → TimesCome m net opens now done [] awaited None m net log log
+pub times_none : (m : Many) (net : Client) (opens now : ℕ) (done : List Living) (awaited : Option ℕ) (log : Logged) → m.list ≡ done → TimesCome m net opens now done [] awaited None m net log log
 times_none m net opens now done awaited log is = record {
   left = [];
   list = is ∙ sym (append-nil done);
@@ -85,19 +85,19 @@ times_none m net opens now done awaited log is = record {
     }
     none (l ∷ ls) i = absurd i
 
-    all_stay : (os : List Open) → AllByRecursion (StaysOn m.graph m.graph) os
+    all_stay : (os : List Living) → AllByRecursion (StaysOn m.graph m.graph) os
     all_stay [] = tt
     all_stay (p ∷ os) = ((λ l i. i), all_stay os)
 
 -- ONE MORE
 
-module _ (m : Many) (net : Client) (w opens now : ℕ) (done : List Open) (o : Open) (rest : List Open) (awaited : Option ℕ) (end : Option Ended) (found : Option HasEnded) (m1 : Many) (net1 : Client) (old mid : Logged) (is : m.list ≡ done ++ (o ∷ rest)) (sound : AreSound w opens net m)
-    (c : ComesAt (λ (l : Live). Unit {0}) (time now) Time None m net done o rest awaited end found m1 net1 old mid) where
+module _ (m : Many) (net : Client) (w opens now : ℕ) (done : List Living) (o : Living) (rest : List Living) (awaited : Option ℕ) (end : Option Ended) (found : Option HasEnded) (m1 : Many) (net1 : Client) (old mid : Logged) (is : m.list ≡ done ++ (o ∷ rest)) (sound : AreSound w opens net m)
+    (c : ComesAt (λ (l : Live). Unit {0}) (time now) (Some Time) None m net done o rest awaited end found m1 net1 old mid) where
   leaves : LeavesAll m net w opens o m1 net1
-  leaves = one_leaves (λ (l : Live). Unit {0}) (time now) Time None m net w opens done o rest awaited m1 net1 old mid is c.noded sound end found c (λ l i. tt)
+  leaves = one_leaves (λ (l : Live). Unit {0}) (time now) (Some Time) None m net w opens done o rest awaited m1 net1 old mid is c.noded sound end found c (λ l i. tt)
 
   known : AwaitsOn m awaited found m1
-  known = one_awaits (λ (l : Live). Unit {0}) (time now) Time None m net w opens done o rest awaited m1 net1 old mid is sound end found c (λ l i. tt)
+  known = one_awaits (λ (l : Live). Unit {0}) (time now) (Some Time) None m net w opens done o rest awaited m1 net1 old mid is sound end found c (λ l i. tt)
 
   pub next_sound : AreSound w opens net1 m1
   next_sound = leaves.sound
@@ -105,16 +105,16 @@ module _ (m : Many) (net : Client) (w opens now : ℕ) (done : List Open) (o : O
   around : AreAround done o rest
   around = apart_around done o rest (subst AreApart is sound.apart)
 
-  front_stays : (os : List Open) → AllByRecursion (IsApartFrom (objects_ids o.objects)) os → AllByRecursion (StaysOn m.graph m1.graph) os
+  front_stays : (os : List Living) → AllByRecursion (IsApartFrom (objects_ids o.objects)) os → AllByRecursion (StaysOn m.graph m1.graph) os
   front_stays [] far = tt
   front_stays (p ∷ os) far = ((λ l i. (leaves.others (p ∷ []) (l ∷ []) (far.0, tt) (i, tt)).0), front_stays os far.1)
 
-  module _ (later : Option HasEnded) (m2 : Many) (net2 : Client) (new : Logged) (t : TimesCome m1 net1 opens now (done ++ left_by end o) rest awaited later m2 net2 mid new) where
-    gives_more : (ls : List Live) → AreOpensOf m.graph (o ∷ rest) ls → TimesGive m net opens now ls awaited (option_or found later) m2 (left_by end o ++ t.left) old new
+  module _ (later : Option HasEnded) (m2 : Many) (net2 : Client) (new : Logged) (t : TimesCome m1 net1 opens now (done ++ left_by end c.heard o) rest awaited later m2 net2 mid new) where
+    gives_more : (ls : List Live) → AreOpensOf m.graph (o ∷ rest) ls → TimesGive m net opens now ls awaited (option_or found later) m2 (left_by end c.heard o ++ t.left) old new
     gives_more [] i = absurd i
     gives_more (l ∷ ls) i =
-        let g : OneGives m net opens done o rest l (time now) (Some Time) None awaited end found m1 old mid =
-        one_gives (λ (l : Live). Unit {0}) (time now) Time None m net opens done o rest awaited m1 old mid is end found net1 c l i.0 tt in
+        let g : OneGives m net opens done o rest l (time now) (Some Time) None awaited end c.heard found m1 old mid =
+        one_gives (λ (l : Live). Unit {0}) (time now) (Some Time) None m net opens done o rest awaited m1 old mid is end found net1 c l i.0 tt in
         let x = t.gives ls (leaves.others rest ls around.back i.1) in
         record {
           records = g.records ++ x.records;
@@ -124,8 +124,8 @@ module _ (m : Many) (net : Client) (w opens now : ℕ) (done : List Open) (o : O
           takes = subst (λ z. AllTake (bare net ∷ []) (time now) (l ∷ ls) z (g.after ++ x.after) (g.over ++ x.over)) (sym (plain_append g.records x.records))
               (takes_both (bare net ∷ []) (time now) (l ∷ []) (without_graph g.records) g.after g.over g.takes ls (without_graph x.records) x.after x.over
               (subst (λ (z : Client). AllTake (bare z ∷ []) (time now) ls (without_graph x.records) x.after x.over) leaves.same_net x.takes));
-          lives = opens_append m2.graph (left_by end o) g.after t.left x.after
-              (opens_move m1.graph m2.graph (StaysOn m1.graph m2.graph) (λ p k f j. f k j) (left_by end o) g.after (all_back (StaysOn m1.graph m2.graph) done (left_by end o) t.others) g.lives) x.lives;
+          lives = opens_append m2.graph (left_by end c.heard o) g.after t.left x.after
+              (opens_move m1.graph m2.graph (StaysOn m1.graph m2.graph) (λ p k f j. f k j) (left_by end c.heard o) g.after (all_back (StaysOn m1.graph m2.graph) done (left_by end c.heard o) t.others) g.lives) x.lives;
           answers = answers_both awaited found later g.over x.over g.answers x.answers;
           traces = λ n. subst (λ k. TracesAt n m opens (g.records ++ x.records) (arrival k Time n ∷ map (λ l. arrival l.number Time n) ls) m2 opens) (sym i.0.called.number)
               (traces_both n m m1 m2 opens opens opens g.records x.records (arrival o.speaker.number Time n ∷ []) (map (λ l. arrival l.number Time n) ls) (g.traces n) (x.traces n));
@@ -134,11 +134,11 @@ module _ (m : Many) (net : Client) (w opens now : ℕ) (done : List Open) (o : O
 
     pub times_more : TimesCome m net opens now done (o ∷ rest) awaited (option_or found later) m2 net2 old new
     times_more = record {
-      left = left_by end o ++ t.left;
-      list = t.list ∙ append_assoc done (left_by end o) t.left;
+      left = left_by end c.heard o ++ t.left;
+      list = t.list ∙ append_assoc done (left_by end c.heard o) t.left;
       same_net = t.same_net ∙ ap (λ (z : Client). record z { ports = net2.ports }) leaves.same_net;
       gives = gives_more;
-      others = all_both (StaysOn m.graph m1.graph) (StaysOn m1.graph m2.graph) (StaysOn m.graph m2.graph) done (λ p f h l i. h l (f l i)) (front_stays done around.front) (all_front (StaysOn m1.graph m2.graph) done (left_by end o) t.others);
+      others = all_both (StaysOn m.graph m1.graph) (StaysOn m1.graph m2.graph) (StaysOn m.graph m2.graph) done (λ p f h l i. h l (f l i)) (front_stays done around.front) (all_front (StaysOn m1.graph m2.graph) done (left_by end c.heard o) t.others);
       waiting = λ kind d wait. t.waiting kind d (leaves.waiting kind d wait);
       sound = λ v s. t.sound v (sound_again v s);
       same_made = t.same_made ∙ known.same_made;
@@ -147,7 +147,7 @@ module _ (m : Many) (net : Client) (w opens now : ℕ) (done : List Open) (o : O
     }
       where
         sound_again : (v : ℕ) → AreSound v opens net m → AreSound v opens net1 m1
-        sound_again v s = (one_leaves (λ (l : Live). Unit {0}) (time now) Time None m net v opens done o rest awaited m1 net1 old mid is c.noded s end found c (λ l i. tt)).sound
+        sound_again v s = (one_leaves (λ (l : Live). Unit {0}) (time now) (Some Time) None m net v opens done o rest awaited m1 net1 old mid is c.noded s end found c (λ l i. tt)).sound
 
 -- THE RECORD
 
@@ -186,7 +186,7 @@ times_record m net before w opens n ms now awaited answer m' net' none gathered 
 
 abbrev pub ComesNext : Many → Client → ℕ → ℕ → Option ℕ → Option HasEnded → ℕ → Many → Client → Logged → Logged → Type 0
 ComesNext m net now place awaited found next m1 net1 old mid =
-    (end : Option Ended) × (next ≡ place_after end place) × ((o : Open) (at : IsOpenAt m.list place o) → ComesAt (λ (l : Live). Unit {0}) (time now) Time None m net at.before o at.behind awaited end found m1 net1 old mid)
+    (end : Option Ended) × (next ≡ place_after end place) × ((o : Living) (at : IsOpenAt m.list place o) → ComesAt (λ (l : Live). Unit {0}) (time now) (Some Time) None m net at.before o at.behind awaited end found m1 net1 old mid)
 
 -- what the next call takes for granted
 pub next_fits : (m : Many) (net : Client) (w opens now place : ℕ) (awaited : Option ℕ) (found : Option HasEnded) (next : ℕ) (m1 : Many) (net1 : Client) (old mid : Logged) → place < length m.list → AreSound w opens net m → ComesNext m net now place awaited found next m1 net1 old mid →
@@ -194,22 +194,22 @@ pub next_fits : (m : Many) (net : Client) (w opens now place : ℕ) (awaited : O
 next_fits m net w opens now place awaited found next m1 net1 old mid low sound x =
     let s = some_at m.list place low in
     let c = x.2 s.0 s.1 in
-    let d = steps_down x.0 m.list m1.list place s.0 s.1 (settled_list x.0 s.1.before s.0 s.1.behind net None awaited c.told m1.list net1 found old mid c.settles) in
+    let d = steps_down x.0 c.heard m.list m1.list place s.0 s.1 (settled_list x.0 s.1.before s.0 s.1.behind net None awaited c.heard c.told m1.list net1 found old mid c.settles) in
     (next_sound m net w opens now s.1.before s.0 s.1.behind awaited x.0 found m1 net1 old mid s.1.all sound c, subst (λ z. length m1.list - z < length m.list - place) (sym x.1) d.0, subst (λ z. z ≤ length m1.list) (sym x.1) d.1)
 
 pub pass_more : (m : Many) (net : Client) (w opens now place : ℕ) (awaited : Option ℕ) (found later : Option HasEnded) (next : ℕ) (m1 : Many) (net1 : Client) (m2 : Many) (net2 : Client) (old mid new : Logged) → place < length m.list → AreSound w opens net m → ComesNext m net now place awaited found next m1 net1 old mid →
-    ((w opens : ℕ) → AreSound w opens net1 m1 → (done rest : List Open) → m1.list ≡ done ++ rest → length done ≡ next → TimesCome m1 net1 opens now done rest awaited later m2 net2 mid new) →
-    (done rest : List Open) → m.list ≡ done ++ rest → length done ≡ place → TimesCome m net opens now done rest awaited (option_or found later) m2 net2 old new
+    ((w opens : ℕ) → AreSound w opens net1 m1 → (done rest : List Living) → m1.list ≡ done ++ rest → length done ≡ next → TimesCome m1 net1 opens now done rest awaited later m2 net2 mid new) →
+    (done rest : List Living) → m.list ≡ done ++ rest → length done ≡ place → TimesCome m net opens now done rest awaited (option_or found later) m2 net2 old new
 pass_more m net w opens now place awaited found later next m1 net1 m2 net2 old mid new low sound x times done [] is len =
-    absurd (let a = ap length is in let b = length-append {A = Open} done [] in omega (arith, a, b, len, low))
+    absurd (let a = ap length is in let b = length-append {A = Living} done [] in omega (arith, a, b, len, low))
 pass_more m net w opens now place awaited found later next m1 net1 m2 net2 old mid new low sound x times done (o ∷ rest) is len =
     let c = x.2 o (record { before = done; behind = rest; all = is; place_is = len }) in
     times_more m net w opens now done o rest awaited x.0 found m1 net1 old mid is sound c later m2 net2 new
-    (times w opens (next_sound m net w opens now done o rest awaited x.0 found m1 net1 old mid is sound c) (done ++ left_by x.0 o) rest
-    (settled_list x.0 done o rest net None awaited c.told m1.list net1 found old mid c.settles ∙ sym (append_assoc done (left_by x.0 o) rest))
-    (place_grows x.0 o done place len ∙ sym x.1))
+    (times w opens (next_sound m net w opens now done o rest awaited x.0 found m1 net1 old mid is sound c) (done ++ left_by x.0 c.heard o) rest
+    (settled_list x.0 done o rest net None awaited c.heard c.told m1.list net1 found old mid c.settles ∙ sym (append_assoc done (left_by x.0 c.heard o) rest))
+    (place_grows x.0 c.heard o done place len ∙ sym x.1))
 
 -- none is left from this place on
-pub pass_none : (m : Many) (net : Client) (opens now place : ℕ) (awaited : Option ℕ) (log : Logged) → place ≡ length m.list → (done rest : List Open) → m.list ≡ done ++ rest → length done ≡ place → TimesCome m net opens now done rest awaited None m net log log
+pub pass_none : (m : Many) (net : Client) (opens now place : ℕ) (awaited : Option ℕ) (log : Logged) → place ≡ length m.list → (done rest : List Living) → m.list ≡ done ++ rest → length done ≡ place → TimesCome m net opens now done rest awaited None m net log log
 pass_none m net opens now place awaited log low done [] is len = times_none m net opens now done awaited log (is ∙ append-nil done)
 pass_none m net opens now place awaited log low done (o ∷ rest) is len = absurd (let a = ap length is in let b = length-append done (o ∷ rest) in omega (arith, a, b, len, low))

@@ -4,6 +4,7 @@ use Rattle.std.specs.List.{AllByRecursion}
 use Rattle.std.proofs.lemmas.List.{map-append}
 use Rattle.std.proofs.lemmas.List.Sums.{fold-append}
 use Rattle.nb_defs.specs.Records.{Out, step, sent, ended, graph}
+use Rattle.nb_drivechains.specs.declared.drive_answer.DriveAnswer.{DriveAnswer as Told}
 use Rattle.nb_terms.specs.declared.cause.Cause.{Cause}
 use Rattle.nb_ledger.specs.declared.event.Way.{Way}
 use Rattle.nb_ledger.specs.declared.event.GraphEvent.TheVariants.{Entered}
@@ -22,12 +23,13 @@ use Rattle.nb_traced.specs.Pieces.{IsCallOn, IsOfOpen, first_close_of}
 use Rattle.nb_traced.proofs.OnEntries.{begins_with, each_on_entries}
 use Rattle.nb_open.specs.declared.objects.OpenObjects.{OpenObjects}
 use Rattle.nb_open.specs.declared.objects.OpenObjects.TheVariants as objects
-use Rattle.nb_open.specs.declared.open.Open.{Open}
+use Rattle.nb_network.specs.declared.living.Living.{Living}
 use Rattle.nb_open.specs.Objects.{objects_ids}
-use Rattle.nb_open.specs.Open.{kin_of, objects_pieces, pieces_below, pieces_of}
-use Rattle.nb_network.specs.Many.{FitsHoldings, Many}
+use Rattle.nb_open.specs.Open.{objects_pieces, pieces_below, pieces_of}
+use Rattle.nb_network.specs.Many.{FitsHoldings, Many, kin_of}
 use Rattle.nb_network.specs.Steps.{TracesAt}
 use Rattle.nb_network.specs.Takes.{TracesOn, arrival}
+use Rattle.nb_network.specs.Drives.{noted}
 
 -- THE LAST STEP
 
@@ -69,11 +71,12 @@ serials_are kind c = ap (λ z. c.top.0 ∷ z) (below_serials c.below)
 objects_are : (os : OpenObjects) → serials (objects_pieces os) ≡ objects_ids os
 objects_are (objects.Chain kind chain) = serials_are kind chain
 objects_are (objects.Web port own chain) = refl
+objects_are (objects.Drive port own chain) = refl
 
-pub own_are : (o : Open) → own_serials (kin_of o) ≡ objects_ids o.objects
+pub own_are : (o : Living) → own_serials (kin_of o) ≡ objects_ids o.objects
 own_are o = objects_are o.objects
 
-pub kins_around : (before : List Open) (o : Open) (behind : List Open) → map kin_of (before ++ o ∷ behind) ≡ map kin_of before ++ kin_of o ∷ map kin_of behind
+pub kins_around : (before : List Living) (o : Living) (behind : List Living) → map kin_of (before ++ o ∷ behind) ≡ map kin_of before ++ kin_of o ∷ map kin_of behind
 kins_around before o behind = map-append kin_of before (o ∷ behind)
 
 -- WHAT CAME
@@ -87,10 +90,10 @@ arrived_is outs n k None e = refl
 arrived_is outs n k (Some way) e = ap (λ z. arrival k way z ∷ []) e
 
 -- an open goes on
-pub traces_on : (n : ℕ) (m : Many) (opens : ℕ) (before : List Open) (o : Open) (behind : List Open) (way : Option Way) (records : List Out) (m' : Many) →
-    m.list ≡ before ++ o ∷ behind → m'.list ≡ before ++ o ∷ behind → CallsOpen (kin_of o) way records (run_state m.graph.book []) (run_state m'.graph.book []) →
+pub traces_on : (heard : Option Told) (n : ℕ) (m : Many) (opens : ℕ) (before : List Living) (o : Living) (behind : List Living) (way : Option Way) (records : List Out) (m' : Many) →
+    m.list ≡ before ++ o ∷ behind → m'.list ≡ before ++ noted heard o ∷ behind → CallsOpen (kin_of o) way records (run_state m.graph.book []) (run_state m'.graph.book []) →
     first_close_of (own_serials (kin_of o)) records ≡ None → TracesAt n m opens records (came_by n o.speaker.number way) m' opens
-traces_on n m opens before o behind way records m' is new call none = λ waits outs h so_far last traced fits.
+traces_on heard n m opens before o behind way records m' is new call none = λ waits outs h so_far last traced fits.
     let living : h.living ≡ map kin_of before ++ kin_of o ∷ map kin_of behind = fits.living ∙ ap (map kin_of) is ∙ kins_around before o behind in
     let t = run_state m'.graph.book [] in (
       record {
@@ -98,13 +101,13 @@ traces_on n m opens before o behind way records m' is new call none = λ waits o
         traced = subst (λ z. Traced (outs ++ records) (record h { state = t }) (so_far ++ z)) (arrived_is outs n o.speaker.number way last)
             (calls outs records h so_far (map kin_of before) (map kin_of behind) (kin_of o) way t traced living
             (subst (λ z. CallsOpen (kin_of o) way records z t) (sym fits.state) call) none);
-        fits = record { state = refl; living = fits.living ∙ ap (map kin_of) (is ∙ sym new); waiting = fits.waiting; numbered = fits.numbered };
+        fits = record { state = refl; living = living ∙ (sym (kins_around before (noted heard o) behind) ∙ ap (map kin_of) (sym new)); waiting = fits.waiting; numbered = fits.numbered };
       },
       last_more outs records ∙ ap (λ z. fold step_by z records) last ∙ call_no_step n o.speaker.number (own_serials (kin_of o)) (lowest_of (own_serials (kin_of o))) way records (run_state m.graph.book []) t call,
     )
 
 -- an open ends
-pub traces_end : (n : ℕ) (m : Many) (opens : ℕ) (before : List Open) (o : Open) (behind : List Open) (way : Option Way) (records : List Out) (cause : Cause) (m' : Many) →
+pub traces_end : (n : ℕ) (m : Many) (opens : ℕ) (before : List Living) (o : Living) (behind : List Living) (way : Option Way) (records : List Out) (cause : Cause) (m' : Many) →
     m.list ≡ before ++ o ∷ behind → m'.list ≡ before ++ behind → CallsOpen (kin_of o) way records (run_state m.graph.book []) (run_state m'.graph.book []) →
     first_close_of (own_serials (kin_of o)) records ≡ Some cause → ((x : ℕ) → is_one_of (objects_ids o.objects) x ≡ true → object_lives m'.graph.book x ≡ false) →
     TracesAt n m opens (records ++ ended o.speaker.number cause ∷ []) (came_by n o.speaker.number way) m' opens

@@ -1,6 +1,9 @@
+pub mod Drives
+pub mod Hooked
 pub mod Many
 pub mod Takes
 pub mod Steps
+pub mod Ones
 pub mod Receiving
 pub mod Openings
 pub mod Closings

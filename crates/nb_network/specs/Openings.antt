@@ -15,27 +15,28 @@ use Rattle.nb_traced.specs.Pieces.{event_records}
 use Rattle.nb_stack.specs.Bound.{with_port}
 use Rattle.nb_stack.specs.declared.address.Addr.{Addr}
 use Rattle.nb_teller.specs.Speakers.{carrier_number}
-use Rattle.nb_open.specs.declared.open.Open.{Open}
+use Rattle.nb_network.specs.declared.living.Living.{Living}
 use Rattle.nb_open.specs.declared.opening.Opening.{Opening}
-use Rattle.nb_open.specs.declared.opening.Opening.TheVariants.{File, Web, Name, Lease, Echo}
+use Rattle.nb_open.specs.declared.opening.Opening.TheVariants.{File, Web, Drive, Name, Lease, Echo}
 use Rattle.nb_open.specs.Opening.{kind_by, live_by}
 use Rattle.nb_network.specs.Many.{FitsHoldings, HasTiedOnlyOf, HasNoneTied, IsStateOf, Many}
 use Rattle.nb_network.specs.Takes.{TracesOn}
 
 -- with the port of this open bound for it
-abbrev pub bound_for : Client → Open → Client
+abbrev pub bound_for : Client → Living → Client
 bound_for net o = record net { ports = with_port (carrier_number o.speaker.carrier) o.speaker.own_port o.speaker.number net.ports }
 
 -- a connection is asked for from the client's address, where it has one
 abbrev pub AsksFrom : Option Addr → Opening → Type 0
 AsksFrom address (File a) = Unit {0}
 AsksFrom address (Web w) = (a : Addr) → address ≡ Some a → a.ip ≡ w.ask.conn.own
+AsksFrom address (Drive d) = (a : Addr) → address ≡ Some a → a.ip ≡ d.ask.conn.own
 AsksFrom address (Name a) = Unit {0}
 AsksFrom address (Lease a) = Unit {0}
 AsksFrom address (Echo a) = Unit {0}
 
 -- it lives from now on, with its port, unless it has ended
-abbrev pub EntersBy : Option Cause → Open → List Open → Client → List Open → Client → Type 0
+abbrev pub EntersBy : Option Cause → Living → List Living → Client → List Living → Client → Type 0
 EntersBy None o list net list' net' = (list' ≡ list ++ o ∷ []) × (net' ≡ bound_for net o)
 EntersBy (Some cause) o list net list' net' = (list' ≡ list) × (net' ≡ net)
 

@@ -9,12 +9,12 @@ use Rattle.nb_stack.specs.Client.{Client}
 use Rattle.nb_chains.specs.declared.chain.Chain.{Chain}
 use Rattle.nb_chains.specs.declared.kind.ChainKind.{ChainKind}
 use Rattle.nb_teller.specs.Spelling.{Spelling}
-use Rattle.nb_open.specs.declared.open.Open.{Open}
+use Rattle.nb_network.specs.declared.living.Living.{Living}
 use Rattle.nb_open.specs.declared.objects.OpenObjects.{OpenObjects}
 use Rattle.nb_open.specs.declared.objects.OpenObjects.TheVariants as objects
 use Rattle.nb_open.specs.Ends.{ShutsWith}
 use Rattle.nb_network.specs.Closings.{GivesUpWaiting}
-use Rattle.nb_network.specs.Many.{AreSound, Many}
+use Rattle.nb_network.specs.Many.{AreSound, Many, bare_open}
 use Rattle.nb_network.specs.Steps.{freed_of}
 
 -- what ends now, and what waits on
@@ -26,12 +26,13 @@ parted_by false waits = (None, waits)
 abbrev pub ends_beside : OpenObjects → Bool → Bool
 ends_beside (objects.Chain kind chain) same = same
 ends_beside (objects.Web port own chain) same = false
+ends_beside (objects.Drive port own chain) same = false
 
-pub record ShutsFirst (kind : ChainKind) (m : Many) (net : Client) (o : Open) (rest : List Open) (cause : Cause) (waits left : Option Chain) (m' : Many) (net' : Client) (old new : Logged) : Type 0 where
+pub record ShutsFirst (kind : ChainKind) (m : Many) (net : Client) (o : Living) (rest : List Living) (cause : Cause) (waits left : Option Chain) (m' : Many) (net' : Client) (old new : Logged) : Type 0 where
   pub now : Bool
   pub parts : left ≡ (parted_by now waits).1
   pub told : Spelling
-  pub shuts : ShutsWith kind o (parted_by now waits).0 cause net m.graph m'.graph told
+  pub shuts : ShutsWith kind (bare_open o) (parted_by now waits).0 cause net m.graph m'.graph told
   pub list : m'.list ≡ rest
   pub net_is : net' ≡ freed_of net o
   pub puts : Puts old new (told.text ++ out_texts (ended o.speaker.number cause ∷ []))

@@ -1,5 +1,6 @@
 -- What a record does to the opens that live: the machine's network, the records that are put, and what of them ends.
 use Rattle.std.specs.Prelude.{◌≡◌, ℕ, true, false, List, [], ◌∷◌, ◌++◌, map, find, Option, Some, None, slice_get, unwrap_or}
+use Rattle.std.specs.List.{list_any}
 use Rattle.nb_terms.specs.declared.cause.Cause.{Cause}
 use Rattle.nb_defs.specs.Causes.{is_ok_cause}
 use Rattle.nb_defs.specs.Records.{In, tick, Out, out_texts, step, graph}
@@ -18,7 +19,8 @@ use Rattle.nb_traced.specs.Plain.{without_graph}
 use Rattle.nb_stack.specs.Client.{Client}
 use Rattle.nb_stack.specs.Brings.{Brought, datagram, echo_reply, segment, Brings}
 use Rattle.nb_machine.specs.Lives.{Live}
-use Rattle.nb_machine.specs.Kinds.{fetched, granted, is_for, is_reply_for, is_segment_for, moved, resolved}
+use Rattle.std.specs.Option.{is_some}
+use Rattle.nb_machine.specs.Kinds.{answered, fetched, granted, is_for, is_reply_for, is_segment_for, moved, resolved}
 use Rattle.nb_machine.specs.Network.{IsFrameOn, Network, is_for_one}
 use Rattle.nb_machine.specs.Scripts.{is_number}
 use Rattle.nb_machine.specs.States.{State}
@@ -36,7 +38,8 @@ abbrev pub awaited_over : Option ℕ → List Over → Option Over
 awaited_over None overs = None
 awaited_over (Some k) overs = find (is_number k) overs
 
--- what has ended is this open of the machine's, with its cause; where it ended well, what it has fetched or found was handed out
+-- what has ended is this open of the machine's, with its cause; where it ended well, what it has fetched or found was handed out; and whether it has
+-- answered as a drive
 pub record IsEndOf (e : HasEnded) (o : Over) : Type 0 where
   pub number : o.live.number ≡ e.number
   pub cause : o.cause ≡ e.cause
@@ -45,6 +48,7 @@ pub record IsEndOf (e : HasEnded) (o : Over) : Type 0 where
   pub bytes : is_ok_cause e.cause ≡ true → granted o.live ≡ e.bytes
   pub address : is_ok_cause e.cause ≡ true → resolved o.live ≡ e.address
   pub message : IsLeaseMessage e.bytes
+  pub answered : is_some (answered o.live) ≡ e.answered
 
 abbrev pub AnswersBy : Option HasEnded → Option Over → Type 0
 AnswersBy None None = Unit {0}
@@ -55,16 +59,19 @@ AnswersBy (Some e) (Some o) = IsEndOf e o
 abbrev pub arrival : ℕ → Way → ℕ → Arrived
 arrival k way n = record { whose = k; way = way; number = n }
 
--- To which opens of the state the record comes: to none, to the one that takes what a frame brings, or, as a time, to each.
+-- To which opens of the state the record comes: to none, to the one that alone takes what a frame brings, or, as a time, to each.
 pub data ArrivesAt (s : State) (n : ℕ) : In → List Arrived → Type 0 where
   at_none : (r : In) (device : ℕ) (bytes : List ℕ) (link : Client) (m : Brought) → IsFrameOn r device bytes → slice_get s.devices device ≡ Some link →
       Brings link.up link.mac link.address bytes m → is_for_one device m s.live ≡ false → ArrivesAt s n r []
   at_port : (r : In) (device : ℕ) (bytes : List ℕ) (link : Client) (p : PacketParts) (d : UdpParts) (before behind : List Live) (l : Live) → IsFrameOn r device bytes → slice_get s.devices device ≡ Some link →
-      Brings link.up link.mac link.address bytes (datagram p d) → s.live ≡ before ++ l ∷ behind → is_for device p d l ≡ true → ArrivesAt s n r (arrival l.number Up n ∷ [])
+      Brings link.up link.mac link.address bytes (datagram p d) → s.live ≡ before ++ l ∷ behind → is_for device p d l ≡ true →
+      list_any (is_for device p d) before ≡ false → list_any (is_for device p d) behind ≡ false → ArrivesAt s n r (arrival l.number Up n ∷ [])
   at_echo : (r : In) (device : ℕ) (bytes : List ℕ) (link : Client) (p : PacketParts) (e : EchoParts) (before behind : List Live) (l : Live) → IsFrameOn r device bytes → slice_get s.devices device ≡ Some link →
-      Brings link.up link.mac link.address bytes (echo_reply p e) → s.live ≡ before ++ l ∷ behind → is_reply_for device p e l ≡ true → ArrivesAt s n r (arrival l.number Up n ∷ [])
+      Brings link.up link.mac link.address bytes (echo_reply p e) → s.live ≡ before ++ l ∷ behind → is_reply_for device p e l ≡ true →
+      list_any (is_reply_for device p e) before ≡ false → list_any (is_reply_for device p e) behind ≡ false → ArrivesAt s n r (arrival l.number Up n ∷ [])
   at_connection : (r : In) (device : ℕ) (bytes : List ℕ) (link : Client) (from : Mac) (p : PacketParts) (g : SegmentParts) (before behind : List Live) (l : Live) → IsFrameOn r device bytes → slice_get s.devices device ≡ Some link →
-      Brings link.up link.mac link.address bytes (segment from p g) → s.live ≡ before ++ l ∷ behind → is_segment_for device p g l ≡ true → ArrivesAt s n r (arrival l.number Up n ∷ [])
+      Brings link.up link.mac link.address bytes (segment from p g) → s.live ≡ before ++ l ∷ behind → is_segment_for device p g l ≡ true →
+      list_any (is_segment_for device p g) before ≡ false → list_any (is_segment_for device p g) behind ≡ false → ArrivesAt s n r (arrival l.number Up n ∷ [])
   at_all : (ms : ℕ) → ArrivesAt s n (tick ms) (map (λ l. arrival l.number Time n) s.live)
 
 -- the machine's network does this, whatever state these opens are

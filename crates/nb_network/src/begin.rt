@@ -5,7 +5,7 @@ ghost use Rattle.nb_defs.specs.Records.{Out, out_texts};
 ghost use Rattle.nb_ledger.specs.declared.event.GraphEvent.{GraphEvent};
 ghost use Rattle.nb_network.specs.Many.{AreSound, HasNoneTied, IsNewestBut, WaitsBeside, port_for};
 ghost use Rattle.nb_machine.specs.Lives.{open_record};
-ghost use Rattle.nb_network.specs.Openings.{AsksFrom, EntersBy, OpensOne, begun_records, bound_for, number_by};
+ghost use Rattle.nb_network.specs.Openings.{EntersBy, OpensOne, begun_records, bound_for, number_by};
 ghost use Rattle.nb_network.specs.Takes.{KeepsWaiting};
 ghost use Rattle.nb_open.specs.Begins.{IsLatest, AwaitsFor, waiting_pieces};
 ghost use Rattle.nb_open.specs.Open.{pieces_of};
@@ -13,10 +13,10 @@ ghost use Rattle.nb_open.specs.Opening.{CanOpen, chain_kind, live_by, own_by};
 ghost use Rattle.nb_record.specs.Logged.{Puts};
 ghost use Rattle.nb_traced.specs.Pieces.{event_records};
 
-use crate::Opens;
 use crate::opens::OBJECTS;
+use crate::{Living, Opens};
 use nb_chains::{Chain, ChainKind};
-use nb_open::{Begun, Open, Opening};
+use nb_open::{Begun, Opening};
 use nb_record::{Log, OutRec};
 use nb_stack::Stack;
 use nb_teller::{Desk, put_over};
@@ -27,6 +27,8 @@ use std::alloc::Global;
 const TFTP: u8 = 1;
 
 const HTTP: u8 = 2;
+
+const ISCSI: u8 = 3;
 
 const DNS: u8 = 4;
 
@@ -50,7 +52,6 @@ impl Opens {
         desk: Desk,
     ) -> Result<(Option<Cause>, Desk), NoMemory>
         requires can { CanOpen opening.now }
-        requires address { AsksFrom net.old.address opening.now }
         requires sound { (w : ℕ) × AreSound w number net.old self.old }
         requires serials { self.old.graph.book.made < 2 ^ 63 }
         requires waits { AwaitsFor (chain_kind opening.now) waits self.old.graph }
@@ -80,7 +81,9 @@ impl Opens {
             desk,
         )?;
         self.graph.has_nodes();
-        let ended = self.enter(net, begun)?;
+        let Begun { open, ended } = begun;
+        let fresh = Living::of(alloc, open, opening)?;
+        let ended = self.enter(net, fresh, ended)?;
         Ok((ended, desk))
     }
 
@@ -97,7 +100,6 @@ impl Opens {
         desk: Desk,
     ) -> Result<(Chain, Option<Cause>, Desk), NoMemory>
         requires can { CanOpen opening.now }
-        requires address { AsksFrom net.old.address opening.now }
         requires sound { (w : ℕ) × AreSound w number net.old self.old }
         requires serials { self.old.graph.book.made < 2 ^ 63 }
         ensures opens { IfOk result (λ b. (w : ℕ) → AreSound w number net.old self.old
@@ -126,28 +128,34 @@ impl Opens {
             desk,
         )?;
         self.graph.has_nodes();
-        let ended = self.enter(net, begun)?;
+        let Begun { open, ended } = begun;
+        let fresh = Living::of(alloc, open, opening)?;
+        let ended = self.enter(net, fresh, ended)?;
         Ok((waits, ended, desk))
     }
 
     /// An open that was begun lives from now on, and its port is bound, unless it has ended.
-    fn enter(&mut self, net: &mut Stack, begun: Begun) -> Result<Option<Cause>, NoMemory>
+    fn enter(
+        &mut self,
+        net: &mut Stack,
+        fresh: Living,
+        ended: Option<Cause>,
+    ) -> Result<Option<Cause>, NoMemory>
         ensures graph { self.new.graph ≡ self.old.graph }
-        ensures enters { IfOk result (λ ended. (ended ≡ begun.ended) × EntersBy ended begun.open self.old.list net.old self.new.list net.new) }
+        ensures enters { IfOk result (λ r. (r ≡ ended) × EntersBy r fresh self.old.list net.old self.new.list net.new) }
         ensures mac { net.new.mac ≡ net.old.mac }
         ensures address { net.new.address ≡ net.old.address }
         ensures up { net.new.up ≡ net.old.up }
         ensures near { net.new.near ≡ net.old.near }
     {
-        let Begun { open, ended } = begun;
         if ended.is_none() {
-            self.live_on(net, open)?;
+            self.live_on(net, fresh)?;
         }
         Ok(ended)
     }
 
     /// This open lives from now on, and its port is bound.
-    fn live_on(&mut self, net: &mut Stack, fresh: Open) -> Result<(), NoMemory>
+    fn live_on(&mut self, net: &mut Stack, fresh: Living) -> Result<(), NoMemory>
         ensures graph { self.new.graph ≡ self.old.graph }
         ensures list { OnOk result (self.new.list ≡ self.old.list ++ fresh ∷ []) }
         ensures net { OnOk result (net.new ≡ bound_for net.old fresh) }
@@ -201,6 +209,7 @@ fn put_opened(opening: &Opening<'_>, number: u16, log: &mut Log)
     let (kind, port, target): (u8, u16, &[u8]) = match opening {
         Opening::File(ask) => (TFTP, ask.port, ask.path),
         Opening::Web(web) => (HTTP, web.ask.conn.peer_port, web.url),
+        Opening::Drive(drive) => (ISCSI, drive.ask.conn.peer_port, drive.target),
         Opening::Name(ask) => (DNS, 53, ask.name),
         Opening::Lease(_) => (DHCP, 67, b""),
         Opening::Echo(_) => (ECHO, 0, b""),

@@ -6,7 +6,7 @@ ghost use Rattle.nb_network.specs.Shutting.{LetsWaitingGo, ShutsFirst, ends_besi
 ghost use Rattle.nb_network.specs.Steps.{FirstCloses};
 ghost use Rattle.nb_network.specs.Takes.{KeepsWaiting};
 ghost use Rattle.nb_open.specs.Begins.{waiting_pieces};
-ghost use Rattle.nb_open.specs.declared.open.Open.{Open as TheOpen};
+ghost use Rattle.nb_network.specs.declared.living.Living.{Living as TheLiving};
 
 use crate::Opens;
 use nb_chains::{Chain, ChainKind};
@@ -51,10 +51,10 @@ impl Opens {
     ) -> Result<Desk, NoMemory>
         requires sound { (w : ℕ) × (opens : ℕ) × AreSound w opens net.old self.old }
         requires some { 0 < length self.old.list }
-        ensures closes { OnOk result ((o : TheOpen) (rest : List TheOpen) → self.old.list ≡ o ∷ rest
+        ensures closes { OnOk result ((o : TheLiving) (rest : List TheLiving) → self.old.list ≡ o ∷ rest
             → FirstCloses self.old net.old o rest cause.now self.new net.new gathered.old gathered.new) }
     {
-        let open = self.list.remove(0);
+        let open = self.list.remove(0).bare();
         let desk = open.close(&mut self.graph, net, cause, now, desk)?;
         self.graph.has_nodes();
         net.unbind(open.speaker.carrier.number(), open.speaker.own_port);
@@ -107,10 +107,10 @@ impl Opens {
         requires sound { (w : ℕ) × (opens : ℕ) × AreSound w opens net.old self.old }
         requires waits { (c : TheChain) → waits ≡ Some c → WaitsBeside kind c self.old }
         requires some { 0 < length self.old.list }
-        ensures shuts { IfOk result (λ r. (o : TheOpen) (rest : List TheOpen) → self.old.list ≡ o ∷ rest
+        ensures shuts { IfOk result (λ r. (o : TheLiving) (rest : List TheLiving) → self.old.list ≡ o ∷ rest
             → ShutsFirst kind self.old net.old o rest cause.now waits r.0 self.new net.new gathered.old gathered.new) }
     {
-        let open = self.list.remove(0);
+        let open = self.list.remove(0).bare();
         let (with, left) = parted(ends_with(&open, beside), waits);
         let desk = open.shut_down(&mut self.graph, net, with, kind, cause, now, desk)?;
         self.graph.has_nodes();
@@ -171,7 +171,7 @@ fn ends_with(first: &Open, beside: u16) -> bool
 {
     match first.objects {
         OpenObjects::Chain { .. } => first.speaker.number == beside,
-        OpenObjects::Web { .. } => false,
+        OpenObjects::Web { .. } | OpenObjects::Drive { .. } => false,
     }
 }
 

@@ -8,14 +8,14 @@ ghost use Rattle.nb_network.specs.Many.{AreSound, IsStateOf};
 ghost use Rattle.nb_network.specs.Receiving.{GoesTo, NoneTakes, ReceivesAt, port_from};
 ghost use Rattle.nb_network.specs.Steps.{IsOpenAt, counts_by, counts_by_kind};
 ghost use Rattle.nb_network.specs.Takes.{TakesRecord};
-ghost use Rattle.nb_open.specs.declared.open.Open.{Open as TheOpen};
+ghost use Rattle.nb_network.specs.declared.living.Living.{Living as TheLiving};
 ghost use Rattle.nb_record.specs.Logged.{Puts};
 ghost use Rattle.nb_stack.specs.Takes.{outcome};
 ghost use Rattle.nb_teller.specs.Put.{IsFrameOrNothing};
 
-use crate::{KeptEnd, Opens};
+use crate::{KeptEnd, Living, Opens};
 use nb_chains::{Arrival, ChainKind};
-use nb_open::{Open, OpenObjects};
+use nb_open::OpenObjects;
 use nb_record::Log;
 use nb_stack::{Stack, Taken};
 use nb_teller::{Carrier, Desk, put_reply, put_step};
@@ -99,8 +99,8 @@ impl Opens {
 
     /// The place in the list of the open of this number.
     #[inline(always)]
-    fn place_of(&self, number: u64) -> Option<usize>
-        ensures found { IfSome result (λ i. (o : TheOpen) × IsOpenAt self.now.list i o × (o.speaker.number ≡ number)) }
+    pub(crate) fn place_of(&self, number: u64) -> Option<usize>
+        ensures found { IfSome result (λ i. (o : TheLiving) × IsOpenAt self.now.list i o × (o.speaker.number ≡ number)) }
         ensures none { result ≡ None → AllByRecursion (λ o. o.speaker.number ≡ number → ⊥) self.now.list }
     {
         for (place, open) in self.list.iter().enumerate() {
@@ -128,17 +128,18 @@ impl Opens {
         requires sound { (w : ℕ) × (opens : ℕ) × AreSound w opens net.old self.old }
         requires place { place < length self.old.list }
         requires short { length arrival.now.body.now ≤ 65535 }
-        ensures receives { IfOk result (λ r. (o : TheOpen) → (at : IsOpenAt self.old.list place o) → ReceivesAt self.old net.old at.before o
+        ensures receives { IfOk result (λ r. (o : TheLiving) → (at : IsOpenAt self.old.list place o) → ReceivesAt self.old net.old at.before o
             at.behind rec arrival.now now awaited r.0 self.new net.new log.old log.new) }
         ensures nothing { OnErr result (log.new ≡ log.old) }
         ensures mac { net.new.mac ≡ net.old.mac }
         ensures address { net.new.address ≡ net.old.address }
         ensures up { net.new.up ≡ net.old.up }
     {
-        let open = self.list[place];
+        let open = self.list[place].bare();
         let (ended, desk) = open.receive(alloc, &mut self.graph, net, rec, arrival, now, desk)?;
         self.graph.has_nodes();
-        let found = self.settle(alloc, net, place, Some(rec), ended, awaited, &desk, log)?;
+        let (begun, heard) = (Some(rec), desk.told.answer());
+        let found = self.settle(alloc, net, place, begun, ended, awaited, heard, &desk, log)?;
         Ok((found, desk))
     }
 }
@@ -155,13 +156,15 @@ fn put_passed(rec: u32, reply: &[u8], log: &mut Log)
 
 /// Whether a message from this host and port counts for this open.
 #[inline(always)]
-fn counts_for(taker: &Open, source: Ip4, port: u16) -> bool
+fn counts_for(taker: &Living, source: Ip4, port: u16) -> bool
     ensures { result ≡ counts_by taker.now.objects taker.now.speaker.server source port }
 {
     let is_server = source.0 == taker.speaker.server.0;
     match taker.objects {
         OpenObjects::Chain { kind, .. } => counts_by_kind(kind, is_server, port),
-        OpenObjects::Web { port: asked, .. } => is_server && port == asked,
+        OpenObjects::Web { port: asked, .. } | OpenObjects::Drive { port: asked, .. } => {
+            is_server && port == asked
+        }
     }
 }
 
@@ -174,12 +177,13 @@ fn counts_by_kind(kind: ChainKind, is_server: bool, port: u16) -> bool
         ChainKind::File | ChainKind::Echo => is_server,
         ChainKind::Name => is_server && port == DNS_SERVER,
         ChainKind::Lease => port == DHCP_SERVER,
+        ChainKind::Drive => false,
     }
 }
 
 /// From which port a message comes to this open: that of an echo reply is its identifier.
 #[inline(always)]
-fn arrival_port(taker: &Open, port: u16) -> u16
+fn arrival_port(taker: &Living, port: u16) -> u16
     ensures { result ≡ port_from taker.now port }
 {
     match taker.speaker.carrier {

@@ -1,13 +1,9 @@
 ghost use Rattle.std.specs.Prelude.{◌≡◌, [], IfOk};
 ghost use Rattle.nb_network.specs.Many.{most_objects};
 
-use crate::HasEnded;
+use crate::Living;
 use nb_graph::Graph;
 use nb_nodes::Obj;
-use nb_open::Open;
-use nb_record::Log;
-use nb_stack::Stack;
-use nb_teller::Desk;
 use nb_terms::NoMemory;
 use std::alloc::Global;
 use std::marker::Model;
@@ -19,7 +15,7 @@ pub(crate) const OBJECTS: usize = 16;
 #[derive(Drop)]
 pub struct Opens {
     pub(crate) graph: Graph<Obj>,
-    pub(crate) list: Vec<Open>,
+    pub(crate) list: Vec<Living>,
 }
 
 impl Model for Opens {

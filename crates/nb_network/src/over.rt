@@ -21,6 +21,8 @@ pub struct HasEnded {
     pub bytes: Option<Text>,
     /// The address of a name (RFC 1035).
     pub address: Option<Ip4>,
+    /// It is a drive that has answered.
+    pub answered: bool,
 }
 
 /// The same at one place of memory, where it stays: moving it moves its address alone.

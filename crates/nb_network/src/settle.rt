@@ -1,11 +1,13 @@
 ghost use Rattle.std.specs.Prelude.{◌≡◌, ◌<◌, ℕ, List, ◌∷◌, ◌++◌, [], length, option_copied, Some, IfOk, OnErr};
 ghost use Rattle.nb_defs.specs.Records.{out_texts, ended};
 ghost use Rattle.nb_network.specs.Steps.{EndIsSettled, IsOpenAt, answer_for, freed_of, step_records};
-ghost use Rattle.nb_open.specs.declared.open.Open.{Open as TheOpen};
+ghost use Rattle.nb_open.specs.DriveAnswers.{found_bytes};
+ghost use Rattle.nb_network.specs.declared.living.Living.{Living as TheLiving};
 ghost use Rattle.nb_record.specs.Logged.{Puts};
 
-use crate::{HasEnded, KeptEnd, Opens};
-use nb_open::{Ended, KeptEnded, Open};
+use crate::{HasEnded, KeptEnd, Living, Opens};
+use nb_drivechains::DriveAnswer;
+use nb_open::{Ended, KeptEnded, OpenObjects};
 use nb_record::Log;
 use nb_runner::copy;
 use nb_stack::Stack;
@@ -15,8 +17,9 @@ use nb_wire::Text;
 use std::alloc::Global;
 
 impl Opens {
-    /// Puts what was told of the open at this place, after the STEP of this record, if it begins one. Where the open has ended,
-    /// its end is put too, it is taken from the list, and its port is freed. Returns what it has found, if it is awaited.
+    /// Puts what was told of the open at this place, which is known to answer this, after the STEP of this record, if it
+    /// begins one. Where the open has ended, its end is put too, it is taken from the list, and its port is freed. Returns
+    /// what it has found, if it is awaited.
     #[inline(always)]
     pub(crate) fn settle(
         &mut self,
@@ -26,18 +29,20 @@ impl Opens {
         begun: Option<u32>,
         ended: Option<KeptEnded>,
         awaited: Option<u16>,
+        heard: Option<DriveAnswer>,
         desk: &Desk,
         log: &mut Log,
     ) -> Result<Option<KeptEnd>, NoMemory>
         requires place { place < length self.old.list }
         ensures graph { self.new.graph ≡ self.old.graph }
-        ensures settles { IfOk result (λ answer. (o : TheOpen) → (at : IsOpenAt self.old.list place o) → EndIsSettled ended at.before o at.behind
-            net.old begun awaited desk.now.told.value self.new.list net.new answer log.old log.new) }
+        ensures settles { IfOk result (λ answer. (o : TheLiving) → (at : IsOpenAt self.old.list place o) → EndIsSettled ended at.before o at.behind
+            net.old begun awaited heard desk.now.told.value self.new.list net.new answer log.old log.new) }
         ensures nothing { OnErr result (log.new ≡ log.old) }
         ensures mac { net.new.mac ≡ net.old.mac }
         ensures address { net.new.address ≡ net.old.address }
         ensures up { net.new.up ≡ net.old.up }
     {
+        self.list[place].note(heard);
         match ended {
             Some(ended) => self.end(alloc, net, place, begun, ended, awaited, desk, log),
             None => {
@@ -63,16 +68,16 @@ impl Opens {
     ) -> Result<Option<KeptEnd>, NoMemory>
         requires place { place < length self.old.list }
         ensures graph { self.new.graph ≡ self.old.graph }
-        ensures settles { IfOk result (λ answer. (o : TheOpen) → (at : IsOpenAt self.old.list place o) → EndIsSettled (Some ended) at.before o
-            at.behind net.old begun awaited desk.now.told.value self.new.list net.new answer log.old log.new) }
+        ensures settles { IfOk result (λ answer. (o : TheLiving) → (at : IsOpenAt self.old.list place o) → EndIsSettled (Some ended) at.before o
+            at.behind net.old begun awaited None desk.now.told.value self.new.list net.new answer log.old log.new) }
         ensures nothing { OnErr result (log.new ≡ log.old) }
         ensures mac { net.new.mac ≡ net.old.mac }
         ensures address { net.new.address ≡ net.old.address }
         ensures up { net.new.up ≡ net.old.up }
     {
         let why = ended.cause();
-        let open = self.list[place];
-        let answer = found_by(alloc, awaited, &open, ended, &desk.told)?;
+        let open = self.list[place].bare();
+        let answer = found_by(alloc, awaited, &self.list[place], ended, &desk.told)?;
         self.list.remove(place);
         net.unbind(open.speaker.carrier.number(), open.speaker.own_port);
         put_begin(begun, log);
@@ -96,17 +101,17 @@ fn put_begin(begun: Option<u32>, log: &mut Log)
 fn found_by(
     alloc: Global,
     awaited: Option<u16>,
-    finished: &Open,
+    finished: &Living,
     ended: KeptEnded,
     told: &Spelled,
 ) -> Result<Option<KeptEnd>, NoMemory>
-    ensures { IfOk result (λ answer. answer ≡ answer_for awaited finished.now.speaker.number ended told.now) }
+    ensures { IfOk result (λ answer. answer ≡ answer_for awaited finished.now ended told.now) }
 {
     let number = finished.speaker.number;
     match awaited {
         Some(k) if number == k => {
             let Ended { cause, body, moved } = ended.into_inner();
-            let bytes = copied(alloc, told.bytes())?;
+            let bytes = copied(alloc, bytes_of(finished, told))?;
             let address = told.address();
             let found = HasEnded {
                 number,
@@ -115,11 +120,22 @@ fn found_by(
                 moved,
                 bytes,
                 address,
+                answered: finished.has_answered(),
             };
             let kept = KeptEnd::of(alloc, found)?;
             Ok(Some(kept))
         }
         _ => Ok(None),
+    }
+}
+
+/// What was delivered as one message; of a drive none is.
+fn bytes_of<'a>(finished: &Living, told: &'a Spelled) -> Option<&'a Text>
+    ensures { option_copied result ≡ found_bytes finished.now.objects told.now.bytes }
+{
+    match finished.objects {
+        OpenObjects::Chain { .. } | OpenObjects::Web { .. } => told.bytes(),
+        OpenObjects::Drive { .. } => None,
     }
 }
 

@@ -1,4 +1,4 @@
-ghost use Rattle.std.specs.Prelude.{◌≡◌, ◌+◌, ◌<◌, ◌≤◌, ◌++◌, ℕ, List, ◌^◌, length, Option, IfOk, OnErr, OnOk};
+ghost use Rattle.std.specs.Prelude.{◌≡◌, ◌+◌, ◌<◌, ◌≤◌, ◌++◌, ℕ, List, ◌^◌, length, Option, Some, None, IfOk, OnErr, OnOk};
 ghost use Rattle.std.specs.Option.{option_or};
 ghost use Rattle.nb_defs.specs.Records.{IsTick};
 ghost use Rattle.nb_defs.specs.Records as defs;
@@ -9,7 +9,7 @@ ghost use Rattle.nb_network.specs.Many.{AreSound, IsStateOf};
 ghost use Rattle.nb_network.specs.Steps.{ComesAt, IsOpenAt, TimesCome, place_after};
 ghost use Rattle.nb_network.specs.Takes.{TakesRecord};
 ghost use Rattle.nb_open.specs.declared.ended.Ended.{Ended as TheEnded};
-ghost use Rattle.nb_open.specs.declared.open.Open.{Open as TheOpen};
+ghost use Rattle.nb_network.specs.declared.living.Living.{Living as TheLiving};
 
 use crate::{KeptEnd, Opens};
 use nb_open::KeptEnded;
@@ -70,7 +70,7 @@ impl Opens {
     ) -> Result<(Option<KeptEnd>, Desk), NoMemory>
         requires sound { (w : ℕ) × (opens : ℕ) × AreSound w opens net.old self.old }
         requires place { place ≤ length self.old.list }
-        ensures times { IfOk result (λ r. (w opens : ℕ) → AreSound w opens net.old self.old → (done rest : List TheOpen)
+        ensures times { IfOk result (λ r. (w opens : ℕ) → AreSound w opens net.old self.old → (done rest : List TheLiving)
             → self.old.list ≡ done ++ rest → length done ≡ place
             → TimesCome self.old net.old opens now done rest awaited r.0 self.new net.new gathered.old gathered.new) }
         ensures mac { net.new.mac ≡ net.old.mac }
@@ -98,18 +98,21 @@ impl Opens {
     ) -> Result<(Option<KeptEnd>, usize, Desk), NoMemory>
         requires sound { (w : ℕ) × (opens : ℕ) × AreSound w opens net.old self.old }
         requires place { place < length self.old.list }
-        ensures comes { IfOk result (λ r. (ended : Option TheEnded) × (r.1 ≡ place_after ended place) × ((o : TheOpen)
-            → (at : IsOpenAt self.old.list place o) → ComesAt (λ (l : Live). Unit {0}) (time_comes now) way.Time None self.old net.old at.before o
+        ensures comes { IfOk result (λ r. (ended : Option TheEnded) × (r.1 ≡ place_after ended place) × ((o : TheLiving)
+            → (at : IsOpenAt self.old.list place o) → ComesAt (λ (l : Live). Unit {0}) (time_comes now) (Some way.Time) None self.old net.old at.before o
             at.behind awaited ended r.0 self.new net.new gathered.old gathered.new)) }
         ensures mac { net.new.mac ≡ net.old.mac }
         ensures address { net.new.address ≡ net.old.address }
         ensures up { net.new.up ≡ net.old.up }
     {
-        let open = self.list[place];
+        let open = self.list[place].bare();
         let (ended, desk) = open.pass_time(alloc, &mut self.graph, net, now, desk)?;
         self.graph.has_nodes();
         let next = next_place(&ended, place);
-        let found = self.settle(alloc, net, place, None, ended, awaited, &desk, gathered)?;
+        let heard = desk.told.answer();
+        let found = self.settle(
+            alloc, net, place, None, ended, awaited, heard, &desk, gathered,
+        )?;
         Ok((found, next, desk))
     }
 }

@@ -12,7 +12,7 @@ use Rattle.nb_machine.specs.Lives.{close}
 use Rattle.nb_machine.specs.States.{State, state_at_start, with_images, with_live}
 use Rattle.nb_machine.specs.Takings.{Over, AllTake}
 use Rattle.nb_machine.specs.Network.{Network}
-use Rattle.nb_machine.specs.Scripts.{Waiting, waiting_anew, Answer, answer_in, Upshot, concludes, settles, goes_onward, upshot_records, concluded_by}
+use Rattle.nb_machine.specs.Scripts.{Waiting, waiting_anew, Answer, answer_in, Upshot, concludes, settles, goes_onward, upshot_records, concluded_by, hooks_drive}
 use Rattle.nb_machine.specs.Courses.{Standing, ready, running, waiting, reaching, yielded, handing, left, handed_off, stopped, Progress, stands, ScriptLeads, ConclusionLeads, LeadsTo, StepBegins, runs, refuses, waits_on, is_answered, switches_off, resumes, goes_off}
 use Rattle.nb_onecourse.specs.Answers.{AreUnended, StandsUnended}
 use Rattle.nb_onecourse.proofs.EachTakes.{all_take_one}
@@ -123,6 +123,7 @@ conclusion_one s inner outer (boots list kernel) put put' p p' u (over, all, h) 
 lead_one : (s : State) (inner : Running) (outer : List Running) (x : Upshot) (put put' : List Out) (p p' : Standing) → AreUnended s.live → LeadsTo s inner outer x put p → LeadsTo s inner outer x put' p' → SameLead put put' p p'
 lead_one s inner outer (concludes c) put put' p p' u h g = conclusion_one s inner outer c put put' p p' u h g
 lead_one s inner outer (settles x) put put' p p' u h g = record { records = h.0 ∙ sym g.0; standing = h.1 ∙ sym g.1 }
+lead_one s inner outer (hooks_drive d) put put' p p' u h g = record { records = h.0 ∙ sym g.0; standing = h.1 ∙ sym g.1 }
 lead_one s inner outer (goes_onward next) put put' p p' u h g = record { records = h.0 ∙ sym g.0; standing = h.1 ∙ sym g.1 }
 
 answered_one : (n : ℕ) (s : State) (w : Waiting) (put a b : List Out) (m m' : Progress) (x : Option Answer) → AreUnended s.live → Answered n s w put a m x → Answered n s w put b m' x → SameMove a b m m'

@@ -33,7 +33,7 @@ use Rattle.nb_imagecmd.specs.Moving.{moved_file}
 use Rattle.nb_imagecmd.specs.CarryingOut.{image_effect}
 use Rattle.nb_imagecmd.specs.Executing.{ImageAnswer, script_of, taken_from, script_taken}
 use Rattle.nb_machine.specs.Conclusions.{Conclusion, keeps, tells, fails, boots, runs_script, file_conclusion, conclusion}
-use Rattle.nb_machine.specs.Effects.{Effect, says, asks, goes, sleeps, shuts_device, inquires, on_images, concludes_at_once, Surroundings, taken_effect, image_outcome_effect, image_answer_effect, settled_effect, effect_in, next_moved, effect, expanded_effect, expansion, words_effect, planned_effect, plan_effect, device_effect, unless_full, table_after, up_after}
+use Rattle.nb_machine.specs.Effects.{Effect, says, asks, goes, sleeps, shuts_device, inquires, on_images, on_drives, hooks_disk, unhooks_drive, concludes_at_once, Surroundings, taken_effect, image_outcome_effect, image_answer_effect, settled_effect, effect_in, next_moved, effect, expanded_effect, expansion, words_effect, planned_effect, plan_effect, device_effect, unless_full, table_after, up_after, refusal_effect, drive_answer_effect}
 use Rattle.nb_machine.specs.Queries.{for_lease}
 use Rattle.nb_machine.specs.Errands.{Wanted, Onward}
 use Rattle.nb_machine.specs.Findings.{Settlement}
@@ -41,8 +41,13 @@ use Rattle.nb_machine.specs.Kinds.{fetched}
 use Rattle.nb_machine.specs.Running.{Running}
 use Rattle.nb_machine.specs.States.{State}
 use Rattle.nb_machine.specs.Takings.{Over}
-use Rattle.nb_machine.specs.Scripts.{Doing, ends, opens, goes_to, waits_until, shuts, concludes_now, surroundings, doing, doing_by, Job, fetch, takes_lease, hears_echo, keeps_address, asks_on, sleep, Answer, by_end, by_time, Upshot, concludes, settles, goes_onward, next_of, place_moved_to, upshot_moved, upshot_fetched, concluded_by}
+use Rattle.nb_machine.specs.Scripts.{Doing, ends, opens, goes_to, waits_until, shuts, concludes_now, surroundings, doing, doing_by, Job, fetch, takes_lease, hears_echo, keeps_address, asks_on, sleep, Answer, by_end, by_time, Upshot, concludes, settles, goes_onward, next_of, place_moved_to, upshot_moved, upshot_fetched, concluded_by, hooks_one, lets_go, hooks, by_drive, hooks_drive}
 use Rattle.nb_machine.proofs.Eithers.{either_of, full_either, asked_case, pinged_either, looked_up_either}
+use Rattle.nb_drivecmd.specs.declared.error.DriveRefusal.{DriveRefusal}
+use Rattle.nb_drivecmd.specs.declared.outcome.DriveOutcome.{DriveOutcome}
+use Rattle.nb_drivecmd.specs.declared.outcome.DriveOutcome.TheVariants as drive_outcome
+use Rattle.nb_drivecmd.specs.DriveEffect.{drive_effect}
+use Rattle.nb_drivecmd.specs.DriveFailures.{drive_cause}
 
 -- a script that runs within others has fewer than eight there
 abbrev pub Fits : ℕ → Conclusion → Type 0
@@ -62,6 +67,9 @@ EffectFits depth (sleeps seconds) = Unit {0}
 EffectFits depth shuts_device = Unit {0}
 EffectFits depth (inquires q) = Unit {0}
 EffectFits depth (on_images command) = Unit {0}
+EffectFits depth (on_drives c) = Unit {0}
+EffectFits depth (hooks_disk hooking) = Unit {0}
+EffectFits depth (unhooks_drive number cause) = Unit {0}
 
 -- words and settings alone come to no conclusion
 abbrev IsPlain : Effect → Type 0
@@ -73,6 +81,9 @@ IsPlain (sleeps seconds) = Unit {0}
 IsPlain shuts_device = Unit {0}
 IsPlain (inquires q) = Unit {0}
 IsPlain (on_images command) = Unit {0}
+IsPlain (on_drives c) = Unit {0}
+IsPlain (hooks_disk hooking) = Unit {0}
+IsPlain (unhooks_drive number cause) = Unit {0}
 
 device_plain : (done : Effect) (r : Result Bool ApplyError) → IsPlain done → IsPlain (device_effect done r)
 device_plain done (Ok up) p = p
@@ -89,6 +100,7 @@ plan_plain n table (plan.Clear name) = tt
 plan_plain n table (plan.Show name) = tt
 plan_plain n table (plan.Inc name by) = tt
 plan_plain n table (plan.Images command) = tt
+plan_plain n table (plan.Drives command) = tt
 plan_plain n table (plan.Ifopen device) = device_plain _ (device_change device true) tt
 plan_plain n table (plan.Ifclose device) = device_plain shuts_device (device_change device false) tt
 plan_plain n table (plan.Dhcp device) = device_plain (unless_full n (inquires for_lease)) (device_change device true) (full_either IsPlain (λ o. tt) n (inquires for_lease) tt)
@@ -135,8 +147,21 @@ answer_fits : (x : Surroundings) (r : ImageAnswer) → EffectFits x.depth (image
 answer_fits x (Ok answer) = outcome_fits x answer.0 answer.1
 answer_fits x (Err why) = tt
 
+refusal_fits : (depth : ℕ) (cause : Cause) (drive : Option ℕ) → EffectFits depth (refusal_effect cause drive)
+refusal_fits depth cause None = tt
+refusal_fits depth cause (Some number) = tt
+
+drives_fit : (x : Surroundings) (r : Result DriveOutcome DriveRefusal) → EffectFits x.depth (drive_answer_effect r)
+drives_fit x (Ok (drive_outcome.Hook hooking)) = tt
+drives_fit x (Ok (drive_outcome.Boot number keep)) = tt
+drives_fit x (Ok (drive_outcome.Unhook number)) = tt
+drives_fit x (Err refusal) = refusal_fits x.depth (drive_cause refusal.why) refusal.unhooks
+
 settled_fits : (x : Surroundings) (e : Effect) → IsPlain e → EffectFits x.depth (settled_effect x e)
 settled_fits x (on_images command) p = answer_fits x (image_effect command (base_by x.base x.table) x.images)
+settled_fits x (on_drives c) p = drives_fit x (drive_effect c (base_by x.base x.table) x.table x.drives)
+settled_fits x (hooks_disk hooking) p = tt
+settled_fits x (unhooks_drive number cause) p = tt
 settled_fits x (concludes_at_once c) p = absurd p
 settled_fits x (says o) p = tt
 settled_fits x (asks wanted) p = tt
@@ -156,6 +181,8 @@ DoingFits depth (opens s l job) = Unit {0}
 DoingFits depth (goes_to name) = Unit {0}
 DoingFits depth (waits_until time) = Unit {0}
 DoingFits depth (shuts s) = Unit {0}
+DoingFits depth (hooks_one hooking) = Unit {0}
+DoingFits depth (lets_go number cause) = Unit {0}
 
 doing_by_fits : (depth : ℕ) (s : State) (table : TableLists) (up : Bool) (e : Effect) → EffectFits depth e → DoingFits depth (doing_by s table up e)
 doing_by_fits depth s table up (says o) f = tt
@@ -165,6 +192,9 @@ doing_by_fits depth s table up (sleeps seconds) f = tt
 doing_by_fits depth s table up shuts_device f = tt
 doing_by_fits depth s table up (inquires q) f = tt
 doing_by_fits depth s table up (on_images command) f = tt
+doing_by_fits depth s table up (on_drives c) f = tt
+doing_by_fits depth s table up (hooks_disk hooking) f = tt
+doing_by_fits depth s table up (unhooks_drive number cause) f = tt
 doing_by_fits depth s table up (concludes_at_once c) f = f
 
 pub doing_fits : (s : State) (inner : Running) (ws : List (List ℕ)) (d : Doing) → doing s inner ws ≡ d → DoingFits inner.depth d
@@ -207,6 +237,7 @@ conclusion_fits cause asking body depth list = by (is_ok_cause cause)
 abbrev pub UpshotFits : ℕ → Upshot → Type 0
 UpshotFits depth (concludes c) = Fits depth c
 UpshotFits depth (settles x) = Unit {0}
+UpshotFits depth (hooks_drive d) = Unit {0}
 UpshotFits depth (goes_onward next) = Unit {0}
 
 next_fits : (depth : ℕ) (o : Option Onward) (x : Settlement) → UpshotFits depth (option_map_or goes_onward o (settles x))
@@ -234,3 +265,12 @@ upshot_fits s depth hears_echo by_time = tt
 upshot_fits s depth (keeps_address setting) by_time = tt
 upshot_fits s depth (asks_on errand) by_time = tt
 upshot_fits s depth sleep by_time = tt
+upshot_fits s depth (hooks hooking) (by_end o) = tt
+upshot_fits s depth (hooks hooking) by_time = tt
+upshot_fits s depth (hooks hooking) (by_drive l) = tt
+upshot_fits s depth (fetch wanted) (by_drive l) = tt
+upshot_fits s depth takes_lease (by_drive l) = tt
+upshot_fits s depth hears_echo (by_drive l) = tt
+upshot_fits s depth (keeps_address setting) (by_drive l) = tt
+upshot_fits s depth (asks_on errand) (by_drive l) = tt
+upshot_fits s depth sleep (by_drive l) = tt

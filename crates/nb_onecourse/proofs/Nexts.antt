@@ -1,6 +1,6 @@
 -- What a run does next, as a function; where it has come to rest, nothing.
 use Rattle.std.proofs.Common.{◌≡◌, ℕ, ◌+◌, ◌==◌, Bool, true, false, List, [], ◌∷◌, ◌++◌, Option, Some, None, refl}
-use Rattle.std.specs.Prelude.{slice_get}
+use Rattle.std.specs.Prelude.{slice_get, filter, not, Result, Ok, Err}
 use Rattle.nb_defs.specs.Causes.{ok}
 use Rattle.nb_defs.specs.Commands.{CommandOutcome, refused}
 use Rattle.nb_defs.specs.Records.{Out, enter, leave, result}
@@ -10,24 +10,29 @@ use Rattle.nb_scripts.specs.Records.{replace}
 use Rattle.nb_machine.specs.FirstText.{text_refusal, lines_of}
 use Rattle.nb_stack.specs.Client.{Client}
 use Rattle.nb_machine.specs.Conclusions.{Conclusion, keeps, tells, fails, boots, runs_script, conclusion_records, handoff_records}
-use Rattle.nb_machine.specs.Effects.{shown_words, full_opens}
+use Rattle.nb_machine.specs.Effects.{shown_words, full_opens, next_at_target}
 use Rattle.nb_machine.specs.Errands.{Onward}
 use Rattle.nb_machine.specs.Running.{Running, Coming, coming, passing, leaving, beginning, entered, further, behind_line, with_result, script_within, script_in_place, counting_on, no_label}
 use Rattle.nb_machine.specs.CommandRecords.{command_record, command_records, no_route}
 use Rattle.nb_machine.specs.Lives.{Live, open_record, end_record}
 use Rattle.nb_machine.specs.Kinds.{first_records}
 use Rattle.nb_machine.specs.States.{State, with_images, with_live, with_opened, with_one_made}
-use Rattle.nb_machine.specs.Scripts.{Job, sleep, Doing, ends, opens, goes_to, waits_until, shuts, concludes_now, doing, live_onward, job_onward, answer, moment}
-use Rattle.nb_machine.specs.Courses.{text_records, text_standing, Standing, ready, running, waiting, reaching, yielded, handing, left, handed_off, stopped}
+use Rattle.nb_machine.specs.Scripts.{Job, sleep, Doing, ends, opens, goes_to, waits_until, shuts, concludes_now, doing, live_onward, job_onward, answer, moment, hooks_one, lets_go, awaited_onward}
+use Rattle.nb_machine.specs.Courses.{text_records, text_standing, Standing, ready, running, waiting, reaching, yielded, handing, left, handed_off, stopped, is_drives_own}
+use Rattle.nb_machine.specs.BootTables.{boot_table}
 use Rattle.nb_onecourse.specs.Rests.{HasComeToRest}
+use Rattle.nb_drivecmd.specs.declared.outcome.Hooking.{Hooking}
+use Rattle.nb_drivecmd.specs.HookedDrives.{is_drive}
+use Rattle.nb_terms.specs.declared.cause.Cause.{Cause}
 
--- what is next: nothing; these records, and then this standing; or all that lives in this state is closed, after this record,
--- or after these ones before a hand-off
+-- what is next: nothing; these records, and then this standing; all that lives in this state is closed, after this record, the drives
+-- first, or after these ones before a hand-off; or the drive of a number is closed, after this record and before these, and then this standing
 pub data Next : Type 0 where
   still : Next
   puts : List Out → Standing → Next
   shuts_all : Out → State → Standing → Next
   closes_all : List Out → State → Standing → Next
+  drops : Out → State → (number : ℕ) → List Out → Standing → Next
 
 abbrev pub next_ended : State → Running → List Running → List (List ℕ) → CommandOutcome → State → Bool → Next
 next_ended s inner outer ws o s' true = puts (command_records inner (shown_words s.table ws) o ++ (leave inner.depth o.cause ∷ [])) (left s' (counting_on (entered inner) outer) o.cause)
@@ -61,9 +66,22 @@ abbrev pub next_concluded : State → Running → List Running → Out → Concl
 next_concluded s inner outer first (keeps list) = puts (first ∷ conclusion_records (keeps list) ++ []) (running (with_images s list) (with_result inner ok) outer)
 next_concluded s inner outer first (tells list lines) = puts (first ∷ conclusion_records (tells list lines) ++ []) (running (with_images s list) (with_result inner ok) outer)
 next_concluded s inner outer first (fails cause) = puts (first ∷ conclusion_records (fails cause) ++ []) (running s (with_result inner cause) outer)
-next_concluded s inner outer first (boots list kernel) = closes_all (first ∷ conclusion_records (boots list kernel)) s (handing (with_live (with_images s list) []) (handoff_records kernel list.images))
+next_concluded s inner outer first (boots list kernel) = closes_all (first ∷ conclusion_records (boots list kernel)) s (handing (with_live (with_images s list) []) (handoff_records kernel list.images (boot_table s)))
 next_concluded s inner outer first (runs_script list image replaces) =
     next_script (with_images s list) inner outer (first ∷ conclusion_records (runs_script list image replaces)) image replaces
+
+-- without the drive of this number
+abbrev pub without_number : State → ℕ → State
+without_number s number = with_live s (filter (λ l. not (is_drives_own (filter (is_drive number) s.drives) l)) s.live)
+
+abbrev pub next_hooked : State → Running → List Running → List (List ℕ) → Hooking → Result Onward Cause → Next
+next_hooked s inner outer ws hooking (Ok next) = drops (command_record inner (shown_words s.table ws)) s hooking.number [] (reaching (without_number s hooking.number) (entered inner) outer next)
+next_hooked s inner outer ws hooking (Err cause) =
+    drops (command_record inner (shown_words s.table ws)) s hooking.number (result cause ∷ []) (running (without_number s hooking.number) (further inner cause) outer)
+
+-- what may be asked of a disk's host then
+abbrev pub asked_then : State → Hooking → Result Onward Cause
+asked_then s hooking = next_at_target s.opens s.table s.drives hooking
 
 abbrev pub next_doing : State → Running → List Running → List (List ℕ) → Doing → Next
 next_doing s inner outer ws (ends o s') = next_ended s inner outer ws o s' o.leaves
@@ -72,6 +90,9 @@ next_doing s inner outer ws (goes_to name) = next_label s inner outer ws (label_
 next_doing s inner outer ws (waits_until time) =
     puts (command_record inner (shown_words s.table ws) ∷ []) (waiting s (record { script = entered inner; outer = outer; awaited = moment time; job = sleep }))
 next_doing s inner outer ws (concludes_now x) = next_concluded s (entered inner) outer (command_record inner (shown_words s.table ws)) x
+next_doing s inner outer ws (hooks_one hooking) = next_hooked s inner outer ws hooking (asked_then (without_number s hooking.number) hooking)
+next_doing s inner outer ws (lets_go number cause) =
+    drops (command_record inner (shown_words s.table ws)) s number (result cause ∷ []) (running (without_number s number) (further inner cause) outer)
 next_doing s inner outer ws (shuts s') = shuts_all (command_record inner (shown_words s.table ws)) s' (running (with_live s' []) (further inner ok) outer)
 
 abbrev pub next_begun : State → Running → List Running → List (List ℕ) → Bool → Next
@@ -85,7 +106,7 @@ next_coming s inner outer (beginning c cs) = next_begun s inner outer (c ∷ cs)
 
 abbrev pub next_way : State → Running → List Running → Onward → Option (List Out) → Next
 next_way s inner outer next (Some put) =
-    puts (open_record (live_onward s next) ∷ put) (waiting (with_opened s (live_onward s next)) (record { script = inner; outer = outer; awaited = answer (live_onward s next).number; job = job_onward next }))
+    puts (open_record (live_onward s next) ∷ put) (waiting (with_opened s (live_onward s next)) (record { script = inner; outer = outer; awaited = awaited_onward next (live_onward s next).number; job = job_onward next }))
 next_way s inner outer next None =
     puts (open_record (live_onward s next) ∷ end_record (live_onward s next) (no_route (live_onward s next).server) ∷ conclusion_records (fails (no_route (live_onward s next).server)))
     (running (with_one_made s) (with_result inner (no_route (live_onward s next).server)) outer)

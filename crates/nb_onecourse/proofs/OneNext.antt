@@ -1,33 +1,38 @@
 -- What a run does next is one.
-use Rattle.std.proofs.Common.{◌≡◌, ℕ, ◌<◌, ◌==◌, Bool, true, false, List, [], ◌∷◌, ◌++◌, Option, Some, None, refl, sym, ◌∙◌, ap, subst, arith, eq-eqb, ne_eqb}
-use Rattle.std.specs.Prelude.{slice_get}
+use Rattle.std.proofs.Common.{◌≡◌, ℕ, ◌<◌, ◌==◌, Bool, true, false, List, [], ◌∷◌, ◌++◌, Option, Some, None, refl, sym, ◌∙◌, ap, subst, arith, eq-eqb, ne_eqb, append-nil, cond}
+use Rattle.std.specs.Prelude.{slice_get, filter, not, Result, Ok, Err}
 use Rattle.nb_defs.specs.Causes.{ok}
 use Rattle.nb_defs.specs.Records.{Out, result}
 use Rattle.nb_defs.specs.ScriptLines.{label_place}
 use Rattle.nb_stack.specs.Client.{Client}
 use Rattle.nb_machine.specs.Errands.{Onward}
-use Rattle.nb_machine.specs.Running.{Running, Coming, coming, passing, leaving, beginning, entered}
+use Rattle.nb_machine.specs.Running.{Running, Coming, coming, passing, leaving, beginning, entered, further}
 use Rattle.nb_machine.specs.Conclusions.{Conclusion, keeps, tells, fails, boots, runs_script, conclusion_records}
 use Rattle.nb_machine.specs.CommandRecords.{command_record, stopped_cause}
 use Rattle.nb_machine.specs.Effects.{shown_words}
 use Rattle.nb_imagecmd.specs.declared.outcome.ScriptImage.{ScriptImage}
-use Rattle.nb_machine.specs.Lives.{close}
+use Rattle.nb_machine.specs.Lives.{close, Live}
 use Rattle.nb_machine.specs.Kinds.{first_records}
 use Rattle.nb_machine.specs.States.{State, with_images}
 use Rattle.nb_machine.specs.Takings.{Over, AllTake}
-use Rattle.nb_machine.specs.Scripts.{Doing, ends, opens, goes_to, waits_until, shuts, concludes_now, doing, live_onward}
-use Rattle.nb_machine.specs.Courses.{down_cause, ScriptLeads, ConclusionLeads, Standing, ready, running, waiting, reaching, yielded, handing, left, handed_off, stopped, Progress, stands, Proceeds, passes, is_left, hands_back, yields, does, closes_device, concludes_there, leaves, jumps, finds_no_label, falls_asleep, opens_one, finds_no_route, opens_onward, finds_no_way, opens_no_more, hands, has_handed}
+use Rattle.nb_machine.specs.Scripts.{Doing, ends, opens, goes_to, waits_until, shuts, concludes_now, doing, live_onward, hooks_one, lets_go, has_number}
+use Rattle.nb_machine.specs.Courses.{down_cause, ScriptLeads, ConclusionLeads, Standing, ready, running, waiting, reaching, yielded, handing, left, handed_off, stopped, Progress, stands, Proceeds, passes, is_left, hands_back, yields, does, closes_device, concludes_there, leaves, jumps, finds_no_label, falls_asleep, opens_one, finds_no_route, opens_onward, finds_no_way, opens_no_more, hands, has_handed, is_drives_own, drives_first, DropsDrive, goes_to_hook, hooks_none, unhooks}
 use Rattle.nb_onecourse.specs.Answers.{AreUnended, StandsUnended}
 use Rattle.nb_onecourse.proofs.EachTakes.{all_take_one}
-use Rattle.nb_onecourse.proofs.Unended.{doing_leaves}
-use Rattle.nb_onecourse.proofs.Nexts.{Next, still, puts, shuts_all, closes_all, next_script, next_concluded, next_ended, next_route, next_opened, next_label, next_doing, next_begun, next_coming, next_way, next_link, next_onward, next_handed, what_next}
+use Rattle.nb_onecourse.proofs.Unended.{doing_leaves, some_unended}
+use Rattle.nb_onecourse.proofs.Nexts.{Next, still, puts, shuts_all, closes_all, next_script, next_concluded, next_ended, next_route, next_opened, next_label, next_doing, next_begun, next_coming, next_way, next_link, next_onward, next_handed, what_next, drops, without_number, next_hooked, asked_then}
+use Rattle.nb_drivecmd.specs.declared.drive.Drive.{Drive}
+use Rattle.nb_drivecmd.specs.declared.outcome.Hooking.{Hooking}
+use Rattle.nb_drivecmd.specs.HookedDrives.{is_drive}
+use Rattle.nb_terms.specs.declared.cause.Cause.{Cause}
 
 -- these records and this place are what is next
 abbrev Is : Next → ℕ → List Out → Progress → Type 0
 Is still n a m = ⊥
 Is (puts put p) n a m = (a ≡ put) × (m ≡ stands n p)
 Is (closes_all before s p) n a m = (put : List Out) × (over : List Over) × AllTake s.devices (close stopped_cause) s.live put [] over × (a ≡ before ++ put) × (m ≡ stands n p)
-Is (shuts_all first s p) n a m = (put : List Out) × (over : List Over) × AllTake s.devices (close down_cause) s.live put [] over × (a ≡ first ∷ put ++ (result ok ∷ [])) × (m ≡ stands n p)
+Is (shuts_all first s p) n a m = (put : List Out) × (over : List Over) × AllTake s.devices (close down_cause) (drives_first s.drives s.live) put [] over × (a ≡ first ∷ put ++ (result ok ∷ [])) × (m ≡ stands n p)
+Is (drops first s number behind p) n a m = (put : List Out) × (s' : State) × DropsDrive s number put s' × (a ≡ first ∷ put ++ behind) × (m ≡ stands n p)
 
 is_full : (n : ℕ) → n ≡ 4096 → (n == 4096) ≡ true
 is_full n e = eq-eqb n 4096 e
@@ -69,6 +74,14 @@ is_next m a m' (is_left n s inner outer cause h) = named _ _ n a m' (ap (next_co
 is_next m a m' (yields n s inner outer c cs h full) = named _ _ n a m' (ap (next_coming s inner outer) h ∙ ap (next_begun s inner outer (c ∷ cs)) (is_full inner.begun full)) (refl, refl)
 is_next m a m' (does n s s' inner outer c cs o h early e k) = named _ _ n a m' (begun s inner outer c cs (ends o s') h early e ∙ ap (next_ended s inner outer (c ∷ cs) o s') k) (refl, refl)
 is_next m a m' (closes_device n s s' inner outer c cs put over h early e all) = named _ _ n a m' (begun s inner outer c cs (shuts s') h early e) (put, over, all, refl, refl)
+is_next m a m' (goes_to_hook n s s' inner outer c cs hooking put next h early e dropped asks) =
+    named _ _ n a m' (begun s inner outer c cs (hooks_one hooking) h early e ∙ ap (next_hooked s inner outer (c ∷ cs) hooking) (ap (λ z. asked_then z hooking) (sym dropped.leaves) ∙ asks))
+    (put, s', dropped, ap (λ z. command_record inner (shown_words s.table (c ∷ cs)) ∷ z) (sym (append-nil put)), ap (λ z. stands n (reaching z (entered inner) outer next)) dropped.leaves)
+is_next m a m' (hooks_none n s s' inner outer c cs hooking put cause h early e dropped asks) =
+    named _ _ n a m' (begun s inner outer c cs (hooks_one hooking) h early e ∙ ap (next_hooked s inner outer (c ∷ cs) hooking) (ap (λ z. asked_then z hooking) (sym dropped.leaves) ∙ asks))
+    (put, s', dropped, refl, ap (λ z. stands n (running z (further inner cause) outer)) dropped.leaves)
+is_next m a m' (unhooks n s s' inner outer c cs number put cause h early e dropped) =
+    named _ _ n a m' (begun s inner outer c cs (lets_go number cause) h early e) (put, s', dropped, refl, ap (λ z. stands n (running z (further inner cause) outer)) dropped.leaves)
 is_next m a m' (leaves n s s' inner outer c cs o h early e k) = named _ _ n a m' (begun s inner outer c cs (ends o s') h early e ∙ ap (next_ended s inner outer (c ∷ cs) o s') k) (refl, refl)
 is_next m a m' (jumps n s inner outer c cs name line h early e k) = named _ _ n a m' (begun s inner outer c cs (goes_to name) h early e ∙ ap (next_label s inner outer (c ∷ cs)) k) (refl, refl)
 is_next m a m' (finds_no_label n s inner outer c cs name h early e k) = named _ _ n a m' (begun s inner outer c cs (goes_to name) h early e ∙ ap (next_label s inner outer (c ∷ cs)) k) (refl, refl)
@@ -88,11 +101,16 @@ is_next m a m' (concludes_there n s inner outer c cs x put p h early e leads) =
 is_next m a m' (hands n s r rest) = (refl, refl)
 is_next m a m' (has_handed n s) = (refl, refl)
 
+-- the opens of the drives of this number
+abbrev pub drives_own : State → ℕ → List Live
+drives_own s number = filter (is_drives_own (filter (is_drive number) s.drives)) s.live
+
 -- where all that lives is closed, nothing of it has ended
 abbrev NextUnended : Next → Type 0
 NextUnended still = Unit {0}
 NextUnended (puts put p) = Unit {0}
-NextUnended (shuts_all first s p) = AreUnended s.live
+NextUnended (shuts_all first s p) = AreUnended (drives_first s.drives s.live)
+NextUnended (drops first s number behind p) = AreUnended (drives_own s number)
 NextUnended (closes_all before s p) = AreUnended s.live
 
 -- two moves of one place are one
@@ -104,11 +122,25 @@ is_one : (x : Next) (n : ℕ) (a b : List Out) (m m' : Progress) → NextUnended
 is_one still n a b m m' u h g = absurd h
 is_one (puts put p) n a b m m' u h g = record { records = h.0 ∙ sym g.0; places = h.1 ∙ sym g.1 }
 is_one (shuts_all first s p) n a b m m' u (put, over, all, ea, em) (put', over', all', eb, en) =
-    let t = all_take_one s.devices (close down_cause) s.live put put' [] [] over over' u all all' in
+    let t = all_take_one s.devices (close down_cause) (drives_first s.drives s.live) put put' [] [] over over' u all all' in
     record { records = ea ∙ ap (λ z. first ∷ z ++ (result ok ∷ [])) t.records ∙ sym eb; places = em ∙ sym en }
 is_one (closes_all before s p) n a b m m' u (put, over, all, ea, em) (put', over', all', eb, en) =
     let t = all_take_one s.devices (close stopped_cause) s.live put put' [] [] over over' u all all' in
     record { records = ea ∙ ap (λ z. before ++ z) t.records ∙ sym eb; places = em ∙ sym en }
+is_one (drops first s number behind p) n a b m m' u (put, s1, d, ea, em) (put', s2, d', eb, en) =
+    let t = all_take_one s.devices (close stopped_cause) (drives_own s number) put put' [] [] d.over d'.over u d.closes d'.closes in
+    record { records = ea ∙ ap (λ z. first ∷ z ++ behind) t.records ∙ sym eb; places = em ∙ sym en }
+
+-- some of them
+unended_two : (xs ys : List Live) → AreUnended xs → AreUnended ys → AreUnended (xs ++ ys)
+unended_two [] ys u v = v
+unended_two (x ∷ xs) ys u v = (u.0, unended_two xs ys u.1 v)
+
+unended_first : (drives : List Drive) (ls : List Live) → AreUnended ls → AreUnended (drives_first drives ls)
+unended_first [] ls u = u
+unended_first (d ∷ drives) ls u =
+    unended_two (filter (has_number d.open_number) ls) (drives_first drives (filter (λ l. not (has_number d.open_number l)) ls)) (some_unended (has_number d.open_number) ls u)
+    (unended_first drives (filter (λ l. not (has_number d.open_number l)) ls) (some_unended (λ l. not (has_number d.open_number l)) ls u))
 
 script_next : (s : State) (inner : Running) (outer : List Running) (before : List Out) (image : ScriptImage) (replaces : Bool) → NextUnended (next_script s inner outer before image replaces)
 script_next s inner outer before image false = tt
@@ -143,7 +175,13 @@ doing_next s inner outer ws (goes_to name) e u = by_line (label_place name inner
     by_line (Some line) = tt
 doing_next s inner outer ws (waits_until time) e u = tt
 doing_next s inner outer ws (concludes_now x) e u = concluded_next s (entered inner) outer (command_record inner (shown_words s.table ws)) x u
-doing_next s inner outer ws (shuts s') e u = subst AreUnended (sym (doing_leaves s inner ws (shuts s') e)) u
+doing_next s inner outer ws (hooks_one hooking) e u = by_asked (asked_then (without_number s hooking.number) hooking)
+  where
+    by_asked : (r : Result Onward Cause) → NextUnended (next_hooked s inner outer ws hooking r)
+    by_asked (Ok next) = some_unended (is_drives_own (filter (is_drive hooking.number) s.drives)) s.live u
+    by_asked (Err cause) = some_unended (is_drives_own (filter (is_drive hooking.number) s.drives)) s.live u
+doing_next s inner outer ws (lets_go number cause) e u = some_unended (is_drives_own (filter (is_drive number) s.drives)) s.live u
+doing_next s inner outer ws (shuts s') e u = unended_first s'.drives s'.live (subst AreUnended (sym (doing_leaves s inner ws (shuts s') e)) u)
 
 coming_next : (s : State) (inner : Running) (outer : List Running) (x : Coming) → AreUnended s.live → NextUnended (next_coming s inner outer x)
 coming_next s inner outer (passing next) u = tt

@@ -1,6 +1,7 @@
 -- In every course no open that lives has put its end.
-use Rattle.std.proofs.Common.{◌≡◌, ℕ, ◌+◌, Bool, true, false, List, [], ◌∷◌, Option, Some, None, refl, sym, subst}
+use Rattle.std.proofs.Common.{◌≡◌, ℕ, ◌+◌, Bool, true, false, List, [], ◌∷◌, Option, Some, None, refl, sym, subst, cond}
 use Rattle.std.specs.List.{AllByRecursion}
+use Rattle.std.specs.Prelude.{filter, not}
 use Rattle.nb_defs.specs.Records.{In, Out}
 use Rattle.nb_settings.specs.Tables.{TableLists}
 use Rattle.nb_machine.specs.Conclusions.{Conclusion, keeps, tells, fails, boots, runs_script}
@@ -8,17 +9,18 @@ use Rattle.nb_machine.specs.FirstText.{text_refusal}
 use Rattle.nb_imagecmd.specs.declared.outcome.ScriptImage.{ScriptImage}
 use Rattle.nb_terms.specs.declared.cause.Cause.{Cause}
 use Rattle.nb_defs.specs.ScriptLines.{script_reading}
-use Rattle.nb_machine.specs.Effects.{Effect, says, asks, goes, sleeps, shuts_device, inquires, on_images, concludes_at_once, effect_in, table_after, up_after}
-use Rattle.nb_machine.specs.Errands.{Onward, fetches_now, echoes_now, looks_up_now}
+use Rattle.nb_machine.specs.Effects.{Effect, says, asks, goes, sleeps, shuts_device, inquires, on_images, on_drives, hooks_disk, unhooks_drive, concludes_at_once, effect_in, table_after, up_after}
+use Rattle.nb_machine.specs.Errands.{Onward, fetches_now, echoes_now, looks_up_now, hooks_now}
 use Rattle.nb_machine.specs.Queries.{Query, for_lease, for_echo, for_host, for_address}
 use Rattle.nb_machine.specs.Running.{Running, anew, entered}
 use Rattle.nb_machine.specs.Lives.{Live}
 use Rattle.nb_machine.specs.States.{State, with_settings, with_images}
-use Rattle.nb_machine.specs.Scripts.{Doing, ends, opens, goes_to, waits_until, shuts, concludes_now, surroundings, doing, doing_by, live_for, live_onward, Upshot, concludes, settles, goes_onward, concluded_by}
-use Rattle.nb_machine.specs.Courses.{Standing, Progress, ScriptLeads, text_standing, ConclusionLeads, LeadsTo, StepBegins, runs, refuses, waits_on, is_answered, switches_off, resumes, goes_off, Proceeds, passes, is_left, hands_back, yields, does, closes_device, concludes_there, leaves, jumps, finds_no_label, falls_asleep, opens_one, finds_no_route, opens_onward, finds_no_way, opens_no_more, hands, has_handed, Course, begins, uses, goes_on}
+use Rattle.nb_machine.specs.Scripts.{Doing, ends, opens, goes_to, waits_until, shuts, concludes_now, surroundings, doing, doing_by, live_for, live_onward, Upshot, concludes, settles, goes_onward, concluded_by, hooks_one, lets_go, hooks_drive}
+use Rattle.nb_machine.specs.Courses.{Standing, Progress, ScriptLeads, text_standing, ConclusionLeads, LeadsTo, StepBegins, runs, refuses, waits_on, is_answered, switches_off, resumes, goes_off, Proceeds, passes, is_left, hands_back, yields, does, closes_device, concludes_there, leaves, jumps, finds_no_label, falls_asleep, opens_one, finds_no_route, opens_onward, finds_no_way, opens_no_more, hands, has_handed, Course, begins, uses, goes_on, is_drives_own, DropsDrive, goes_to_hook, hooks_none, unhooks}
 use Rattle.nb_onecourse.specs.Answers.{PutsNoEnd, IsUnended, AreUnended, StandsUnended}
 use Rattle.nb_onecourse.proofs.Ends.{all_snoc}
 use Rattle.nb_onecourse.proofs.EachRecord.{network_unended}
+use Rattle.nb_drivecmd.specs.HookedDrives.{is_drive}
 
 -- what a command comes to leaves the opens that live, and one that it opens has exchanged nothing
 abbrev Leaves : List Live → Doing → Type 0
@@ -28,6 +30,8 @@ Leaves live (goes_to name) = Unit {0}
 Leaves live (waits_until time) = Unit {0}
 Leaves live (shuts s) = s.live ≡ live
 Leaves live (concludes_now x) = Unit {0}
+Leaves live (hooks_one hooking) = Unit {0}
+Leaves live (lets_go number cause) = Unit {0}
 
 asked_fresh : (s : State) (q : Query) → (live_for s q).exchanges ≡ []
 asked_fresh s for_lease = refl
@@ -38,6 +42,7 @@ asked_fresh s (for_address setting name by) = refl
 onward_fresh : (s : State) (next : Onward) → (live_onward s next).exchanges ≡ []
 onward_fresh s (fetches_now wanted) = refl
 onward_fresh s (echoes_now server) = refl
+onward_fresh s (hooks_now hooking server) = refl
 onward_fresh s (looks_up_now errand name by) = refl
 
 leaves_by : (s : State) (table : TableLists) (up : Bool) (e : Effect) → Leaves s.live (doing_by s table up e)
@@ -47,6 +52,9 @@ leaves_by s table up (goes name) = tt
 leaves_by s table up (sleeps seconds) = tt
 leaves_by s table up shuts_device = refl
 leaves_by s table up (on_images command) = tt
+leaves_by s table up (on_drives c) = tt
+leaves_by s table up (hooks_disk hooking) = tt
+leaves_by s table up (unhooks_drive number cause) = tt
 leaves_by s table up (concludes_at_once c) = tt
 leaves_by s table up (inquires q) = (refl, asked_fresh (with_settings s table up) q)
 
@@ -77,7 +85,20 @@ concluded_unended s inner outer (boots list kernel) put p u h = subst StandsUnen
 leads_unended : (s : State) (inner : Running) (outer : List Running) (x : Upshot) (put : List Out) (p : Standing) → AreUnended s.live → LeadsTo s inner outer x put p → StandsUnended p
 leads_unended s inner outer (concludes c) put p u h = concluded_unended s inner outer c put p u h
 leads_unended s inner outer (settles x) put p u h = subst StandsUnended (sym h.1) u
+leads_unended s inner outer (hooks_drive d) put p u h = subst StandsUnended (sym h.1) u
 leads_unended s inner outer (goes_onward next) put p u h = subst StandsUnended (sym h.1) u
+
+-- where a drive was closed, the others live on
+one_unended : (l : Live) (ls : List Live) (b : Bool) → IsUnended l → AreUnended ls → AreUnended (cond b (l ∷ ls) ls)
+one_unended l ls true here u = (here, u)
+one_unended l ls false here u = u
+
+pub some_unended : (f : Live → Bool) (ls : List Live) → AreUnended ls → AreUnended (filter f ls)
+some_unended f [] u = tt
+some_unended f (l ∷ ls) u = one_unended l (filter f ls) (f l) u.0 (some_unended f ls u.1)
+
+dropped_unended : (s : State) (number : ℕ) (put : List Out) (s' : State) → AreUnended s.live → DropsDrive s number put s' → AreUnended s'.live
+dropped_unended s number put s' u d = subst (λ (z : State). AreUnended z.live) (sym d.leaves) (some_unended (λ l. not (is_drives_own (filter (is_drive number) s.drives) l)) s.live u)
 
 pub begins_unended : (m : Progress) (r : In) (a : List Out) (m' : Progress) → StandsUnended m.standing → StepBegins m r a m' → StandsUnended m'.standing
 begins_unended m r a m' u (runs n s code valid plain) = tt
@@ -95,6 +116,9 @@ proceeds_unended m a m' u (is_left n s inner outer cause h) = u
 proceeds_unended m a m' u (yields n s inner outer c cs h full) = u
 proceeds_unended m a m' u (does n s s' inner outer c cs o h early e k) = subst AreUnended (sym (doing_leaves s inner (c ∷ cs) (ends o s') e)) u
 proceeds_unended m a m' u (closes_device n s s' inner outer c cs put over h early e all) = tt
+proceeds_unended m a m' u (goes_to_hook n s s' inner outer c cs hooking put next h early e dropped next_asked) = dropped_unended s hooking.number put s' u dropped
+proceeds_unended m a m' u (hooks_none n s s' inner outer c cs hooking put cause h early e dropped next_asked) = dropped_unended s hooking.number put s' u dropped
+proceeds_unended m a m' u (unhooks n s s' inner outer c cs number put cause h early e dropped) = dropped_unended s number put s' u dropped
 proceeds_unended m a m' u (hands_back n s inner outer cause) = u
 proceeds_unended m a m' u (concludes_there n s inner outer c cs x put p h early e leads) = concluded_unended s (entered inner) outer x put p u leads
 proceeds_unended m a m' u (leaves n s s' inner outer c cs o h early e k) = subst AreUnended (sym (doing_leaves s inner (c ∷ cs) (ends o s') e)) u

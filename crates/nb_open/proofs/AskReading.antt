@@ -1,5 +1,5 @@
 -- The bytes that ask for a file by HTTP are read back.
-use Rattle.std.proofs.Common.{◌≡◌, ℕ, ◌+◌, ◌<◌, ◌≤◌, ◌^◌, cond, List, ◌++◌, length, take, drop, Some, None, refl, ◌∙◌, ap, length-append, arith}
+use Rattle.std.proofs.Common.{◌≡◌, ℕ, ◌<◌, ◌≤◌, ◌^◌, cond, List, ◌++◌, length, take, drop, Some, None, refl, ◌∙◌, ap, length-append, arith}
 use Rattle.std.proofs.Math.Seq.{take-append_seam, drop-append_seam}
 use Rattle.std.proofs.lemmas.Bool.{le-leb}
 use Rattle.std.proofs.lemmas.Nat.{from_be_bytes-to_be_bytes_2, from_be_bytes-to_be_bytes_4}
@@ -15,7 +15,7 @@ pub record Fits (a : ConnAsk) : Type 0 where
   pub own_port : a.own_port < 2 ^ 16
   pub isn : a.isn < 2 ^ 32
 
-conn_reads_back : (a : ConnAsk) → Fits a → conn_ask_in (conn_ask_bytes a) ≡ Some a
+pub conn_reads_back : (a : ConnAsk) → Fits a → conn_ask_in (conn_ask_bytes a) ≡ Some a
 conn_reads_back a f =
     rw (from_be_bytes-to_be_bytes_4 a.peer.0 f.peer, from_be_bytes-to_be_bytes_2 a.peer_port f.peer_port, from_be_bytes-to_be_bytes_4 a.own.0 f.own, from_be_bytes-to_be_bytes_2 a.own_port f.own_port, from_be_bytes-to_be_bytes_4 a.isn f.isn) refl
 

@@ -1,5 +1,5 @@
 -- The user asks, of objects of which nothing was asked: what the call says of the open, by its kind.
-use Rattle.std.proofs.Common.{◌≡◌, ℕ, true, false, List, [], ◌∷◌, Some, None, refl, sym, ◌∙◌, ap, subst}
+use Rattle.std.proofs.Common.{◌≡◌, ℕ, ◌||◌, Bool, true, false, List, [], ◌∷◌, Some, None, refl, sym, ◌∙◌, ap, subst}
 use Rattle.nb_terms.specs.declared.acts.SendTo.{SendTo}
 use Rattle.nb_ledger.specs.Flat.{Heard, Notice}
 use Rattle.nb_graph.specs.Deeds.{no_memory}
@@ -41,20 +41,22 @@ use Rattle.nb_open.specs.declared.objects.OpenObjects.{OpenObjects}
 use Rattle.nb_open.specs.declared.objects.OpenObjects.TheVariants as objects
 use Rattle.nb_open.specs.declared.open.Open.{Open}
 use Rattle.nb_open.specs.declared.opening.Opening.{Opening}
-use Rattle.nb_open.specs.declared.opening.Opening.TheVariants.{File, Web, Name, Lease, Echo}
+use Rattle.nb_open.specs.declared.opening.Opening.TheVariants.{File, Web, Drive, Name, Lease, Echo}
 use Rattle.nb_open.specs.Making.{IsAskOf}
 use Rattle.nb_open.specs.Objects.{AreObjectsReady}
 use Rattle.nb_open.specs.Open.{AreOfKind, AreUnderWay, AsksRight, IsSpeakerOf, IsUnderWay, carrier_for, kind_for}
-use Rattle.nb_open.specs.Opening.{CanOpen, carrier_by, chain_kind, is_web, kind_by, live_by, own_by, server_by, speaker_for}
+use Rattle.nb_open.specs.Opening.{CanOpen, carrier_by, chain_kind, is_drive, is_joined, is_web, kind_by, live_by, own_by, server_by, speaker_for}
 use Rattle.nb_open.proofs.CoreKinds.{echo_speaks, lease_speaks, name_speaks}
 use Rattle.nb_open.proofs.Doings.{put_by}
+use Rattle.nb_open.proofs.DriveOrders.{HandsUp}
 use Rattle.nb_open.proofs.Downs.{AreSendsBy, one, sends_by}
 use Rattle.nb_open.proofs.FirstMessages.{AsksAtFirst, alone_first, first_of, two_first}
 
 -- the bytes ask for an open of its kind
-pub asks_kind : (a : Opening) (bytes : List ℕ) → is_web a ≡ false → IsAskOf a bytes → IsAsk (chain_kind a) bytes
+pub asks_kind : (a : Opening) (bytes : List ℕ) → is_joined a ≡ false → IsAskOf a bytes → IsAsk (chain_kind a) bytes
 asks_kind (File a) bytes other h = (ask_value a, h)
 asks_kind (Web a) bytes other h = absurd (cc)
+asks_kind (Drive a) bytes other h = absurd (cc)
 asks_kind (Name a) bytes other h = (lookup_for (lookup_ask_value a), h)
 asks_kind (Lease a) bytes other h = (asker_of a, h)
 asks_kind (Echo a) bytes other h = (pinged_by a, h)
@@ -62,6 +64,7 @@ asks_kind (Echo a) bytes other h = (pinged_by a, h)
 same_kind : (a : Opening) → chain_kind a ≡ kind_for (kind_by a)
 same_kind (File a) = refl
 same_kind (Web a) = refl
+same_kind (Drive a) = refl
 same_kind (Name a) = refl
 same_kind (Lease a) = refl
 same_kind (Echo a) = refl
@@ -69,6 +72,7 @@ same_kind (Echo a) = refl
 same_carrier : (a : Opening) → carrier_by a ≡ carrier_for (kind_by a)
 same_carrier (File a) = refl
 same_carrier (Web a) = refl
+same_carrier (Drive a) = refl
 same_carrier (Name a) = refl
 same_carrier (Lease a) = refl
 same_carrier (Echo a) = refl
@@ -76,20 +80,27 @@ same_carrier (Echo a) = refl
 asks_right : (a : Opening) → AsksRight (kind_by a) (server_by a) (own_by a)
 asks_right (File a) = tt
 asks_right (Web a) = tt
+asks_right (Drive a) = tt
 asks_right (Name a) = tt
 asks_right (Lease a) = (refl, refl)
 asks_right (Echo a) = tt
 
-same_connection : (a : Opening) → is_connection (kind_by a) ≡ is_web a
+same_connection : (a : Opening) → is_connection (kind_by a) ≡ is_joined a
 same_connection (File a) = refl
 same_connection (Web a) = refl
+same_connection (Drive a) = refl
 same_connection (Name a) = refl
 same_connection (Lease a) = refl
 same_connection (Echo a) = refl
 
+or_true : (b : Bool) → (b || true) ≡ true
+or_true true = refl
+or_true false = refl
+
 of_kind : (a : Opening) (number now : ℕ) (x : OpenObjects) (g : Objects Obj) → AreObjectsReady a x g → AreOfKind x (live_by a number now)
 of_kind a number now (objects.Chain kind chain) g (other, same, ready) = (same_connection a ∙ other, same ∙ same_kind a)
-of_kind a number now (objects.Web port own chain) g (is, same, from, ready) = (same_connection a ∙ is, same)
+of_kind a number now (objects.Web port own chain) g (is, same, from, ready) = (same_connection a ∙ ap (λ b. b || is_drive a) is, same)
+of_kind a number now (objects.Drive port own chain) g (is, same, from, ready) = (same_connection a ∙ (ap (λ b. is_web a || b) is ∙ or_true (is_web a)), same)
 
 -- the open has the machine's number, server, port and kind
 pub called_by : (a : Opening) (number now : ℕ) (o : Open) (g : Objects Obj) → o.speaker ≡ speaker_for a number → AreObjectsReady a o.objects g → IsSpeakerOf o (live_by a number now)
@@ -107,6 +118,7 @@ called_by a number now o g speaker ready = record {
 pub record Sets (a : Opening) (number now : ℕ) (link : Client) (o : Open) (x : OpenObjects) (new : Objects Obj) (ns : List Notice) : Type 0 where
   pub none : first_close ns ≡ None
   pub under_way : AreUnderWay x new (live_by a number now)
+  pub up : HandsUp x ns
   pub found : any_lacks_route link o.speaker ns ≡ false → first_records (kind_by a) (live_by a number now) link ≡ Some (put_by o link ns)
   pub lost : any_lacks_route link o.speaker ns ≡ true → (first_records (kind_by a) (live_by a number now) link ≡ None) × (put_by o link ns ≡ [])
 
@@ -122,6 +134,7 @@ module _ (number now : ℕ) (link : Client) (o : Open) (kind : ChainKind) (c : C
   sets_by a m same first under_way h = sets (record {
     none = h.none;
     under_way = under_way;
+    up = tt;
     found = λ no. first ∙ (ap (λ k. first_of link k m) same ∙ h.found no);
     lost = λ yes. (first ∙ (ap (λ k. first_of link k m) same ∙ (h.lost yes).0), (h.lost yes).1);
   })
@@ -173,9 +186,10 @@ module _ (number now : ℕ) (link : Client) (o : Open) (kind : ChainKind) (c : C
       (alone_first o link (echo_request (ping_of l)) c.top.0 rec k.ns (subst (λ z. AreSendsBy o.speaker (z ∷ [])) (echo_speaks o l called refl) (one 0 [])) same)
   echo_begins a called below (fails_alone memory) = runs_short memory
 
-  pub chain_begins : (a : Opening) → is_web a ≡ false → CanOpen a → IsAskOf a bytes → IsReadyChain (chain_kind a) c old → IsSpeakerOf o (live_by a number now) → SetsOrFails a number now link o (objects.Chain kind c) new k.ns
+  pub chain_begins : (a : Opening) → is_joined a ≡ false → CanOpen a → IsAskOf a bytes → IsReadyChain (chain_kind a) c old → IsSpeakerOf o (live_by a number now) → SetsOrFails a number now link o (objects.Chain kind c) new k.ns
   chain_begins (File a) other can asks ready called = file_begins a can called ready.0 ready.1 (k.file ready.0 (ask_value a) ready.1 ready.2 asks)
   chain_begins (Web a) other can asks ready called = absurd (cc)
+  chain_begins (Drive a) other can asks ready called = absurd (cc)
   chain_begins (Name a) other can asks ready called = name_begins a called ready.0 (k.lookup (lookup_for (lookup_ask_value a)) asks ready.1)
   chain_begins (Lease a) other can asks ready called = lease_begins a called ready.0 (k.lease (asker_of a) asks ready.1)
   chain_begins (Echo a) other can asks ready called = echo_begins a called ready.0 (k.echo (pinged_by a) asks ready.1)

@@ -24,6 +24,7 @@ module _ (a : Opening) (waits : Option Chain) (old mid : Objects Obj) (before la
   pub asked_from : (o : OpenObjects) → MakesObjectsOf a waits o old mid (told_so_far before) (told_so_far last) → IsAskedFrom a o
   asked_from (objects.Chain kind chain) made = tt
   asked_from (objects.Web port own chain) made = made.2
+  asked_from (objects.Drive port own chain) made = made.2
 
 pub begins_open : (a : Opening) (number now : ℕ) (waits : Option Chain) (link : Client) (old mid new : Objects Obj) (before last : Teller) (made told : Spelling) (b : Begun) → b.«open».speaker ≡ speaker_for a number → AwaitsFor (chain_kind a) waits old →
     MakesObjectsOf a waits b.«open».objects old mid (told_so_far before) (told_so_far last) → IsBlank before.told.value → made ≡ last.told.value → IsWholeSpelling made → StartsOpen a number now link b.«open» mid new told b.ended →

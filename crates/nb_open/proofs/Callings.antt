@@ -1,5 +1,5 @@
 -- What a call on an open's objects tells, as records: a call on these objects, for an open of any kind.
-use Rattle.std.proofs.Common.{◌≡◌, ◌⊎◌, inl, inr, ℕ, ◌==◌, ◌||◌, Bool, true, false, cond, List, [], ◌∷◌, ◌++◌, take, drop, map, Option, Some, None, refl, sym, ◌∙◌, ap, subst, arith}
+use Rattle.std.proofs.Common.{◌≡◌, ◌⊎◌, inl, inr, ℕ, ◌==◌, Bool, true, false, cond, List, [], ◌∷◌, ◌++◌, take, drop, map, Option, Some, None, refl, sym, ◌∙◌, ap, subst, arith}
 use Rattle.std.proofs.lemmas.Bool.{false≢true}
 use Rattle.std.proofs.lemmas.Bool.Decides.{nat_tests}
 use Rattle.std.specs.List.{AllByRecursion}
@@ -17,7 +17,7 @@ use Rattle.nb_ledger.specs.GraphRun.{GraphState, GraphRunOf}
 use Rattle.nb_graph.specs.Whole.{port_at}
 use Rattle.nb_frames.specs.Frames.{is_one_of}
 use Rattle.nb_frames.specs.Within.{IsEventWithin}
-use Rattle.nb_nodes.specs.declared.tag.Tag.TheVariants.{Address, Advance, Bytes, Try}
+use Rattle.nb_nodes.specs.declared.tag.Tag.TheVariants.{Advance, Try}
 use Rattle.nb_nodes.specs.Tags.{tag_number}
 use Rattle.nb_opens.specs.Notices.{tells}
 use Rattle.nb_stack.specs.Client.{Client}
@@ -29,7 +29,7 @@ use Rattle.nb_webchains.specs.Orders.{AreNoCalls, LeavesOnEntry, StandInOrder, e
 use Rattle.nb_traced.proofs.RecordLemmas.{AreAside, put_aside}
 use Rattle.nb_teller.specs.declared.speaker.Speaker.{Speaker}
 use Rattle.nb_teller.specs.Speakers.{datagram_of}
-use Rattle.nb_teller.specs.Tellings.{message_records, told_records, try_by, two_segments}
+use Rattle.nb_teller.specs.Tellings.{is_delivery, message_records, told_records, try_by, two_segments}
 use Rattle.nb_open.proofs.FlatEvents.{event_in, in_flat}
 
 pub each_append : {X : Type 0} (P : X → Type 0) (xs ys : List X) → AllByRecursion P xs → AllByRecursion P ys → AllByRecursion P (xs ++ ys)
@@ -91,7 +91,7 @@ of_send net k try m = by (has_route net m)
 
 -- the records of a message are the open's
 pub of_message : (net : Client) (who : Speaker) (tag a b : ℕ) (bytes : List ℕ) → AllByRecursion (IsOfOpen who.number) (message_records net who tag a b bytes)
-of_message net who tag a b bytes = by ((tag == tag_number Bytes) || (tag == tag_number Address)) (tag == tag_number Advance) (tag == stream_tag_number TwoSegments)
+of_message net who tag a b bytes = by (is_delivery tag) (tag == tag_number Advance) (tag == stream_tag_number TwoSegments)
   where
     by : (f r t : Bool) → AllByRecursion (IsOfOpen who.number) (cond f [] (cond r (advanced who.number a ∷ []) (cond t (two_segments net who a b bytes) (send_records net who.number (cond (tag == tag_number Try) (Some a) None) (datagram_of who b bytes)))))
     by true r t = tt
@@ -106,17 +106,20 @@ puts_aside k [] h = tt
 puts_aside k (o ∷ outs) h = (put_aside k o h.0, puts_aside k outs h.1)
 
 -- what is given to the user has no records
-up_told : (net : Client) (who : Speaker) (tag a b : ℕ) (bytes : List ℕ) → IsTagUp tag → message_records net who tag a b bytes ≡ []
-up_told net who tag a b bytes (inl e) = subst (λ t. message_records net who t a b bytes ≡ []) (sym e) refl
-up_told net who tag a b bytes (inr e) = subst (λ t. message_records net who t a b bytes ≡ []) (sym e) refl
+up_told : (net : Client) (who : Speaker) (tag a b : ℕ) (bytes : List ℕ) → is_delivery tag ≡ true → message_records net who tag a b bytes ≡ []
+up_told net who tag a b bytes is = rw (is) refl
+
+pub up_delivers : (tag : ℕ) → IsTagUp tag → is_delivery tag ≡ true
+up_delivers tag (inl e) = ap is_delivery e
+up_delivers tag (inr e) = ap is_delivery e
 
 -- IN WHICH ORDER
 
--- Each message is given to the user, or stands directly after an event by which x is entered, or after another message; `entered` says whether the first may.
+-- Each message is a delivery, or stands directly after an event by which x is entered, or after another message; `entered` says whether the first may.
 abbrev pub LeavesInOrder : ℕ → Bool → List Notice → Type 0
 LeavesInOrder x entered [] = Unit {0}
 LeavesInOrder x entered (event e ∷ ns) = LeavesInOrder x (enters_object x e) ns
-LeavesInOrder x entered (message from tag rec a b bytes ∷ ns) = (IsTagUp tag ⊎ (entered ≡ true)) × LeavesInOrder x entered ns
+LeavesInOrder x entered (message from tag rec a b bytes ∷ ns) = ((is_delivery tag ≡ true) ⊎ (entered ≡ true)) × LeavesInOrder x entered ns
 
 -- Where x is entered so from outside, that is the first event, and the only such entry.
 abbrev pub AreInOrder : ℕ → Option GraphEvent → List Notice → Type 0
@@ -162,7 +165,7 @@ module _ (x : ℕ) where
   leaves_above : (b : Bool) (ns : List Notice) → SendsNone x ns → LeavesInOrder x b ns
   leaves_above b [] h = tt
   leaves_above b (event e ∷ ns) h = leaves_above (enters_object x e) ns h.1
-  leaves_above b (message from tag rec a c bytes ∷ ns) h = (inl h.0, leaves_above b ns h.1)
+  leaves_above b (message from tag rec a c bytes ∷ ns) h = (inl (up_delivers tag h.0), leaves_above b ns h.1)
 
   no_calls_above : (ns : List Notice) → SendsNone x ns → AreNoCalls x ns
   no_calls_above [] h = tt

@@ -25,23 +25,21 @@ use Rattle.nb_open.specs.declared.objects.OpenObjects.TheVariants as objects
 use Rattle.nb_open.specs.declared.open.Open.{Open}
 use Rattle.nb_open.specs.Ends.{ClosesOpen, closed_open}
 use Rattle.nb_open.specs.Objects.{AreObjectsOpen, AreObjectsShut, AreObjectsStill, ClosesObjects, ReleasesObjects}
-use Rattle.nb_open.specs.Open.{AreUnderWay, IsOpenOf, LivesSome, kind_for}
+use Rattle.nb_open.specs.Open.{IsOpenOf, LivesSome, kind_for}
 use Rattle.nb_open.specs.Settling.{told_so_far}
 use Rattle.nb_open.proofs.Doings.{chain_hushed}
 use Rattle.nb_open.proofs.Endings.{calls_open, closes_open, end_among_last}
 use Rattle.nb_open.proofs.Keepings.{closed_keeps}
-use Rattle.nb_open.proofs.Leaving.{AreOfTheirKinds, closes_then, closing_told, leaving_events, leaving_notices, releases_leave}
+use Rattle.nb_open.proofs.Leaving.{closes_then, closing_told, leaving_events, leaving_notices, releases_leave}
 use Rattle.nb_open.proofs.Quiet.{events_add, others_more}
-use Rattle.nb_open.proofs.Receiving.{lives_open, under_way_by, web_open}
+use Rattle.nb_open.proofs.Receiving.{kinds_are, lives_open, under_way_by}
+use Rattle.nb_open.proofs.DriveCloses.{drive_closed_keeps}
 use Rattle.nb_open.proofs.WebCloses.{web_closed_keeps}
-
-kinds_are : (os : OpenObjects) (g : Objects Obj) (l : Live) → AreUnderWay os g l → AreOfTheirKinds os g
-kinds_are (objects.Chain kind c) g l k = tt
-kinds_are (objects.Web port own c) g l k = (web_open l.kind own c g l k).1
 
 pub closed_shut : (os : OpenObjects) (old new : Objects Obj) (m n : Heard) (cause : Cause) → AreObjectsOpen os old → ClosesObjects os old new cause m n → AreObjectsShut os new
 closed_shut (objects.Chain kind c) old new m n cause is_open k = k.shut is_open
 closed_shut (objects.Web port own c) old new m n cause is_open k = k.shut is_open
+closed_shut (objects.Drive port own c) old new m n cause is_open k = k.shut is_open
 
 -- WHAT IS TOLD FIRST
 
@@ -61,6 +59,7 @@ chain_begins x (Some t) cause = (port_at x 0, others_of (closing_notices x (Some
 begins_by_close : (os : OpenObjects) (old new : Objects Obj) (m n : Heard) (cause : Cause) → AreObjectsOpen os old → (k : ClosesObjects os old new cause m n) → BeginsByClose cause (closing_told os cause old new m n k)
 begins_by_close (objects.Chain kind c) old new m n cause is_open k = subst (BeginsByClose cause) (sym (k.are is_open)) (chain_begins c.top.0 c.below cause)
 begins_by_close (objects.Web port own c) old new m n cause is_open k = let f = k.first is_open in (port_at c.fetch.0 0, f.0, f.1)
+begins_by_close (objects.Drive port own c) old new m n cause is_open k = let f = k.first is_open in (port_at c.unit.0 0, f.0, f.1)
 
 -- so the first record says
 pub first_record : (link : Client) (who : Speaker) (cause : Cause) (ns more : List Notice) → BeginsByClose cause ns → (p : Port) × (rest : List Out) × (told_records link who (ns ++ more) ≡ graph (flat (Closed p cause)) ∷ rest)
@@ -74,6 +73,7 @@ closing_keeps who (objects.Chain kind c) l old new link m n cause is k =
     let is_open = under_way_open (kind_for l.kind) c old (under_way_by l.kind c old l is.under_way) in
     subst (λ z. Keeps (closed_open l cause link z)) (sym (chain_hushed link who c old new m n cause is_open k).others) (closed_keeps c old l cause link is.under_way)
 closing_keeps who (objects.Web port own c) l old new link m n cause is k = web_closed_keeps who port own c l old new link m n cause is k
+closing_keeps who (objects.Drive port own c) l old new link m n cause is k = drive_closed_keeps who port own c l old new link m n cause is k
 
 -- ALL
 
@@ -83,7 +83,7 @@ closes_so o cause link old mid new before middle last s lives same_net same_who 
     let first = closing_told o.objects cause old mid (told_so_far before) (told_so_far middle) closes in
     let ns = first ++ leaving_notices o.objects in
     let is_open = lives_open old o lives in
-    let both = closes_then o.objects cause old mid new (told_so_far before) (told_so_far middle) (told_so_far last) is_open (kinds_are o.objects old lives.0 lives.1.under_way) on closes
+    let both = closes_then o.objects cause old mid new (told_so_far before) (told_so_far middle) (told_so_far last) is_open (kinds_are o.objects old lives.0 lives.1.chained lives.1.under_way) on closes
     (releases_leave o.objects mid new (told_so_far middle) (told_so_far last) releases) in
     let spelled = told_is link o.speaker before last s ns same_net same_who blank both.left.gives.given same whole in
     let put = others_more link o.speaker first (leaving_notices o.objects) (events_add link o.speaker (leaving_notices o.objects) (leaving_events o.objects)) in

@@ -14,6 +14,8 @@ use Rattle.nb_chains.specs.Calls.{ComesOf, stays_under_way, has_closed, has_fail
 use Rattle.nb_chains.proofs.Opened.{under_way_open}
 use Rattle.nb_webchains.specs.declared.web_chain.WebChain.{WebChain}
 use Rattle.nb_webchains.specs.WebCalls.{ComesOfWeb, goes_on, has_closed as web_closed}
+use Rattle.nb_drivechains.specs.declared.drive_chain.DriveChain.{DriveChain}
+use Rattle.nb_drivechains.specs.DriveChains.{three_of}
 use Rattle.nb_teller.specs.declared.teller.Teller.{Teller}
 use Rattle.nb_teller.specs.Spelling.{IsBlank, IsSpelled, Spelling}
 use Rattle.nb_teller.proofs.SpellingLemmas.{spelled_is}
@@ -38,6 +40,10 @@ chain_comes kind by c g ns (has_failed memory) = have_failed memory
 pub web_comes : (port : ℕ) (own : Ip4) (c : WebChain) (g : Objects Obj) (ns : List Notice) → ComesOfWeb c g ns → ComesOfObjects (objects.Web port own c) g ns
 web_comes port own c g ns (goes_on none is_open) = go_on none is_open
 web_comes port own c g ns (web_closed cause closes shut) = have_closed cause closes shut
+
+pub drive_comes : (port : ℕ) (own : Ip4) (c : DriveChain) (g : Objects Obj) (ns : List Notice) → ComesOfWeb (three_of c) g ns → ComesOfObjects (objects.Drive port own c) g ns
+drive_comes port own c g ns (goes_on none is_open) = go_on none is_open
+drive_comes port own c g ns (web_closed cause closes shut) = have_closed cause closes shut
 
 -- they may be let go where a call has closed them
 pub may_settle : (o : Open) (net : Client) (mid : Objects Obj) (s : Spelling) (ns : List Notice) → (s.is_lost ≡ false → IsSpelled net o.speaker s ns) → ComesOfObjects o.objects mid ns → MaySettle o s mid

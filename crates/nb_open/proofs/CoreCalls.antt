@@ -154,6 +154,8 @@ module _ {S B C : Type 0} (s : Service S B C) (mark : ℕ) (b : B) (who : Speake
             meets = meets;
           });
           silent = ap delivered_bytes same ∙ no_bytes_echoed own.top.0 p by rec acts [] refl;
+          answers = λ any put. tt;
+          up = tt;
           kinds = tt;
           hushed = λ yes after m n cause closes. chain_hushed link who own new after m n cause unshut closes;
         })
@@ -174,5 +176,7 @@ module _ {S B C : Type 0} (s : Service S B C) (mark : ℕ) (b : B) (who : Speake
           bytes = found.bytes ∙ ap delivered_bytes (sym same);
           address = found.address ∙ ap delivered_address (sym same);
           message = subst (λ z. IsLeaseMessage (delivered_bytes z)) (sym same) found.message;
+          answers = λ any put. tt;
+          up = tt;
         })
     core_did (runs_out memory) = fails memory

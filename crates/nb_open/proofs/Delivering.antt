@@ -19,24 +19,28 @@ use Rattle.nb_nodes.specs.LookupExchanges.{address_said}
 use Rattle.nb_nodes.specs.LeaseExchanges.{lease_said}
 use Rattle.nb_opens.specs.AloneNotices.{alone_call, alone_end}
 use Rattle.nb_opens.specs.Notices.{tells, sent_from}
-use Rattle.nb_teller.specs.Deliveries.{delivered_bytes, delivered_address}
+use Rattle.std.specs.Option.{option_or}
+use Rattle.nb_drivechains.specs.DriveCalls.{answer_in}
+use Rattle.nb_drivenodes.specs.DriveTags.{drive_tag_number}
+use Rattle.nb_drivenodes.specs.declared.drive_tag.DriveTag.TheVariants.{Answered}
+use Rattle.nb_teller.specs.Deliveries.{delivered_address, delivered_answer, delivered_blocks, delivered_bytes}
 
 -- a message that delivers nothing
 abbrev pub DeliversNone : Said → Type 0
-DeliversNone m = ((m.tag == tag_number Bytes) ≡ false) × ((m.tag == tag_number Address) ≡ false)
+DeliversNone m = ((m.tag == tag_number Bytes) ≡ false) × ((m.tag == tag_number Address) ≡ false) × ((m.tag == drive_tag_number Answered) ≡ false)
 
 -- what goes down delivers nothing
 sends_none : (rec : ℕ) (try : Option ℕ) (sends : List SendTo) → AllByRecursion DeliversNone (map (datagram_said rec try) sends)
 sends_none rec try [] = tt
-sends_none rec None (s ∷ sends) = ((refl, refl), sends_none rec None sends)
-sends_none rec (Some n) (s ∷ sends) = ((refl, refl), sends_none rec (Some n) sends)
+sends_none rec None (s ∷ sends) = ((refl, refl, refl), sends_none rec None sends)
+sends_none rec (Some n) (s ∷ sends) = ((refl, refl, refl), sends_none rec (Some n) sends)
 
 downs_none : (rec : ℕ) (acts : Acts) → AllByRecursion DeliversNone (downs_of rec acts)
 downs_none rec acts = by acts.advance
   where
     by : (advance : Option ℕ) → AllByRecursion DeliversNone (advance_said rec advance ++ map (datagram_said rec acts.tried) acts.sends.items)
     by None = sends_none rec acts.tried acts.sends.items
-    by (Some place) = ((refl, refl), sends_none rec acts.tried acts.sends.items)
+    by (Some place) = ((refl, refl, refl), sends_none rec acts.tried acts.sends.items)
 
 bytes_behind : (p : Port) (ms : List Said) (ns : List Notice) → AllByRecursion DeliversNone ms → delivered_bytes (map (sent_from p) ms ++ ns) ≡ delivered_bytes ns
 unfolding delivered_bytes
@@ -162,6 +166,18 @@ no_address [] h = refl
 no_address (event e ∷ ns) h = no_address ns h.1
 no_address (message from tag rec a b bytes ∷ ns) h = absurd h.0
 
+pub no_blocks : (ns : List Notice) → AreEvents ns → delivered_blocks ns ≡ []
+unfolding delivered_blocks
+no_blocks [] h = refl
+no_blocks (event e ∷ ns) h = no_blocks ns h.1
+no_blocks (message from tag rec a b bytes ∷ ns) h = absurd h.0
+
+pub no_answer : (ns : List Notice) → AreEvents ns → delivered_answer ns ≡ None
+unfolding delivered_answer
+no_answer [] h = refl
+no_answer (event e ∷ ns) h = no_answer ns h.1
+no_answer (message from tag rec a b bytes ∷ ns) h = absurd h.0
+
 -- what delivers nothing may be told after it
 pub bytes_then : (ns more : List Notice) → delivered_bytes more ≡ None → delivered_bytes (ns ++ more) ≡ delivered_bytes ns
 unfolding delivered_bytes
@@ -174,3 +190,15 @@ unfolding delivered_address
 address_then [] more h = h
 address_then (event e ∷ ns) more h = address_then ns more h
 address_then (message from tag rec a b bytes ∷ ns) more h = ap (λ o. cond (tag == tag_number Address) (Some (record { 0 = a })) o) (address_then ns more h)
+
+pub blocks_then : (ns more : List Notice) → delivered_blocks more ≡ [] → delivered_blocks (ns ++ more) ≡ delivered_blocks ns
+unfolding delivered_blocks
+blocks_then [] more h = h
+blocks_then (event e ∷ ns) more h = blocks_then ns more h
+blocks_then (message from tag rec a b bytes ∷ ns) more h = ap (λ o. cond (tag == tag_number Bytes) (bytes ++ o) o) (blocks_then ns more h)
+
+pub answer_then : (ns more : List Notice) → delivered_answer more ≡ None → delivered_answer (ns ++ more) ≡ delivered_answer ns
+unfolding delivered_answer
+answer_then [] more h = h
+answer_then (event e ∷ ns) more h = answer_then ns more h
+answer_then (message from tag rec a b bytes ∷ ns) more h = ap (option_or (answer_in tag a b)) (answer_then ns more h)

@@ -17,15 +17,17 @@ use Rattle.nb_chains.specs.declared.chain.Chain.{Chain}
 use Rattle.nb_chains.specs.Calls.{ClosesChain, IsOpenChain}
 use Rattle.nb_chains.specs.declared.kind.ChainKind.{ChainKind}
 use Rattle.nb_teller.specs.declared.speaker.Speaker.{Speaker}
-use Rattle.nb_teller.specs.Deliveries.{delivered_bytes, delivered_address}
+use Rattle.nb_teller.specs.Deliveries.{delivered_address, delivered_answer, delivered_blocks, delivered_bytes}
 use Rattle.nb_teller.specs.Tellings.{any_lacks_route, told_records}
 use Rattle.nb_open.specs.declared.open.Open.{Open}
 use Rattle.nb_open.specs.declared.objects.Brought.{Brought}
 use Rattle.nb_open.specs.declared.objects.OpenObjects.TheVariants as objects
+use Rattle.nb_open.specs.DriveAnswers.{AnswersFor, AnswersLast, found_bytes}
 use Rattle.nb_open.specs.Exchanges.{IsLeaseMessage, with_exchange}
 use Rattle.nb_open.specs.Objects.{AreObjectsChained, AreObjectsOpen, AreObjectsShut, ClosesObjects, HandsBrought}
 use Rattle.nb_open.specs.Open.{IsOpenOf}
 use Rattle.nb_open.proofs.Delivering.{AreEvents}
+use Rattle.nb_open.proofs.DriveOrders.{HandsUp}
 use Rattle.nb_open.proofs.Endings.{closed_events}
 use Rattle.nb_open.proofs.Leaving.{AreOfTheirKinds, closing_told}
 use Rattle.nb_open.proofs.Quiet.{AddsNothing, events_add}
@@ -51,7 +53,9 @@ pub record Goes (o : Open) (l : Live) (came : OpenInput) (link : Client) (new : 
   pub unshut : AreObjectsOpen o.objects new
   pub lives : any_lacks_route link o.speaker ns ≡ false → AreObjectsChained new o.objects → IsOpenOf new o (with_exchange l came link (put_by o link ns))
   pub stuck : any_lacks_route link o.speaker ns ≡ true → Keeps (with_exchange l came link (last_by o l link ns (no_route l.server)))
-  pub silent : delivered_bytes ns ≡ None
+  pub silent : found_bytes o.objects (delivered_bytes ns) ≡ None
+  pub answers : (any : Client) (put : List Out) → AnswersFor o.objects came l (with_exchange l came any put) (delivered_answer ns) (delivered_blocks ns)
+  pub up : HandsUp o.objects ns
   -- where the user closes it then, that finds no route either
   pub kinds : AreOfTheirKinds o.objects new
   pub hushed : any_lacks_route link o.speaker ns ≡ true → (after : Objects Obj) (m n : Heard) (cause : Cause) (k : ClosesObjects o.objects new after cause m n) →
@@ -68,9 +72,11 @@ pub record Overs (o : Open) (l : Live) (came : OpenInput) (link : Client) (new :
   pub shut : AreObjectsShut o.objects new
   pub kept : Keeps (with_exchange l came link (last_by o l link ns cause))
   pub brings : is_ok_cause cause ≡ true → Brings o (with_exchange l came link (last_by o l link ns cause)) new
-  pub bytes : granted (with_exchange l came link (last_by o l link ns cause)) ≡ delivered_bytes ns
+  pub bytes : granted (with_exchange l came link (last_by o l link ns cause)) ≡ found_bytes o.objects (delivered_bytes ns)
   pub address : resolved (with_exchange l came link (last_by o l link ns cause)) ≡ delivered_address ns
-  pub message : IsLeaseMessage (delivered_bytes ns)
+  pub message : IsLeaseMessage (found_bytes o.objects (delivered_bytes ns))
+  pub answers : (any : Client) (put : List Out) → AnswersLast o.objects came l (with_exchange l came any put) (delivered_answer ns) (delivered_blocks ns)
+  pub up : HandsUp o.objects ns
 
 pub data Did (o : Open) (l : Live) (came : OpenInput) (link : Client) (new : Objects Obj) (ns : List Notice) : Type 0 where
   goes : Goes o l came link new ns → Did o l came link new ns

@@ -48,6 +48,7 @@ serials_below (Some x) = refl
 serials_of : (o : OpenObjects) → serials (objects_pieces o) ≡ objects_ids o
 serials_of (objects.Chain kind chain) = ap (λ z. chain.top.0 ∷ z) (serials_below chain.below)
 serials_of (objects.Web port own chain) = refl
+serials_of (objects.Drive port own chain) = refl
 
 -- the serials of an open are those of its objects
 pub serials_are : (o : Open) → own_serials (kin_of o) ≡ objects_ids o.objects
@@ -57,6 +58,7 @@ serials_are o = serials_of o.objects
 abbrev pub last_object : OpenObjects → ℕ
 last_object (objects.Chain kind chain) = last_serial chain
 last_object (objects.Web port own chain) = chain.conn.0
+last_object (objects.Drive port own chain) = chain.conn.0
 
 lowest_below : (x : ℕ) (below : Option ObjId) → lowest_of (x ∷ below_ids below) ≡ last_below x below
 lowest_below x None = refl
@@ -65,6 +67,7 @@ lowest_below x (Some y) = refl
 lowest_in : (o : OpenObjects) → lowest_of (objects_ids o) ≡ last_object o
 lowest_in (objects.Chain kind chain) = lowest_below chain.top.0 chain.below
 lowest_in (objects.Web port own chain) = refl
+lowest_in (objects.Drive port own chain) = refl
 
 -- and the lowest is the last
 pub lowest_is : (o : Open) → lowest_of (own_serials (kin_of o)) ≡ last_object o.objects

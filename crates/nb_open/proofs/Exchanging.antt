@@ -1,8 +1,8 @@
 -- One exchange more of an open: what its call tells, and what becomes of its objects.
-use Rattle.std.proofs.Common.{◌≡◌, ◌⊎◌, inl, inr, true, false, List, [], ◌∷◌, ◌++◌, Option, Some, None, sym, ◌∙◌, ap, subst}
+use Rattle.std.proofs.Common.{◌≡◌, ◌⊎◌, inl, inr, ℕ, true, false, List, [], ◌∷◌, ◌++◌, Option, Some, None, sym, ◌∙◌, ap, subst}
 use Rattle.nb_terms.specs.declared.cause.Cause.{Cause}
 use Rattle.nb_defs.specs.Causes.{is_ok_cause}
-use Rattle.nb_defs.specs.Records.{ended}
+use Rattle.nb_defs.specs.Records.{Out, ended}
 use Rattle.nb_ledger.specs.declared.event.GraphEvent.{GraphEvent}
 use Rattle.nb_ledger.specs.declared.event.Way.{Way}
 use Rattle.nb_ledger.specs.Flat.{Given, Heard, Notice}
@@ -15,21 +15,27 @@ use Rattle.nb_opens.specs.Notices.{first_close, or_else}
 use Rattle.nb_stack.specs.Client.{Client}
 use Rattle.nb_machine.specs.CommandRecords.{no_route}
 use Rattle.nb_machine.specs.Kinds.{Keeps}
-use Rattle.nb_machine.specs.Lives.{Live, OpenInput}
+use Rattle.nb_machine.specs.Lives.{Live, OpenInput, message, tcp_segment, time, task, close}
 use Rattle.nb_chains.proofs.GivingLemmas.{gives_both}
-use Rattle.nb_teller.specs.Deliveries.{delivered_bytes, delivered_address}
+use Rattle.nb_teller.specs.Deliveries.{delivered_address, delivered_answer, delivered_blocks, delivered_bytes}
 use Rattle.nb_teller.specs.Spelling.{HasSpelled, IsSpelled, Spelling}
 use Rattle.nb_teller.specs.Tellings.{any_lacks_route, told_records}
 use Rattle.nb_opens.proofs.CloseLemmas.{first_close-append}
 use Rattle.nb_open.specs.declared.ended.Ended.{Ended}
 use Rattle.nb_open.specs.declared.open.Open.{Open}
+use Rattle.nb_drivechains.specs.declared.drive_answer.DriveAnswer.{DriveAnswer}
+use Rattle.nb_open.specs.declared.objects.OpenObjects.{OpenObjects}
+use Rattle.nb_open.specs.declared.objects.OpenObjects.TheVariants as objects
+use Rattle.nb_open.specs.DriveAnswers.{AnswersFor, AnswersLast, AnswersLastTo, AnswersTo, found_bytes}
 use Rattle.nb_open.specs.Exchanges.{Exchanges, HandsOut, IsLeaseMessage, last_put, with_exchange}
 use Rattle.nb_open.specs.Objects.{AreObjectsStill, ClosesObjects, objects_ids}
 use Rattle.nb_open.specs.Open.{IsOpenOf}
 use Rattle.nb_open.specs.Settling.{LetsObjectsGo, SettlesOpen, has_come_to_end, stays_open, is_turned_back}
 use Rattle.nb_open.proofs.Callings.{AreInOrder, IsEntryBy, order_more}
-use Rattle.nb_open.proofs.Delivering.{address_then, bytes_then}
+use Rattle.nb_open.proofs.Delivering.{address_then, answer_then, blocks_then, bytes_then}
 use Rattle.nb_open.proofs.Doings.{Did, Goes, Overs, fails, goes, last_by, overs, put_by}
+use Rattle.nb_open.proofs.DriveOrders.{HandsUp}
+use Rattle.nb_open.proofs.DriveReading.{at_end}
 use Rattle.nb_open.proofs.Endings.{ObjectsGive, calls_open, closes_open, end_among_last, last_object, none_among, released_after}
 use Rattle.nb_open.proofs.Leaving.{Leaves, closes_leave, closing_told, leaves_by, leaving_events, leaving_notices}
 use Rattle.nb_open.proofs.Keepings.{open_keeps}
@@ -38,12 +44,25 @@ use Rattle.nb_open.proofs.Quiet.{AddsNothing, adds_both, events_add, others_more
 some_is : {x y : Cause} → Some x ≡ Some y → x ≡ y
 some_is {x} {y} e = cc
 
+-- what is answered where an open goes on may be where it ends
+drive_last : (came : OpenInput) (l after : Live) (answer : Option DriveAnswer) (blocks : List ℕ) → AnswersTo came l after answer blocks → AnswersLastTo came l after answer blocks
+drive_last (message rec port body now) l after answer blocks h = at_end l after answer blocks h
+drive_last (tcp_segment rec g now) l after answer blocks h = at_end l after answer blocks h
+drive_last (time now) l after answer blocks h = at_end l after answer blocks h
+drive_last (task t now) l after answer blocks h = tt
+drive_last (close cause) l after answer blocks h = at_end l after answer blocks h
+
+answers_last : (os : OpenObjects) (came : OpenInput) (l after : Live) (answer : Option DriveAnswer) (blocks : List ℕ) → AnswersFor os came l after answer blocks → AnswersLast os came l after answer blocks
+answers_last (objects.Chain kind chain) came l after answer blocks h = tt
+answers_last (objects.Web port own chain) came l after answer blocks h = tt
+answers_last (objects.Drive port own chain) came l after answer blocks h = drive_last came l after answer blocks h
+
 -- what the two say of an open and its user's close
 module _ (o : Open) (l : Live) (came : OpenInput) (link : Client) (way : Option Way) (entry : Option GraphEvent) (old mid new : Objects Obj) (h0 h1 h2 : Heard) (s s' : Spelling) (ns : List Notice) where
   pub record Called : Type 0 where
     pub did : Did o l came link mid ns
     pub enters : IsEntryBy (last_object o.objects) way entry
-    pub order : AreInOrder (last_object o.objects) entry ns ⊎ (first_close ns ≡ Some no_memory)
+    pub order : HandsUp o.objects ns → AreInOrder (last_object o.objects) entry ns ⊎ (first_close ns ≡ Some no_memory)
     pub gives : ObjectsGive o.objects old mid h0 h1 ns
     pub on : AreObjectsStill o.objects old mid
     pub spelled : s.is_lost ≡ false → IsSpelled link o.speaker s ns
@@ -53,8 +72,8 @@ module _ (o : Open) (l : Live) (came : OpenInput) (link : Client) (way : Option 
     closed_is : (c : Option Cause) → HasSpelled s c → first_close ns ≡ c
     closed_is c has = sym (k.spelled has.0).2 ∙ has.1
 
-    ordered : {P : Type 0} (c : Option Cause) → HasSpelled s c → (AreInOrder (last_object o.objects) entry ns → P) → P
-    ordered {P} c has f = by k.order
+    ordered : {P : Type 0} (c : Option Cause) → HasSpelled s c → HandsUp o.objects ns → (AreInOrder (last_object o.objects) entry ns → P) → P
+    ordered {P} c has up f = by (k.order up)
       where
         by : AreInOrder (last_object o.objects) entry ns ⊎ (first_close ns ≡ Some no_memory) → P
         by (inl h) = f h
@@ -75,14 +94,17 @@ module _ (o : Open) (l : Live) (came : OpenInput) (link : Client) (way : Option 
             no_end = none_among l.number link o.speaker ns;
             lives = lives;
             others = on;
-            call = ordered None has (λ h. calls_open o link way entry old new h0 h2 ns k.enters h gives);
+            call = ordered None has g.up (λ h. calls_open o link way entry old new h0 h2 ns k.enters h gives);
             no_close = closes_open o link way entry old new h0 h2 ns k.enters None gives g.none;
           };
+          answers = λ any put.
+              let spelled = k.spells ns gives.given in
+              subst (λ z. AnswersFor o.objects came l (with_exchange l came any put) z s'.blocks) (sym spelled.7) (subst (λ z. AnswersFor o.objects came l (with_exchange l came any put) (delivered_answer ns) z) (sym spelled.6) (g.answers any put));
         }
 
     -- it ends, and more is told of it
     module _ (e : Ended) (more : List Notice) (left : Leaves o.objects mid new h1 h2 more) (adds : AddsNothing link o.speaker more) (c : Option Cause) (has : HasSpelled s c) (closes : first_close (ns ++ more) ≡ Some e.cause)
-        (kept : Keeps (with_exchange l came link (last_by o l link ns e.cause))) where
+        (kept : Keeps (with_exchange l came link (last_by o l link ns e.cause))) (up : HandsUp o.objects ns) where
       all_given : ObjectsGive o.objects old new h0 h2 (ns ++ more)
       all_given = gives_both (IsEventWithin (is_one_of (objects_ids o.objects))) old mid new h0 h1 h2 ns more k.gives left.gives
 
@@ -98,19 +120,27 @@ module _ (o : Open) (l : Live) (came : OpenInput) (link : Client) (way : Option 
       address_is : s'.address ≡ delivered_address ns
       address_is = spelled_all.4 ∙ address_then ns more adds.address
 
-      ends_so : (is_ok_cause e.cause ≡ true → HandsOut (with_exchange l came link (last_by o l link ns e.cause)) e s') → IsLeaseMessage (delivered_bytes ns) → Exchanges o l came link way old new s' (Some e)
-      ends_so hands message = record {
+      blocks_are : s'.blocks ≡ delivered_blocks ns
+      blocks_are = spelled_all.6 ∙ blocks_then ns more adds.blocks
+
+      answer_is : s'.answer ≡ delivered_answer ns
+      answer_is = spelled_all.7 ∙ answer_then ns more adds.answer
+
+      ends_so : (is_ok_cause e.cause ≡ true → HandsOut o (with_exchange l came link (last_by o l link ns e.cause)) e s') → IsLeaseMessage (found_bytes o.objects (delivered_bytes ns))
+          → ((any : Client) (put : List Out) → AnswersLast o.objects came l (with_exchange l came any put) (delivered_answer ns) (delivered_blocks ns)) → Exchanges o l came link way old new s' (Some e)
+      ends_so hands lease answers = record {
         records = told_records link o.speaker (ns ++ more);
         text = spelled_all.1;
         does = record {
           keeps = subst (λ z. Keeps (with_exchange l came link z)) (sym last_is) kept;
           its_end = end_among_last l.number link o.speaker (ns ++ more) e.cause;
           released = released_after (objects_ids o.objects) old mid new k.on left.released;
-          call = ordered c has (λ h. calls_open o link way entry old new h0 h2 (ns ++ more) k.enters (order_more (last_object o.objects) entry ns more h left.order) all_given);
+          call = ordered c has up (λ h. calls_open o link way entry old new h0 h2 (ns ++ more) k.enters (order_more (last_object o.objects) entry ns more h left.order) all_given);
           close = closes_open o link way entry old new h0 h2 (ns ++ more) k.enters (Some e.cause) all_given closes;
-          hands = λ well. subst (λ z. HandsOut (with_exchange l came link z) e s') (sym last_is) (hands well);
-          message = subst IsLeaseMessage (sym bytes_are) message;
+          hands = λ well. subst (λ z. HandsOut o (with_exchange l came link z) e s') (sym last_is) (hands well);
+          message = subst (λ z. IsLeaseMessage (found_bytes o.objects z)) (sym bytes_are) lease;
         };
+        answers = λ any put. subst (λ z. AnswersLast o.objects came l (with_exchange l came any put) z s'.blocks) (sym answer_is) (subst (λ z. AnswersLast o.objects came l (with_exchange l came any put) (delivered_answer ns) z) (sym blocks_are) (answers any put));
       }
 
     none_some : {P : Type 0} (c : Cause) → first_close ns ≡ None → first_close ns ≡ Some c → P
@@ -122,14 +152,14 @@ module _ (o : Open) (l : Live) (came : OpenInput) (link : Client) (way : Option 
         let left = leaves_by o.objects e mid new h1 h2 lets in
         let adds = events_add link o.speaker more (leaving_events o.objects) in
         let closes : first_close (ns ++ more) ≡ Some e.cause = first_close-append ns more ∙ ap (λ z. or_else z (first_close more)) v.closes in
-        ends_so e more left adds (Some e.cause) has closes v.kept
+        ends_so e more left adds (Some e.cause) has closes v.kept v.up
         (λ well. record {
           body = (v.brings well).body (record { body = e.body; moved = e.moved }) lets.hands;
           moved = (v.brings well).moved (record { body = e.body; moved = e.moved }) lets.hands;
-          bytes = v.bytes ∙ sym (bytes_are e more left adds (Some e.cause) has closes v.kept);
-          address = v.address ∙ sym (address_is e more left adds (Some e.cause) has closes v.kept);
+          bytes = v.bytes ∙ ap (found_bytes o.objects) (sym (bytes_are e more left adds (Some e.cause) has closes v.kept v.up));
+          address = v.address ∙ sym (address_is e more left adds (Some e.cause) has closes v.kept v.up);
         })
-        v.message
+        v.message v.answers
 
     turned_so : (e : Ended) (a : Objects Obj) (told : Heard) → HasSpelled s None → s.is_stuck ≡ true → e.cause ≡ no_route l.server → AreObjectsStill o.objects mid a → ClosesObjects o.objects mid a e.cause h1 told → LetsObjectsGo o.objects e a new told h2 →
         Goes o l came link mid ns → Exchanges o l came link way old new s' (Some e)
@@ -141,9 +171,10 @@ module _ (o : Open) (l : Live) (came : OpenInput) (link : Client) (way : Option 
         let adds = adds_both link o.speaker first (leaving_notices o.objects) (g.hushed lacks a h1 told e.cause closes) (events_add link o.speaker (leaving_notices o.objects) (leaving_events o.objects)) in
         let ends : first_close (ns ++ more) ≡ Some e.cause = first_close-append ns more ∙ (ap (λ z. or_else z (first_close more)) g.none ∙ both.close) in
         let kept : Keeps (with_exchange l came link (last_by o l link ns e.cause)) = subst (λ z. Keeps (with_exchange l came link (last_by o l link ns z))) (sym is) (g.stuck lacks) in
-        ends_so e more both.left adds None has ends kept
+        ends_so e more both.left adds None has ends kept g.up
         (λ well. absurd (let no : false ≡ true = sym (ap is_ok_cause is) ∙ well in cc))
         (λ bytes some. absurd (let no : Some bytes ≡ None = sym some ∙ g.silent in cc))
+        (λ any put. answers_last o.objects came l (with_exchange l came any put) (delivered_answer ns) (delivered_blocks ns) (g.answers any put))
 
     pub exchanges : (settled : Option Ended) → l.server ≡ o.speaker.server.0 → SettlesOpen o s mid new h1 h2 settled → Exchanges o l came link way old new s' settled
     exchanges settled server (stays_open has free same_graph same_heard) = by k.did

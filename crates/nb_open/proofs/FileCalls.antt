@@ -142,6 +142,8 @@ module _ (who : Speaker) (kind : ChainKind) (own : Chain) (l : Live) (old new : 
         bytes = ap (λ z. granted_of z l'.exchanges) e ∙ sym nothing;
         address = ap (λ z. resolved_of z l') e ∙ sym (notices_address link o own.top.0 k.tftp.0 p by rec acts (Some c) ns n);
         message = none_message (delivered_bytes ns) nothing;
+        answers = λ any put. tt;
+        up = tt;
       })
 
   whole_at_end : (c : Cause) (whole : List ℕ) → is_ok_cause c ≡ true → body_at_end c whole ≡ Some whole
@@ -175,6 +177,8 @@ module _ (who : Speaker) (kind : ChainKind) (own : Chain) (l : Live) (old new : 
         stuck = λ yes. keeps (last_by o l link ns (no_route l.server)) acts meets
             (more (last_by o l link ns (no_route l.server)) acts (ap (λ z. z ++ end_records l.number (Some (no_route l.server))) put ∙ stuck_records l.number l.server link whole acts ends (sym lack ∙ yes)));
         silent = notices_bytes link o own.top.0 k.tftp.0 p by rec acts acts.over ns n;
+        answers = λ any put. tt;
+        up = tt;
         kinds = tt;
         hushed = λ yes after m n cause closes. chain_hushed link who own new after m n cause unshut closes;
       })

@@ -21,6 +21,7 @@ use Rattle.nb_chains.specs.Shapes.{SendsNone}
 use Rattle.nb_chains.proofs.GivingLemmas.{gives_both}
 use Rattle.nb_webchains.specs.WebCalls.{freed_each}
 use Rattle.nb_webchains.specs.WebChains.{AreOfWeb, web_ids}
+use Rattle.nb_drivechains.specs.DriveChains.{drive_ids}
 use Rattle.nb_open.specs.declared.ended.Ended.{Ended}
 use Rattle.nb_open.specs.declared.objects.OpenObjects.{OpenObjects}
 use Rattle.nb_open.specs.declared.objects.OpenObjects.TheVariants as objects
@@ -28,6 +29,7 @@ use Rattle.nb_open.specs.Objects.{AreObjectsOpen, AreObjectsReleased, AreObjects
 use Rattle.nb_open.specs.Settling.{LetsObjectsGo}
 use Rattle.nb_open.proofs.Callings.{AreInOrder, above_order, order_more, web_order}
 use Rattle.nb_open.proofs.Delivering.{AreEvents}
+use Rattle.nb_open.proofs.DriveOrders.{IsDriveAt, drive_closing_order}
 use Rattle.nb_open.proofs.Quiet.{AreQuiet, quiet_above}
 use Rattle.nb_open.proofs.Endings.{ObjectsGive, closed_first, last_object, released_after, released_chain, released_events}
 
@@ -45,10 +47,12 @@ gives_from may g a h m n ns same k = record {
 abbrev pub leaving_notices : OpenObjects → List Notice
 leaving_notices (objects.Chain kind chain) = released_notices chain
 leaving_notices (objects.Web port own chain) = freed_each (web_ids chain)
+leaving_notices (objects.Drive port own chain) = freed_each (drive_ids chain)
 
 pub leaving_events : (o : OpenObjects) → AreEvents (leaving_notices o)
 leaving_events (objects.Chain kind chain) = released_events chain.top.0 chain.below
 leaving_events (objects.Web port own chain) = (tt, (tt, (tt, (tt, (tt, (tt, tt))))))
+leaving_events (objects.Drive port own chain) = (tt, (tt, (tt, (tt, (tt, (tt, tt))))))
 
 pub freed_above : (x : ℕ) (ids : List ℕ) → SendsNone x (freed_each ids)
 freed_above x [] = tt
@@ -62,6 +66,7 @@ released_above x y (Some t) = ((LetGo (serial y), refl, tt), ((Freed (serial y),
 leaving_above : (o : OpenObjects) → SendsNone (last_object o) (leaving_notices o)
 leaving_above (objects.Chain kind chain) = released_above (last_object (objects.Chain kind chain)) chain.top.0 chain.below
 leaving_above (objects.Web port own chain) = freed_above chain.conn.0 (web_ids chain)
+leaving_above (objects.Drive port own chain) = freed_above chain.conn.0 (drive_ids chain)
 
 pub leaving_quiet : (o : OpenObjects) → AreQuiet (leaving_notices o)
 leaving_quiet o = quiet_above (last_object o) (leaving_notices o) (leaving_above o)
@@ -83,6 +88,11 @@ releases_leave (objects.Web port own chain) old new m n r = record {
   order = above_order chain.conn.0 (freed_each (web_ids chain)) (leaving_above (objects.Web port own chain));
   released = r.released;
 }
+releases_leave (objects.Drive port own chain) old new m n r = record {
+  gives = r.gives;
+  order = above_order chain.conn.0 (freed_each (drive_ids chain)) (leaving_above (objects.Drive port own chain));
+  released = r.released;
+}
 
 -- also after what they brought is handed out
 pub leaves_by : (o : OpenObjects) (e : Ended) (old new : Objects Obj) (m n : Heard) → LetsObjectsGo o e old new m n → Leaves o old new m n (leaving_notices o)
@@ -96,15 +106,17 @@ leaves_by o e old new m n l =
 
 -- AFTER THE USER CLOSED THEM
 
--- the three are a Fetch, a fetch by HTTP and a connection
+-- the three are a Fetch, a fetch by HTTP and a connection, or those of a drive that goes on
 abbrev pub AreOfTheirKinds : OpenObjects → Objects Obj → Type 0
 AreOfTheirKinds (objects.Chain kind chain) g = Unit {0}
 AreOfTheirKinds (objects.Web port own chain) g = AreOfWeb chain g
+AreOfTheirKinds (objects.Drive port own chain) g = IsDriveAt chain g
 
 -- what is told where the user closes them
 abbrev pub closing_told : (o : OpenObjects) (cause : Cause) (old new : Objects Obj) (m n : Heard) → ClosesObjects o old new cause m n → List Notice
 closing_told (objects.Chain kind chain) cause old new m n k = k.ns
 closing_told (objects.Web port own chain) cause old new m n k = k.ns
+closing_told (objects.Drive port own chain) cause old new m n k = k.ns
 
 -- of a chain nothing goes to the network
 pub closing_quiet : (c : Chain) (cause : Cause) (old new : Objects Obj) (m n : Heard) (k : ClosesChain c old new cause m n) → IsOpenChain c old → AreQuiet k.ns
@@ -125,6 +137,11 @@ closes_first (objects.Chain kind chain) cause old new m n is_open are k = record
 closes_first (objects.Web port own chain) cause old new m n is_open are k = record {
   gives = k.gives;
   order = web_order chain.conn.0 None k.ns (k.order is_open are);
+  close = ap first_close (k.first is_open).1;
+}
+closes_first (objects.Drive port own chain) cause old new m n is_open are k = record {
+  gives = k.gives;
+  order = drive_closing_order chain old new m n cause is_open are k;
   close = ap first_close (k.first is_open).1;
 }
 

@@ -18,15 +18,17 @@ use Rattle.nb_chains.proofs.GoingOn.{keeps_both}
 use Rattle.nb_chains.proofs.OfTwo.{of_two}
 use Rattle.nb_closings.proofs.Beginning.{one_first}
 use Rattle.nb_webchains.specs.declared.web_chain.WebChain.{WebChain}
-use Rattle.nb_webchains.specs.WebChains.{web_ids}
+use Rattle.nb_webchains.specs.WebChains.{GrowsTo, IsInOrder, web_ids}
+use Rattle.nb_drivechains.specs.declared.drive_chain.DriveChain.{DriveChain}
+use Rattle.nb_drivechains.specs.DriveChains.{drive_ids, three_of}
 use Rattle.nb_open.specs.declared.beginning.Begun.{Begun}
 use Rattle.nb_open.specs.declared.objects.OpenObjects.{OpenObjects}
 use Rattle.nb_open.specs.declared.objects.OpenObjects.TheVariants as objects
 use Rattle.nb_open.specs.declared.opening.Opening.{Opening}
 use Rattle.nb_open.specs.Begins.{LeavesElse, count_after, count_waiting}
-use Rattle.nb_open.specs.Making.{GoesOnOr, MakesChain, MakesObjectsOf, WebMade, count_made, count_made_web}
+use Rattle.nb_open.specs.Making.{DriveMade, GoesOnOr, IsFetchOf, MakesChain, MakesObjectsOf, WebMade, count_made, count_made_web}
 use Rattle.nb_open.specs.Objects.{objects_ids}
-use Rattle.nb_open.proofs.Newest.{lower_events, making_web_events, run_is, web_run}
+use Rattle.nb_open.proofs.Newest.{drive_run, lower_events, making_drive_events, making_web_events, run_is, web_run}
 
 -- a serial of a chain is that of its top object, or of the one below it
 pub of_chain_ids : (x : ℕ) (below : Option ObjId) (y : ℕ) → is_one_of (x ∷ below_ids below) y ≡ true → (y ≡ x) ⊎ ((t : ObjId) × (below ≡ Some t) × (y ≡ t.0))
@@ -38,12 +40,14 @@ length_is kind.File c g ready = ap (λ z. length (c.top.0 ∷ below_ids z)) read
 length_is kind.Name c g ready = ap (λ z. length (c.top.0 ∷ below_ids z)) ready.0
 length_is kind.Lease c g ready = ap (λ z. length (c.top.0 ∷ below_ids z)) ready.0
 length_is kind.Echo c g ready = ap (λ z. length (c.top.0 ∷ below_ids z)) ready.0
+length_is kind.Drive c g ready = ap (λ z. length (c.top.0 ∷ below_ids z)) ready.0
 
 few_below : (k : ChainKind) → count_below k ≤ 1
 few_below kind.File = omega arith
 few_below kind.Name = omega arith
 few_below kind.Lease = omega arith
 few_below kind.Echo = omega arith
+few_below kind.Drive = omega arith
 
 some_id : {x y : ObjId} → Some x ≡ Some y → x.0 ≡ y.0
 some_id {x} {y} e = cc
@@ -70,6 +74,7 @@ module _ (k : ChainKind) (w : Option Chain) (c : Chain) (old new : Objects Obj) 
       by kind.Name w made = none made.ready.0
       by kind.Lease w made = none made.ready.0
       by kind.Echo w made = none made.ready.0
+      by kind.Drive w made = none made.ready.0
 
 -- what both calls make: so many objects more, of which those that are no part of what waits are new
 pub record Grown (w : Option Chain) (ids : List ℕ) (old mid : Objects Obj) : Type 0 where
@@ -114,22 +119,29 @@ module _ (k : ChainKind) (c : Chain) (old mid : Objects Obj) (m n : Heard) where
         fresh = fresh_by w made;
       }
 
--- OF THE THREE OF AN OPEN BY HTTP
+-- OF THREE
 
 module _ (c : WebChain) (old mid : Objects Obj) (m n : Heard) where
   web_count : (w : Option Chain) → count_made_web w + count_waiting w ≡ 3
   web_count None = refl
   web_count (Some v) = refl
 
+  -- those below the first are new
+  record MadeThree (w : Option Chain) : Type 0 where
+    order : IsInOrder c
+    top : IsFetchOf w old c
+    middle : old.book.made < c.web.0
+    grows : GrowsTo (count_made_web w) (web_ids c) old mid
+
   -- what is below the Fetch was made
   web_new : (w : Option Chain) → WebMade w c old mid m n → old.book.made < c.web.0
   web_new None made = let later = made.ready.order.web_later in let top = made.top in omega (arith, later, top)
   web_new (Some v) made = let run : GraphRunOf (run_state old.book []) (making_web_events (Some v) c) (run_state mid.book []) = web_run (Some v) c old mid m n made in let first = run.1.1 in omega (arith, first)
 
-  web_fresh : (w : Option Chain) → WebMade w c old mid m n → (y : ℕ) → is_one_of (web_ids c) y ≡ true → y ≤ old.book.made → (v : Chain) × (w ≡ Some v) × (y ≡ v.top.0)
+  web_fresh : (w : Option Chain) → MadeThree w → (y : ℕ) → is_one_of (web_ids c) y ≡ true → y ≤ old.book.made → (v : Chain) × (w ≡ Some v) × (y ≡ v.top.0)
   web_fresh w made y own low =
-      let new = web_new w made in
-      let later = made.ready.order.conn_later in
+      let new = made.middle in
+      let later = made.order.conn_later in
       elim (one_first c.fetch.0 (c.web.0 ∷ c.conn.0 ∷ []) y own) [
         | inl e ↦ by w made e
         | inr below ↦ elim (one_first c.web.0 (c.conn.0 ∷ []) y below) [
@@ -138,12 +150,12 @@ module _ (c : WebChain) (old mid : Objects Obj) (m n : Heard) where
         ]
       ]
     where
-      by : (w : Option Chain) → WebMade w c old mid m n → y ≡ c.fetch.0 → (v : Chain) × (w ≡ Some v) × (y ≡ v.top.0)
+      by : (w : Option Chain) → MadeThree w → y ≡ c.fetch.0 → (v : Chain) × (w ≡ Some v) × (y ≡ v.top.0)
       by None made e = absurd (let top = made.top in omega (arith, e, top, low))
       by (Some v) made e = (v, refl, e ∙ ap (λ (x : ObjId). x.0) made.top)
 
-  web_grown : (w : Option Chain) → WebMade w c old mid m n → Grown w (web_ids c) old mid
-  web_grown w made =
+  three_grown : (w : Option Chain) → MadeThree w → Grown w (web_ids c) old mid
+  three_grown w made =
       let count = web_count w in
       let grown = made.grows.made in
       let number = made.grows.number in
@@ -156,9 +168,22 @@ module _ (c : WebChain) (old mid : Objects Obj) (m n : Heard) where
         fresh = web_fresh w made;
       }
 
+  web_grown : (w : Option Chain) → WebMade w c old mid m n → Grown w (web_ids c) old mid
+  web_grown w made = three_grown w (record { order = made.ready.order; top = made.top; middle = web_new w made; grows = made.grows })
+
+module _ (c : DriveChain) (old mid : Objects Obj) (m n : Heard) where
+  -- what is below the unit was made
+  drive_new : (w : Option Chain) → DriveMade w c old mid m n → old.book.made < c.session.0
+  drive_new None made = let later = made.ready.order.web_later in let top = made.top in omega (arith, later, top)
+  drive_new (Some v) made = let run : GraphRunOf (run_state old.book []) (making_drive_events (Some v) c) (run_state mid.book []) = drive_run (Some v) c old mid m n made in let first = run.1.1 in omega (arith, first)
+
+  drive_grown : (w : Option Chain) → DriveMade w c old mid m n → Grown w (drive_ids c) old mid
+  drive_grown w made = three_grown (three_of c) old mid m n w (record { order = made.ready.order; top = made.top; middle = drive_new w made; grows = made.grows })
+
 pub objects_grown : (a : Opening) (w : Option Chain) (o : OpenObjects) (old mid : Objects Obj) (m n : Heard) → MakesObjectsOf a w o old mid m n → Grown w (objects_ids o) old mid
 objects_grown a w (objects.Chain kind chain) old mid m n (other, same, made) = chain_grown kind chain old mid m n w made
 objects_grown a w (objects.Web port own chain) old mid m n (by_web, same, from, made) = web_grown chain old mid m n w made.made
+objects_grown a w (objects.Drive port own chain) old mid m n (by_drive, same, from, made) = drive_grown chain old mid m n w made.made
 
 -- what both calls leave
 module _ (w : Option Chain) (b : Begun) (old mid new : Objects Obj) (grown : Grown w (objects_ids b.«open».objects) old mid) where

@@ -13,13 +13,14 @@ use Rattle.nb_opens.specs.Notices.{serial, tells}
 use Rattle.nb_traced.specs.Outputs.{IsNewest}
 use Rattle.nb_chains.specs.declared.chain.Chain.{Chain}
 use Rattle.nb_chains.specs.declared.kind.ChainKind.{ChainKind}
-use Rattle.nb_chains.specs.declared.kind.ChainKind.TheVariants.{File, Name, Lease, Echo}
+use Rattle.nb_chains.specs.declared.kind.ChainKind.TheVariants.{File, Name, Lease, Echo, Drive}
 use Rattle.nb_chains.specs.Chains.{IsReadyChain, completes_notices, last_below, last_serial}
 use Rattle.nb_chains.specs.Giving.{CallGives, MakingGives}
 use Rattle.nb_chains.specs.Kinds.{count_below}
 use Rattle.nb_webchains.specs.declared.web_chain.WebChain.{WebChain}
 use Rattle.nb_open.specs.Begins.{IsLatest}
-use Rattle.nb_open.specs.Making.{WebMade, making_web_notices}
+use Rattle.nb_drivechains.specs.declared.drive_chain.DriveChain.{DriveChain}
+use Rattle.nb_open.specs.Making.{DriveMade, WebMade, making_drive_notices, making_web_notices}
 use Rattle.nb_open.proofs.FlatEvents.{same_flat}
 
 -- the last serial that lives is at most this, where none lives above it
@@ -73,6 +74,7 @@ module _ (c : Chain) (old new : Objects Obj) (m n : Heard) where
   newest_completed Name w r top ready gives made dead above latest = sole_newest w ready.0 top gives latest
   newest_completed Lease w r top ready gives made dead above latest = sole_newest w ready.0 top gives latest
   newest_completed Echo w r top ready gives made dead above latest = sole_newest w ready.0 top gives latest
+  newest_completed Drive w r top ready gives made dead above latest = sole_newest w ready.0 top gives latest
 
 -- OF AN OPEN BY HTTP
 
@@ -98,3 +100,28 @@ module _ (w : Option Chain) (c : WebChain) (old new : Objects Obj) (m n : Heard)
       by : (w : Option Chain) → GraphRunOf (run_state old.book []) (making_web_events w c) (run_state new.book []) → new.book.made ≡ c.conn.0
       by None run = made_last ((Made (serial c.fetch.0) 1 ∷ Held (serial c.fetch.0) ∷ []) ++ plugged_events c.fetch.0 c.web.0 2) c.web.0 c.conn.0 3 (run_state old.book []) (run_state new.book []) run
       by (Some v) run = made_last (plugged_events c.fetch.0 c.web.0 2) c.web.0 c.conn.0 3 (run_state old.book []) (run_state new.book []) run
+
+-- OF A DRIVE
+
+-- the events by which the two below its unit are made, and all three
+abbrev pub drive_events : DriveChain → List GraphEvent
+drive_events c = plugged_events c.unit.0 c.session.0 8 ++ plugged_events c.session.0 c.conn.0 3
+
+abbrev pub making_drive_events : Option Chain → DriveChain → List GraphEvent
+making_drive_events None c = (Made (serial c.unit.0) 9 ∷ Held (serial c.unit.0) ∷ []) ++ drive_events c
+making_drive_events (Some w) c = drive_events c
+
+pub making_drive_are : (w : Option Chain) (c : DriveChain) → making_drive_notices w c ≡ map tells (making_drive_events w c)
+making_drive_are None c = refl
+making_drive_are (Some w) c = refl
+
+module _ (w : Option Chain) (c : DriveChain) (old new : Objects Obj) (m n : Heard) (made : DriveMade w c old new m n) where
+  pub drive_run : GraphRunOf (run_state old.book []) (making_drive_events w c) (run_state new.book [])
+  drive_run = run_is _ old new m n (making_drive_notices w c) (making_drive_events w c) (making_drive_are w c) made.gives
+
+  pub newest_drive : (r : Option ObjId) → IfNone r ((y : ℕ) → c.conn.0 < y → object_lives new.book y ≡ false) → IfSome r (IsLeastAbove new.book c.conn.0) → IsNewest (run_state new.book []) c.conn.0
+  newest_drive r dead above = newest_by new c.conn.0 r (by w drive_run) dead above
+    where
+      by : (w : Option Chain) → GraphRunOf (run_state old.book []) (making_drive_events w c) (run_state new.book []) → new.book.made ≡ c.conn.0
+      by None run = made_last ((Made (serial c.unit.0) 9 ∷ Held (serial c.unit.0) ∷ []) ++ plugged_events c.unit.0 c.session.0 8) c.session.0 c.conn.0 3 (run_state old.book []) (run_state new.book []) run
+      by (Some v) run = made_last (plugged_events c.unit.0 c.session.0 8) c.session.0 c.conn.0 3 (run_state old.book []) (run_state new.book []) run

@@ -33,6 +33,8 @@ use Rattle.nb_chains.proofs.ChainDoes.{top_in, last_in}
 use Rattle.nb_closings.specs.Chained.{IsOpenThrough}
 use Rattle.nb_webchains.specs.declared.web_chain.WebChain.{WebChain}
 use Rattle.nb_webchains.specs.WebChains.{web_ids}
+use Rattle.nb_drivechains.specs.declared.drive_chain.DriveChain.{DriveChain}
+use Rattle.nb_drivechains.specs.DriveChains.{drive_ids, three_of}
 use Rattle.nb_teller.specs.declared.speaker.Speaker.{Speaker}
 use Rattle.nb_teller.specs.Spelling.{IsSpelled, Spelling}
 use Rattle.nb_teller.specs.Tellings.{told_records}
@@ -40,15 +42,15 @@ use Rattle.nb_open.specs.declared.objects.OpenObjects.{OpenObjects}
 use Rattle.nb_open.specs.declared.objects.OpenObjects.TheVariants as objects
 use Rattle.nb_open.specs.declared.open.Open.{Open}
 use Rattle.nb_open.specs.declared.opening.Opening.{Opening}
-use Rattle.nb_open.specs.declared.opening.Opening.TheVariants.{File, Web, Name, Lease, Echo}
+use Rattle.nb_open.specs.declared.opening.Opening.TheVariants.{File, Web, Drive, Name, Lease, Echo}
 use Rattle.nb_open.specs.Begins.{AwaitsFor, IsLatest, MakesObjects, waiting_pieces}
-use Rattle.nb_open.specs.Making.{IsFetchOf, MakesChain, MakesObjectsOf, MakesWeb, making_notices, making_web_notices}
+use Rattle.nb_open.specs.Making.{IsFetchOf, MakesChain, MakesDrive, MakesObjectsOf, MakesWeb, making_drive_notices, making_notices, making_web_notices}
 use Rattle.nb_open.specs.Objects.{objects_ids}
-use Rattle.nb_open.specs.Open.{objects_pieces, pieces_below, pieces_of, web_pieces}
-use Rattle.nb_open.specs.Opening.{chain_kind, is_web, kind_by}
+use Rattle.nb_open.specs.Open.{drive_pieces, objects_pieces, pieces_below, pieces_of, web_pieces}
+use Rattle.nb_open.specs.Opening.{chain_kind, is_drive, is_joined, is_web, kind_by}
 use Rattle.nb_open.proofs.Callings.{each_append, events_told}
 use Rattle.nb_open.proofs.Endings.{last_object, lowest_is, serials_are}
-use Rattle.nb_open.proofs.Newest.{lower_events, making_web_are, making_web_events, run_is, web_run}
+use Rattle.nb_open.proofs.Newest.{drive_run, lower_events, making_drive_are, making_drive_events, making_web_are, making_web_events, run_is, web_run}
 
 -- THE EVENTS
 
@@ -61,6 +63,7 @@ below_events kind.File f t = lower_events f t
 below_events kind.Name f t = []
 below_events kind.Lease f t = []
 below_events kind.Echo f t = []
+below_events kind.Drive f t = []
 
 abbrev pub making_events : Option Chain → ChainKind → Chain → List GraphEvent
 making_events None k c = top_events c.top.0 (top_number k) ++ below_events k c.top.0 (last_serial c)
@@ -71,6 +74,7 @@ below_notices kind.File c = refl
 below_notices kind.Name c = refl
 below_notices kind.Lease c = refl
 below_notices kind.Echo c = refl
+below_notices kind.Drive c = refl
 
 pub making_are : (w : Option Chain) (k : ChainKind) (c : Chain) → making_notices w k c ≡ map tells (making_events w k c)
 making_are None k c = ap (λ z. waits_notices k c.top.0 ++ z) (below_notices k c)
@@ -81,6 +85,7 @@ below_making kind.File f t = (tt, (tt, (tt, tt)))
 below_making kind.Name f t = tt
 below_making kind.Lease f t = tt
 below_making kind.Echo f t = tt
+below_making kind.Drive f t = tt
 
 pub all_making : (w : Option Chain) (k : ChainKind) (c : Chain) → AllByRecursion IsMaking (making_events w k c)
 all_making None k c = (tt, (tt, below_making k c.top.0 (last_serial c)))
@@ -93,6 +98,7 @@ below_pieces kind.File c g ready = ap pieces_below ready.1 ∙ ap (λ z. record 
 below_pieces kind.Name c g ready = ap pieces_below ready.0
 below_pieces kind.Lease c g ready = ap pieces_below ready.0
 below_pieces kind.Echo c g ready = ap pieces_below ready.0
+below_pieces kind.Drive c g ready = ap pieces_below ready.0
 
 pub made_pieces : (w : Option Chain) (k : ChainKind) (c : Chain) (old new : Objects Obj) (m n : Heard) → MakesChain k w c old new m n → AwaitsFor k w old → pieces_of k c ≡ waiting_pieces k w ++ pieces_made (making_events w k c)
 made_pieces None k c old new m n made awaits = ap (λ z. record { serial = c.top.0; kind = top_number k } ∷ z) (below_pieces k c new made.ready)
@@ -101,9 +107,10 @@ made_pieces (Some w) k c old new m n made awaits =
     ∙ (ap (λ z. record { serial = w.top.0; kind = top_number k } ∷ z) (below_pieces k c new made.ready)
     ∙ ap (λ z. (record { serial = w.top.0; kind = top_number k } ∷ z) ++ pieces_made (below_events k c.top.0 (last_serial c))) (sym (ap pieces_below awaits.alone)))
 
-kinds_made : (a : Opening) (c : Chain) (g : Objects Obj) → is_web a ≡ false → IsReadyChain (chain_kind a) c g → kinds (pieces_of (chain_kind a) c) ≡ objects_for (kind_number (kind_by a))
+kinds_made : (a : Opening) (c : Chain) (g : Objects Obj) → is_joined a ≡ false → IsReadyChain (chain_kind a) c g → kinds (pieces_of (chain_kind a) c) ≡ objects_for (kind_number (kind_by a))
 kinds_made (File a) c g other ready = ap (λ z. 1 ∷ kinds (pieces_below z)) ready.1
 kinds_made (Web a) c g other ready = absurd (cc)
+kinds_made (Drive a) c g other ready = absurd (cc)
 kinds_made (Name a) c g other ready = ap (λ z. 5 ∷ kinds (pieces_below z)) ready.0
 kinds_made (Lease a) c g other ready = ap (λ z. 6 ∷ kinds (pieces_below z)) ready.0
 kinds_made (Echo a) c g other ready = ap (λ z. 7 ∷ kinds (pieces_below z)) ready.0
@@ -123,6 +130,7 @@ joined_made kind.File c g chained noded ready =
 joined_made kind.Name c g chained noded ready = joined_below c g None ready.0 tt
 joined_made kind.Lease c g chained noded ready = joined_below c g None ready.0 tt
 joined_made kind.Echo c g chained noded ready = joined_below c g None ready.0 tt
+joined_made kind.Drive c g chained noded ready = joined_below c g None ready.0 tt
 
 -- THEY WERE MADE
 
@@ -130,6 +138,7 @@ joined_made kind.Echo c g chained noded ready = joined_below c g None ready.0 tt
 abbrev pub making_told : Option Chain → OpenObjects → List Notice
 making_told waits (objects.Chain kind chain) = making_notices waits kind chain
 making_told waits (objects.Web port own chain) = making_web_notices waits chain
+making_told waits (objects.Drive port own chain) = making_drive_notices waits chain
 
 -- These objects were made for what is asked, or those that are missing of what waits, by these events.
 pub record MadeFor (a : Opening) (waits : Option Chain) (o : OpenObjects) (old new : Objects Obj) (m n : Heard) : Type 0 where
@@ -144,7 +153,7 @@ pub record MadeFor (a : Opening) (waits : Option Chain) (o : OpenObjects) (old n
   pub newest : IsLatest waits old → IsNewest (run_state new.book []) (last_object o)
 
 module _ (a : Opening) (waits : Option Chain) (old new : Objects Obj) (m n : Heard) where
-  chain_made : (c : Chain) → is_web a ≡ false → (k : ChainKind) → k ≡ chain_kind a → MakesChain k waits c old new m n → MadeFor a waits (objects.Chain k c) old new m n
+  chain_made : (c : Chain) → is_joined a ≡ false → (k : ChainKind) → k ≡ chain_kind a → MakesChain k waits c old new m n → MadeFor a waits (objects.Chain k c) old new m n
   chain_made c other k same made = subst (λ k. MakesChain k waits c old new m n → MadeFor a waits (objects.Chain k c) old new m n) (sym same) by made
     where
       by : MakesChain (chain_kind a) waits c old new m n → MadeFor a waits (objects.Chain (chain_kind a) c) old new m n
@@ -185,13 +194,45 @@ module _ (a : Opening) (waits : Option Chain) (old new : Objects Obj) (m n : Hea
         joined = (through.1.0, through.1.1, (through.1.2.0, through.1.2.1, tt));
         newest = made.newest;
       }
+  web_made port own c (Drive a) is made = absurd (cc)
   web_made port own c (Name a) is made = absurd (cc)
   web_made port own c (Lease a) is made = absurd (cc)
   web_made port own c (Echo a) is made = absurd (cc)
 
+  drive_making : (w : Option Chain) (c : DriveChain) → AllByRecursion IsMaking (making_drive_events w c)
+  drive_making None c = (tt, (tt, (tt, (tt, (tt, (tt, (tt, (tt, tt))))))))
+  drive_making (Some w) c = (tt, (tt, (tt, (tt, (tt, (tt, tt))))))
+
+  drive_pieces_are : (w : Option Chain) (c : DriveChain) → IsFetchOf w old (three_of c) → AwaitsFor kind.Drive w old → drive_pieces c ≡ waiting_pieces kind.Drive w ++ pieces_made (making_drive_events w c)
+  drive_pieces_are None c top awaits = refl
+  drive_pieces_are (Some w) c top awaits =
+      let lower : List GraphObject = record { serial = c.session.0; kind = 8 } ∷ record { serial = c.conn.0; kind = 3 } ∷ [] in
+      ap (λ (x : ObjId). record { serial = x.0; kind = 9 } ∷ lower) top ∙ ap (λ z. (record { serial = w.top.0; kind = 9 } ∷ pieces_below z) ++ lower) (sym awaits.alone)
+
+  drive_made : (port : ℕ) (own : Ip4) (c : DriveChain) (a : Opening) → is_drive a ≡ true → MakesDrive waits c old new m n → MadeFor a waits (objects.Drive port own c) old new m n
+  drive_made port own c (File a) is made = absurd (cc)
+  drive_made port own c (Web a) is made = absurd (cc)
+  drive_made port own c (Drive a) is made =
+      let through : IsOpenThrough (port_in new.book) (drive_ids c) = made.made.ready.ready.ports in
+      record {
+        events = making_drive_events waits c;
+        given = made.made.gives.given;
+        are = making_drive_are waits c;
+        makes = drive_making waits c;
+        run = drive_run waits c old new m n made.made;
+        pieces = drive_pieces_are waits c made.made.top;
+        kinds_are = refl;
+        joined = (through.1.0, through.1.1, (through.1.2.0, through.1.2.1, tt));
+        newest = made.newest;
+      }
+  drive_made port own c (Name a) is made = absurd (cc)
+  drive_made port own c (Lease a) is made = absurd (cc)
+  drive_made port own c (Echo a) is made = absurd (cc)
+
   pub objects_made : (o : OpenObjects) → MakesObjectsOf a waits o old new m n → MadeFor a waits o old new m n
   objects_made (objects.Chain kind chain) (other, same, made) = chain_made chain other kind same made
   objects_made (objects.Web port own chain) (is, same, from, made) = web_made port own chain a is made
+  objects_made (objects.Drive port own chain) (is, same, from, made) = drive_made port own chain a is made
 
 -- after these pieces, where they were made by such events
 module _ (a : Opening) (waits : Option Chain) (o : Open) (old mid new : Objects Obj) (m n : Heard) (made : MadeFor a waits o.objects mid new m n) where

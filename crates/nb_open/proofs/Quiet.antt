@@ -15,8 +15,8 @@ use Rattle.nb_teller.specs.declared.speaker.Speaker.{Speaker}
 use Rattle.nb_teller.specs.Tellings.{any_lacks_route, lacks_route, message_records, message_lacks_route, told_records}
 use Rattle.nb_traced.proofs.Plain.{plain_append}
 use Rattle.nb_teller.proofs.TellingLemmas.{told-append}
-use Rattle.nb_teller.specs.Deliveries.{delivered_bytes, delivered_address}
-use Rattle.nb_open.proofs.Delivering.{AreEvents, address_then, bytes_then, no_address, no_bytes}
+use Rattle.nb_teller.specs.Deliveries.{delivered_address, delivered_answer, delivered_blocks, delivered_bytes}
+use Rattle.nb_open.proofs.Delivering.{AreEvents, address_then, answer_then, blocks_then, bytes_then, no_address, no_answer, no_blocks, no_bytes}
 
 -- an event, or a message to the user
 abbrev pub IsQuiet : Notice → Type 0
@@ -91,6 +91,8 @@ pub record AddsNothing (net : Client) (who : Speaker) (more : List Notice) : Typ
   pub others : without_graph (told_records net who more) ≡ []
   pub bytes : delivered_bytes more ≡ None
   pub address : delivered_address more ≡ None
+  pub blocks : delivered_blocks more ≡ []
+  pub answer : delivered_answer more ≡ None
 
 events_quiet : (ns : List Notice) → AreEvents ns → AreQuiet ns
 events_quiet [] h = tt
@@ -99,7 +101,7 @@ events_quiet (message from tag rec a b bytes ∷ ns) h = absurd h.0
 
 module _ (net : Client) (who : Speaker) where
   pub events_add : (more : List Notice) → AreEvents more → AddsNothing net who more
-  events_add more h = record { others = quiet_others net who more (events_quiet more h); bytes = no_bytes more h; address = no_address more h }
+  events_add more h = record { others = quiet_others net who more (events_quiet more h); bytes = no_bytes more h; address = no_address more h; blocks = no_blocks more h; answer = no_answer more h }
 
   -- before more, and both
   pub others_more : (ns more : List Notice) → AddsNothing net who more → without_graph (told_records net who (ns ++ more)) ≡ without_graph (told_records net who ns)
@@ -112,4 +114,6 @@ module _ (net : Client) (who : Speaker) where
     others = others_more xs ys q ∙ p.others;
     bytes = bytes_then xs ys q.bytes ∙ p.bytes;
     address = address_then xs ys q.address ∙ p.address;
+    blocks = blocks_then xs ys q.blocks ∙ p.blocks;
+    answer = answer_then xs ys q.answer ∙ p.answer;
   }

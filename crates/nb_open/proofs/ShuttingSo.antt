@@ -53,7 +53,11 @@ use Rattle.nb_open.proofs.Endings.{ObjectsGive, close_of_objects, closes_open, e
 use Rattle.nb_open.proofs.Keepings.{closed_keeps}
 use Rattle.nb_open.proofs.Leaving.{freed_above, leaving_events}
 use Rattle.nb_open.proofs.Quiet.{events_add, others_more, quiet_above, quiet_others}
-use Rattle.nb_open.proofs.Receiving.{lives_open, under_way_by, web_open}
+use Rattle.nb_open.proofs.Receiving.{drive_at, drive_under, lives_open, under_way_by, web_open}
+use Rattle.nb_drivechains.specs.declared.drive_chain.DriveChain.{DriveChain}
+use Rattle.nb_drivechains.specs.DriveChains.{drive_ids, three_of}
+use Rattle.nb_open.proofs.DriveCloses.{drive_closed_keeps}
+use Rattle.nb_open.proofs.DriveOrders.{IsDriveAt, drive_closing_order}
 use Rattle.nb_open.proofs.WebCloses.{web_closed_keeps}
 
 -- NOTHING WAITS
@@ -151,6 +155,23 @@ module _ (who : Speaker) (port : ℕ) (own : Ip4) (c : WebChain) (cause : Cause)
         keeps = λ l is. subst (λ z. Keeps (closed_open l cause link z)) (sym (others_more link who k.closes.ns let_go adds)) (web_closed_keeps who port own c l old k.closed link m k.heard cause is k.closes);
       }
 
+module _ (who : Speaker) (port : ℕ) (own : Ip4) (c : DriveChain) (cause : Cause) (link : Client) (old new : Objects Obj) (m n : Heard) (is_open : IsOpenWeb (three_of c) old) (at : IsDriveAt c old) (k : ShutsWeb (three_of c) old new cause m n) where
+  drive_alone : ShutsAlone (record { speaker = who; objects = objects.Drive port own c }) cause link old new m n (k.closes.ns ++ (k.free ++ freed_each (drive_ids c)))
+  drive_alone =
+      let ids = drive_ids c in
+      let let_go = k.free ++ freed_each ids in
+      let first = k.closes.first is_open in
+      let adds = events_add link who let_go (events_both k.free (freed_each ids) (free_events k.free k.are) (leaving_events (objects.Drive port own c))) in
+      let then_order : AreInOrder c.conn.0 None let_go = order_more c.conn.0 None k.free (freed_each ids) (above_order c.conn.0 k.free (free_above c.conn.0 k.free k.are)) (above_order c.conn.0 (freed_each ids) (freed_above c.conn.0 ids)) in
+      record {
+        gives = k.gives;
+        order = order_more c.conn.0 None k.closes.ns let_go (drive_closing_order c old k.closed m k.heard cause is_open at k.closes) then_order;
+        begins = (port_at c.unit.0 0, first.0 ++ let_go, ap (λ z. z ++ let_go) first.1);
+        closes = ap (λ z. first_close (z ++ let_go)) first.1;
+        released = k.released;
+        keeps = λ l is. subst (λ z. Keeps (closed_open l cause link z)) (sym (others_more link who k.closes.ns let_go adds)) (drive_closed_keeps who port own c l old k.closed link m k.heard cause is k.closes);
+      }
+
 -- SOMETHING WAITS
 
 -- the close of a port of another, and of one of these
@@ -237,10 +258,20 @@ module _ (kind : ChainKind) (who : Speaker) (cause : Cause) (link : Client) (old
       shuts_alone kind (record { speaker = who; objects = objects.Web port own c }) cause link old new m n s ns (web_alone who port own c cause link old new m n open_web.0 open_web.1 k) (told_is link who before last s ns same_net same_who blank k.gives.given same whole)
   web_shuts (Some w) port own c some shuts l is = absurd (cc)
 
+  drive_shuts : (waits : Option Chain) (port : ℕ) (own : Ip4) (c : DriveChain) → waits ≡ None → (IsOpenWeb (three_of c) old → WaitsApart waits (objects.Drive port own c) → ShutsWeb (three_of c) old new cause m n) →
+      (l : Live) → IsOpenOf old (record { speaker = who; objects = objects.Drive port own c }) l → ShutsWith kind (record { speaker = who; objects = objects.Drive port own c }) waits cause link old new s
+  drive_shuts None port own c none shuts l is =
+      let under = drive_under l.kind own c old l is.under_way in
+      let k = shuts under.0 tt in
+      let ns = k.closes.ns ++ (k.free ++ freed_each (drive_ids c)) in
+      shuts_alone kind (record { speaker = who; objects = objects.Drive port own c }) cause link old new m n s ns (drive_alone who port own c cause link old new m n under.0 (drive_at l.kind own c old l is.chained is.under_way) k) (told_is link who before last s ns same_net same_who blank k.gives.given same whole)
+  drive_shuts (Some w) port own c some shuts l is = absurd (cc)
+
   shuts_by : (waits : Option Chain) (os : OpenObjects) → AwaitsFor kind waits old → MayWaitBeside waits os → (AreObjectsOpen os old → WaitsApart waits os → ShutsOr waits os old new cause m n) →
       (l : Live) → IsOpenOf old (record { speaker = who; objects = os }) l → ShutsWith kind (record { speaker = who; objects = os }) waits cause link old new s
   shuts_by waits (objects.Chain own_kind own) awaits may shuts l is = chain_shuts waits own_kind own awaits shuts l is
   shuts_by waits (objects.Web port own c) awaits none shuts l is = web_shuts waits port own c none shuts l is
+  shuts_by waits (objects.Drive port own c) awaits none shuts l is = drive_shuts waits port own c none shuts l is
 
 pub shuts_so : (kind : ChainKind) (o : Open) (waits : Option Chain) (cause : Cause) (link : Client) (old new : Objects Obj) (before last : Teller) (s : Spelling) → AreNoded rank_of_obj old → before.net.now ≡ link → before.who.now ≡ o.speaker → IsBlank before.told.value →
     s ≡ last.told.value → IsWholeSpelling s → AwaitsFor kind waits old → MayWaitBeside waits o.objects → (AreObjectsOpen o.objects old → WaitsApart waits o.objects → ShutsOr waits o.objects old new cause (told_so_far before) (told_so_far last)) →

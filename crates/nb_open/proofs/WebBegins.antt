@@ -45,7 +45,7 @@ use Rattle.nb_open.specs.declared.objects.OpenObjects.TheVariants as objects
 use Rattle.nb_open.specs.declared.open.Open.{Open}
 use Rattle.nb_open.specs.declared.opening.Opening.{Opening}
 use Rattle.nb_open.specs.declared.opening.WebOpening.{WebOpening}
-use Rattle.nb_open.specs.declared.opening.Opening.TheVariants.{File, Web, Name, Lease, Echo}
+use Rattle.nb_open.specs.declared.opening.Opening.TheVariants.{File, Web, Drive, Name, Lease, Echo}
 use Rattle.nb_open.specs.Ends.{closed_open}
 use Rattle.nb_open.specs.Making.{AsksWeb}
 use Rattle.nb_open.specs.Open.{IsOpenOf, IsSpeakerOf, IsTalkingWeb, ask_of}
@@ -94,11 +94,12 @@ module _ (a : WebOpening) (number now : ℕ) (link : Client) (o : Open) (port : 
       record {
         none = none;
         under_way = talking;
+        up = tt;
         found = λ no. ap (λ k. first_of link k first) called.number ∙ h.found no;
         lost = λ yes. (ap (λ k. first_of link k first) called.number ∙ (h.lost yes).0, (h.lost yes).1);
       }
 
-stays_open : (c : WebChain) (g : Objects Obj) (ns : List Notice) → first_close ns ≡ None → ComesOfWeb c g ns → IsOpenWeb c g
+pub stays_open : (c : WebChain) (g : Objects Obj) (ns : List Notice) → first_close ns ≡ None → ComesOfWeb c g ns → IsOpenWeb c g
 stays_open c g ns none (goes_on still is_open) = is_open
 stays_open c g ns none (has_closed cause closes shut) = absurd (let z : None ≡ Some cause = sym none ∙ closes in cc)
 
@@ -118,18 +119,19 @@ module _ (number now : ℕ) (link : Client) (o : Open) (port : ℕ) (own : Ip4) 
   pub web_begins : (a : Opening) (k : AsksWeb a c old mid now rec m n) → is_web a ≡ true → CanOpen a → own ≡ address_by a → IsSpeakerOf o (live_by a number now) → SetsOrFails a number now link o (objects.Web port own c) mid k.does.ns
   web_begins (File a) k is can from called = absurd (cc)
   web_begins (Web a) k is can from called = asked_by a k can from called
+  web_begins (Drive a) k is can from called = absurd (cc)
   web_begins (Name a) k is can from called = absurd (cc)
   web_begins (Lease a) k is can from called = absurd (cc)
   web_begins (Echo a) k is can from called = absurd (cc)
 
 -- WHERE IT FOUND NO ROUTE
 
-only_last : (xs : List Out) (e : Out) → xs ++ e ∷ [] ≡ e ∷ [] → xs ≡ []
+pub only_last : (xs : List Out) (e : Out) → xs ++ e ∷ [] ≡ e ∷ [] → xs ≡ []
 only_last [] e h = refl
 only_last (x ∷ []) e h = absurd (cc)
 only_last (x ∷ y ∷ xs) e h = absurd (cc)
 
-no_first : (b : Bool) (outs : List Out) → cond b (Some outs) None ≡ None → b ≡ false
+pub no_first : (b : Bool) (outs : List Out) → cond b (Some outs) None ≡ None → b ≡ false
 no_first true outs h = absurd (cc)
 no_first false outs h = refl
 
@@ -138,7 +140,7 @@ none_sent true outs h = absurd (cc)
 none_sent false outs h = refl
 
 -- a close puts nothing then
-closing_puts : {T : Type 0} (c : Connection) (link : Client) (isn : ℕ) (d : Talk T) (cause : Cause) → has_route link (syn_message c) ≡ false → put_records c link (close_put isn d cause) ≡ ended c.number cause ∷ []
+pub closing_puts : {T : Type 0} (c : Connection) (link : Client) (isn : ℕ) (d : Talk T) (cause : Cause) → has_route link (syn_message c) ≡ false → put_records c link (close_put isn d cause) ≡ ended c.number cause ∷ []
 closing_puts c link isn d cause lost =
     let segment : SendTo = outgoing_message c.link (closing_segment isn (phase_of isn d)) in
     ap (λ z. (z ++ []) ++ ended c.number cause ∷ []) (none_sent (has_route link segment) (try_records c.number None ++ (sent (put_on link segment (way_of link segment)) ∷ [])) lost)
@@ -153,6 +155,7 @@ web_closes_silent (Web a) number now link o port own c mid new cause m n is live
     let first : KeepsAt _ (connection_of a.ask.conn.isn l) [] _ = keeps.0 in
     let no : has_route link (syn_message (connection_of a.ask.conn.isn l)) ≡ false = no_first (has_route link (syn_message (connection_of a.ask.conn.isn l))) _ lost in
     only_last put (ended number cause) (first.records ∙ (ap (put_records (connection_of a.ask.conn.isn l) link) first.puts ∙ closing_puts (connection_of a.ask.conn.isn l) link a.ask.conn.isn (talk_of (web_talking l.target) (connection_of a.ask.conn.isn l) []) cause no))
+web_closes_silent (Drive a) number now link o port own c mid new cause m n is lives closes lost = absurd (cc)
 web_closes_silent (Name a) number now link o port own c mid new cause m n is lives closes lost = absurd (cc)
 web_closes_silent (Lease a) number now link o port own c mid new cause m n is lives closes lost = absurd (cc)
 web_closes_silent (Echo a) number now link o port own c mid new cause m n is lives closes lost = absurd (cc)

@@ -58,11 +58,13 @@ module _ (who : Speaker) (link : Client) (isn : ℕ) (own : Ip4) (c : WebChain) 
     -- nothing is put where there is no route
     pub closing_hushed : has_route link closing ≡ false → AddsNothing link who k.ns
     closing_hushed lost =
-        let none = none_delivered k.ns (subst (AllByRecursion DeliversNone) (sym says) ((refl, refl), tt)) in
+        let none = none_delivered k.ns (subst (AllByRecursion DeliversNone) (sym says) ((refl, refl, refl), tt)) in
         record {
           others = closing_puts ∙ ap (λ b. cond b (sent (put_on link closing (way_of link closing)) ∷ []) []) lost;
           bytes = none.0;
           address = none.1;
+          blocks = none.2;
+          answer = none.3;
         }
 
 -- ITS PROMISE

@@ -6,7 +6,7 @@ use Rattle.std.proofs.lemmas.List.Concat.{flat_map-append}
 use Rattle.nb_terms.specs.declared.cause.Cause.{Cause}
 use Rattle.nb_defs.specs.Causes.{is_ok_cause}
 use Rattle.nb_defs.specs.Records.{Out}
-use Rattle.nb_ledger.specs.Flat.{Heard, Notice, message}
+use Rattle.nb_ledger.specs.Flat.{Heard, Notice}
 use Rattle.nb_terms.specs.declared.acts.SendTo.{SendTo}
 use Rattle.nb_conns.specs.ConnEffects.{segments_say}
 use Rattle.nb_graph.specs.Noded.{AreNoded}
@@ -66,9 +66,9 @@ calls_more isn l x c some is =
 -- segments deliver nothing
 pub segments_deliver_none : (rec : ℕ) (try : Option ℕ) (sends : List SendTo) → AllByRecursion DeliversNone (segments_say rec try sends)
 segments_deliver_none rec try [] = tt
-segments_deliver_none rec None (s ∷ []) = ((refl, refl), tt)
-segments_deliver_none rec (Some n) (s ∷ []) = ((refl, refl), tt)
-segments_deliver_none rec try (s ∷ (t ∷ sends)) = ((refl, refl), tt)
+segments_deliver_none rec None (s ∷ []) = ((refl, refl, refl), tt)
+segments_deliver_none rec (Some n) (s ∷ []) = ((refl, refl, refl), tt)
+segments_deliver_none rec try (s ∷ (t ∷ sends)) = ((refl, refl, refl), tt)
 
 -- A CALL
 
@@ -163,6 +163,8 @@ module _ (who : Speaker) (port : ℕ) (own : Ip4) (c : WebChain) (l : Live) (old
               };
           stuck = λ lacks. kept (last_by o l link ns (no_route l.server)) (ends_by (Some (no_route l.server)) (end_is None true over (sym k.lacks ∙ lacks)));
           silent = k.silent;
+          answers = λ any put. tt;
+          up = tt;
           kinds = k.kinds;
           hushed = hush over is_open;
         }
@@ -179,6 +181,8 @@ module _ (who : Speaker) (port : ℕ) (own : Ip4) (c : WebChain) (l : Live) (old
           bytes = ap (λ z. granted_of z (with_exchange l came link last).exchanges) k.kind ∙ sym k.silent;
           address = ap (λ z. resolved_of z (with_exchange l came link last)) k.kind ∙ sym k.unfound;
           message = λ bytes some. absurd (let no : Some bytes ≡ None = sym some ∙ k.silent in cc);
+          answers = λ any put. tt;
+          up = tt;
         }
 
     by_end : (over : Option Cause) → put.over ≡ over → Did o l came link new ns

@@ -19,18 +19,28 @@ use Rattle.nb_teller.specs.declared.speaker.Carrier.TheVariants.{Tcp}
 use Rattle.nb_teller.specs.Speakers.{carrier_number, datagram_of}
 use Rattle.nb_teller.specs.Tellings.{any_lacks_route, message_lacks_route, message_records, told_records}
 use Rattle.nb_webtalks.specs.Tellings.{messages_of}
-use Rattle.nb_teller.specs.Deliveries.{delivered_address, delivered_bytes}
+use Rattle.std.specs.Option.{option_or}
+use Rattle.nb_drivechains.specs.declared.drive_answer.DriveAnswer.{DriveAnswer}
+use Rattle.nb_teller.specs.Deliveries.{delivered_address, delivered_answer, delivered_blocks, delivered_bytes}
 use Rattle.nb_open.proofs.Callings.{of_message, puts_aside}
 use Rattle.nb_open.proofs.Delivering.{DeliversNone}
 
--- where no message is bytes or an address, nothing is delivered
-pub none_delivered : (ns : List Notice) → AllByRecursion DeliversNone (messages_of ns) → (delivered_bytes ns ≡ None) × (delivered_address ns ≡ None)
-unfolding delivered_bytes delivered_address
-none_delivered [] h = (refl, refl)
+-- nothing is delivered
+abbrev pub DeliverNothing : List Notice → Type 0
+DeliverNothing ns = (delivered_bytes ns ≡ None) × (delivered_address ns ≡ None) × (delivered_blocks ns ≡ []) × (delivered_answer ns ≡ None)
+
+-- where no message is bytes, an address or an answer, nothing is delivered
+pub none_delivered : (ns : List Notice) → AllByRecursion DeliversNone (messages_of ns) → DeliverNothing ns
+unfolding delivered_bytes delivered_address delivered_blocks delivered_answer
+none_delivered [] h = (refl, refl, refl, refl)
 none_delivered (event e ∷ ns) h = none_delivered ns h
 none_delivered (message from tag rec a b bytes ∷ ns) h =
-    let later = none_delivered ns h.1 in
-    (ap (λ z. cond z (Some bytes) (delivered_bytes ns)) h.0.0 ∙ later.0, ap (λ z. cond z (Some (record { 0 = a })) (delivered_address ns)) h.0.1 ∙ later.1)
+    let later = none_delivered ns h.1 in (
+      ap (λ z. cond z (Some bytes) (delivered_bytes ns)) h.0.0 ∙ later.0,
+      ap (λ z. cond z (Some (record { 0 = a })) (delivered_address ns)) h.0.1 ∙ later.1,
+      ap (λ z. cond z (bytes ++ delivered_blocks ns) (delivered_blocks ns)) h.0.0 ∙ later.2,
+      ap (λ z. option_or (cond z (let answer : DriveAnswer = record { blocks = a; chap = b } in Some answer) None) (delivered_answer ns)) h.0.2 ∙ later.3,
+    )
 
 -- who speaks for a connection sends its segments
 pub speaks_on : (who : Speaker) (l : Link) (o : Outgoing) → who.carrier ≡ Tcp → who.server ≡ l.peer → who.own_port ≡ l.own_port → datagram_of who l.peer_port (outgoing_message l o).body.items ≡ outgoing_message l o

@@ -33,8 +33,7 @@ use Rattle.nb_talks.specs.TalkPromises.{Put, Sends, closes_by, segment_put}
 use Rattle.nb_tcp.specs.ConnPromises.{last_try}
 use Rattle.nb_tcp.specs.declared.link.Link.{Link}
 use Rattle.nb_tcp.specs.Messages.{outgoing_message}
-use Rattle.nb_tcpseg.specs.SegmentText.{IsSegment, SegmentParts}
-use Rattle.nb_tcpseg.proofs.HeaderLemmas.{laid_out}
+use Rattle.nb_tcpseg.specs.SegmentText.{IsLaidOut, SegmentParts}
 use Rattle.nb_machine.specs.Connections.{Connection, PutsAt, came_on, connection_of, talk_of}
 use Rattle.nb_machine.specs.Kinds.{fetched_by, moved_by}
 use Rattle.nb_machine.specs.Lives.{Exchange, Live, exchange, http, tcp_segment}
@@ -43,7 +42,6 @@ use Rattle.nb_webs.specs.Webs.{NoTask, response_come, web_put}
 use Rattle.nb_webs.proofs.WebLaws.{ok_is_whole, says_once, web_puts}
 use Rattle.nb_teller.specs.declared.speaker.Speaker.{Speaker}
 use Rattle.nb_wire.specs.declared.address.Ip4.{Ip4}
-use Rattle.nb_command.specs.SettingAddresses.{host}
 use Rattle.nb_webchains.specs.declared.web_chain.WebChain.{WebChain}
 use Rattle.nb_webchains.specs.WebCalls.{DoesWeb, receives_web}
 use Rattle.nb_webchains.specs.WebChains.{web_ids}
@@ -56,7 +54,6 @@ use Rattle.nb_webtalks.proofs.Starting.{are_hosted}
 use Rattle.nb_open.specs.declared.objects.OpenObjects.TheVariants as objects
 use Rattle.nb_open.specs.declared.open.Open.{Open}
 use Rattle.nb_open.specs.Exchanges.{SuitsBy, with_exchange}
-use Rattle.nb_open.specs.Objects.{HasOwnAddress}
 use Rattle.nb_open.specs.Open.{IsOpenOf, IsTalkingWeb, IsWebUnderWay, ask_of, carrier_for}
 use Rattle.nb_open.proofs.Doings.{Brings, Did, fails}
 use Rattle.nb_open.proofs.Callings.{each_append}
@@ -65,11 +62,11 @@ use Rattle.nb_open.proofs.WebExchanges.{calls_more, segments_deliver_none, web_d
 use Rattle.nb_open.proofs.WebPuts.{none_delivered, lacks_messages, put_messages, said_lacks, said_records}
 use Rattle.nb_open.proofs.WebRecords.{segment_lacks, segment_puts}
 
-place_delivers_none : (rec : ℕ) (place : Option ℕ) → AllByRecursion DeliversNone (place_says rec place)
+pub place_delivers_none : (rec : ℕ) (place : Option ℕ) → AllByRecursion DeliversNone (place_says rec place)
 place_delivers_none rec None = tt
-place_delivers_none rec (Some k) = ((refl, refl), tt)
+place_delivers_none rec (Some k) = ((refl, refl, refl), tt)
 
-sends_deliver_none : (l : Link) (rec : ℕ) (sends : Sends) → AllByRecursion DeliversNone (sends_say l rec sends)
+pub sends_deliver_none : (l : Link) (rec : ℕ) (sends : Sends) → AllByRecursion DeliversNone (sends_say l rec sends)
 sends_deliver_none l rec sends = segments_deliver_none rec (last_try sends) (map (λ s. outgoing_message l s.0) sends)
 
 says_deliver_none : (a : ConnAsk) (calls : List TcpCall) (m : Incoming) (now : ℕ) → AllByRecursion DeliversNone (segment_says a calls m now)
@@ -80,8 +77,8 @@ says_deliver_none a calls m now =
     each_append DeliversNone place (sends_say (link_of a) m.rec called ++ sends_say (link_of a) 0 closing) (place_delivers_none m.rec (web_put a.isn calls m now).advance)
     (each_append DeliversNone (sends_say (link_of a) m.rec called) (sends_say (link_of a) 0 closing) (sends_deliver_none (link_of a) m.rec called) (sends_deliver_none (link_of a) 0 closing))
 
-module _ (who : Speaker) (port : ℕ) (own : Ip4) (c : WebChain) (l : Live) (old new : Objects Obj) (link : Client) (m n : Heard) (rec : ℕ) (a : Arrival) (now isn : ℕ) (at : Ip4) (g : SegmentParts) (of : l.kind ≡ http isn) (suits : SuitsBy l.kind l a)
-    (has : HasOwnAddress (objects.Web port own c) at) (segment : IsSegment a.source at a.body.now g) (short : length a.body.now ≤ 65535) (is : IsOpenOf old (record { speaker = who; objects = objects.Web port own c }) l)
+module _ (who : Speaker) (port : ℕ) (own : Ip4) (c : WebChain) (l : Live) (old new : Objects Obj) (link : Client) (m n : Heard) (rec : ℕ) (a : Arrival) (now isn : ℕ) (g : SegmentParts) (of : l.kind ≡ http isn) (suits : SuitsBy l.kind l a)
+    (laid : IsLaidOut a.body.now g) (short : length a.body.now ≤ 65535) (is : IsOpenOf old (record { speaker = who; objects = objects.Web port own c }) l)
     (k : DoesWeb c now (receives_web c rec a) (Some (Entered (port_at c.conn.0 1) way.Up)) old new m n) where
   abbrev o : Open
   o = record { speaker = who; objects = objects.Web port own c }
@@ -113,8 +110,7 @@ module _ (who : Speaker) (port : ℕ) (own : Ip4) (c : WebChain) (l : Live) (old
   -- what comes of it to the three
   comes : SegmentComes ask l.since talk.calls c new arr now k.ns
   comes =
-      segments ask l.since talk.calls c old new rec now a g (Some (Entered (port_at c.conn.0 1) way.Up)) m n k (record { was = is.chained; is = k.still; hosted = talks.hosted; noded = k.noded; opened = talks.opened; kinds = talks.kinds }) talks.stands from.1 from.0
-      (laid_out a.source at a.body.now g segment) (omega (arith, short))
+      segments ask l.since talk.calls c old new rec now a g (Some (Entered (port_at c.conn.0 1) way.Up)) m n k (record { was = is.chained; is = k.still; hosted = talks.hosted; noded = k.noded; opened = talks.opened; kinds = talks.kinds }) talks.stands from.1 from.0 laid (omega (arith, short))
 
   -- it is what the promise puts
   puts : PutsAt (web_talking l.target) conn talk (tcp_segment rec g now) put

@@ -47,7 +47,7 @@ pub data AreFew : Sends → Type 0 where
   one_sent : (s : Outgoing × Option ℕ) → AreFew (s ∷ [])
   two_sent : (o : Outgoing) (s : Outgoing × Option ℕ) → IsFirst s.1 → AreFew ((o, None) ∷ (s ∷ []))
 
-few_if : (b : Bool) (s : Outgoing × Option ℕ) → AreFew (only_if b s)
+pub few_if : (b : Bool) (s : Outgoing × Option ℕ) → AreFew (only_if b s)
 few_if true s = one_sent s
 few_if false s = none_sent
 
@@ -67,7 +67,7 @@ pub few_calls : (isn : ℕ) (p : ConnPhase) (s : Incoming) → AreFew (calls_for
 few_calls isn (asking text) s = few_either _ _ _ (few_then _ _ _ (inr refl)) (few_if _ _)
 few_calls isn (flowing f) s = few_either _ _ _ (few_either _ _ _ (two_sent _ _ (inl refl)) (few_both _ _ _ _ (inr refl))) (few_if _ _)
 
-few_closes : (ends other : Option Cause) (isn : ℕ) (p : ConnPhase) → AreFew (closes_by ends other isn p)
+pub few_closes : (ends other : Option Cause) (isn : ℕ) (p : ConnPhase) → AreFew (closes_by ends other isn p)
 few_closes None other isn p = none_sent
 few_closes (Some x) None isn p = one_sent _
 few_closes (Some x) (Some y) isn p = none_sent
@@ -179,11 +179,11 @@ module _ (net : Client) (who : Speaker) (c : Connection) (number : who.number �
 
   -- A CALL
 
-  place_records : (rec : ℕ) (place : Option ℕ) → flat_map (said_records net who) (place_says rec place) ≡ advance_records c.number place
+  pub place_records : (rec : ℕ) (place : Option ℕ) → flat_map (said_records net who) (place_says rec place) ≡ advance_records c.number place
   place_records rec None = refl
   place_records rec (Some k) = ap (λ n. advance_records n (Some k)) number
 
-  place_lacks : (rec : ℕ) (place : Option ℕ) → list_any (said_lacks net who) (place_says rec place) ≡ false
+  pub place_lacks : (rec : ℕ) (place : Option ℕ) → list_any (said_lacks net who) (place_says rec place) ≡ false
   place_lacks rec None = refl
   place_lacks rec (Some k) = refl
 

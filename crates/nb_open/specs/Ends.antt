@@ -27,6 +27,7 @@ use Rattle.nb_open.specs.declared.open.Open.{Open}
 use Rattle.nb_machine.specs.Kinds.{Keeps}
 use Rattle.nb_machine.specs.Takings.{end_among}
 use Rattle.nb_webchains.specs.WebCalls.{ShutsWeb}
+use Rattle.nb_drivechains.specs.DriveChains.{three_of}
 use Rattle.nb_open.specs.declared.objects.OpenObjects.{OpenObjects}
 use Rattle.nb_open.specs.declared.objects.OpenObjects.TheVariants as objects
 use Rattle.nb_open.specs.Objects.{AreObjectsReleased, objects_ids}
@@ -59,10 +60,11 @@ abbrev pub WaitsApart : Option Chain → OpenObjects → Type 0
 WaitsApart None o = Unit {0}
 WaitsApart (Some w) o = AreOthers (objects_ids o) (chain_ids w)
 
--- what waits does so beside the look-up of a name, so never beside an open by HTTP
+-- what waits does so beside the look-up of a name, so never beside an open on a connection
 abbrev pub MayWaitBeside : Option Chain → OpenObjects → Type 0
 MayWaitBeside waits (objects.Chain kind chain) = Unit {0}
 MayWaitBeside waits (objects.Web port own chain) = waits ≡ None
+MayWaitBeside waits (objects.Drive port own chain) = waits ≡ None
 
 abbrev pub ShutsChainOr : Option Chain → Chain → Objects Obj → Objects Obj → Cause → Heard → Heard → Type 0
 ShutsChainOr None c old new cause before after = ShutsChain c old new cause before after
@@ -72,6 +74,7 @@ ShutsChainOr (Some w) c old new cause before after = ShutsChainBeside c w old ne
 abbrev pub ShutsOr : Option Chain → OpenObjects → Objects Obj → Objects Obj → Cause → Heard → Heard → Type 0
 ShutsOr waits (objects.Chain kind chain) old new cause before after = ShutsChainOr waits chain old new cause before after
 ShutsOr waits (objects.Web port own chain) old new cause before after = ShutsWeb chain old new cause before after
+ShutsOr waits (objects.Drive port own chain) old new cause before after = ShutsWeb (three_of chain) old new cause before after
 
 -- The run ends: all ports of its objects are closed, first those of what waits, and all are let go.
 pub record ShutsWith (kind : ChainKind) (o : Open) (waits : Option Chain) (cause : Cause) (link : Client) (old new : Objects Obj) (s : Spelling) : Type 0 where

@@ -15,9 +15,9 @@ use Rattle.nb_machine.specs.Kinds.{Keeps, fetched, moved, granted, is_connection
 use Rattle.nb_machine.specs.Takings.{end_among}
 use Rattle.nb_traced.specs.Outputs.{CallsOpen, own_serials}
 use Rattle.nb_traced.specs.Pieces.{first_close_of}
-use Rattle.nb_tcpseg.specs.SegmentText.{SegmentParts, IsSegment}
-use Rattle.nb_wire.specs.declared.address.Ip4.{Ip4}
-use Rattle.nb_open.specs.Objects.{AreObjectsReleased, AreObjectsStill, HasOwnAddress}
+use Rattle.nb_tcpseg.specs.SegmentText.{SegmentParts, IsLaidOut}
+use Rattle.nb_open.specs.DriveAnswers.{AnswersBy, found_bytes}
+use Rattle.nb_open.specs.Objects.{AreObjectsReleased, AreObjectsStill}
 use Rattle.nb_teller.specs.Spelling.{Spelling}
 use Rattle.nb_open.specs.declared.open.Open.{Open}
 use Rattle.nb_open.specs.declared.ended.Ended.{Ended}
@@ -33,12 +33,11 @@ SuitsBy (dns id) l a = (a.source.0 ≡ l.server) × (a.port ≡ 53)
 SuitsBy (dhcp x) l a = a.port ≡ 67
 SuitsBy ping l a = (a.source.0 ≡ l.server) × (a.port ≡ l.own)
 
--- What comes to the open by it: a segment whose bytes these are, between both ends of its connection; else the body of a datagram or of an echo, which
--- is no longer than a frame carries.
+-- What comes to the open by it: to a connection the segment that the bytes are laid out as; else the body of a datagram or of an echo, which is no
+-- longer than a frame carries.
 pub data IsInput (o : Open) (l : Live) (rec : ℕ) (a : Arrival) (now : ℕ) : OpenInput → Type 0 where
   by_message : is_connection l.kind ≡ false → SuitsBy l.kind l a → length a.body.now ≤ 1480 → IsInput o l rec a now (message rec a.port a.body.now now)
-  by_segment : (isn : ℕ) (own : Ip4) (g : SegmentParts) → l.kind ≡ http isn → SuitsBy l.kind l a → HasOwnAddress o.objects own → IsSegment a.source own a.body.now g
-      → IsInput o l rec a now (tcp_segment rec g now)
+  by_segment : (g : SegmentParts) → is_connection l.kind ≡ true → SuitsBy l.kind l a → IsLaidOut a.body.now g → IsInput o l rec a now (tcp_segment rec g now)
 
 -- the open with what came, and what it put then
 abbrev pub with_exchange : Live → OpenInput → Client → List Out → Live
@@ -58,10 +57,10 @@ abbrev pub last_put : Live → List Out → Cause → List Out
 last_put l records cause = without_graph records ++ (ended l.number cause ∷ [])
 
 -- where it has ended well, what it has fetched or found was handed out
-pub record HandsOut (l : Live) (e : Ended) (s : Spelling) : Type 0 where
+pub record HandsOut (o : Open) (l : Live) (e : Ended) (s : Spelling) : Type 0 where
   pub body : e.moved ≡ None → fetched l ≡ unwrap_or e.body []
   pub moved : moved l ≡ e.moved
-  pub bytes : granted l ≡ s.bytes
+  pub bytes : granted l ≡ found_bytes o.objects s.bytes
   pub address : resolved l ≡ s.address
 
 -- what was handed out is a message of DHCP, if anything was
@@ -75,15 +74,16 @@ pub record ExchangesLast (o : Open) (l : Live) (came : OpenInput) (link : Client
   pub released : AreObjectsReleased o.objects old new
   pub call : CallsOpen (kin_of o) way records (run_state old.book []) (run_state new.book [])
   pub close : first_close_of (own_serials (kin_of o)) records ≡ Some e.cause
-  pub hands : is_ok_cause e.cause ≡ true → HandsOut (with_exchange l came link (last_put l records e.cause)) e s
-  pub message : IsLeaseMessage s.bytes
+  pub hands : is_ok_cause e.cause ≡ true → HandsOut o (with_exchange l came link (last_put l records e.cause)) e s
+  pub message : IsLeaseMessage (found_bytes o.objects s.bytes)
 
 abbrev pub ExchangesBy : Option Ended → Open → Live → OpenInput → Client → Option Way → Objects Obj → Objects Obj → List Out → Spelling → Type 0
 ExchangesBy None o l came link way old new records s = ExchangesOn o l came link way old new records
 ExchangesBy (Some e) o l came link way old new records s = ExchangesLast o l came link way old new records e s
 
--- what was spelled is what the exchange says, whatever the open has received so far
+-- what was spelled is what the exchange says, whatever the open has received so far, and of a drive what it has answered
 pub record Exchanges (o : Open) (l : Live) (came : OpenInput) (link : Client) (way : Option Way) (old new : Objects Obj) (s : Spelling) (e : Option Ended) : Type 0 where
   pub records : List Out
   pub text : s.text ≡ out_texts records
   pub does : ExchangesBy e o l came link way old new records s
+  pub answers : (any : Client) (put : List Out) → AnswersBy e o.objects came l (with_exchange l came any put) s.answer s.blocks

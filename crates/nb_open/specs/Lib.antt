@@ -1,5 +1,7 @@
+pub mod DriveBytes
 pub mod Opening
 pub mod Objects
+pub mod DriveAnswers
 pub mod Open
 pub mod Settling
 pub mod Exchanges

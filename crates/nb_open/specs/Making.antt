@@ -27,6 +27,9 @@ use Rattle.nb_open.specs.declared.opening.Opening.{Opening}
 use Rattle.nb_open.specs.declared.opening.Opening.TheVariants as asked
 use Rattle.nb_open.specs.Begins.{IsLatest, SetsOutOr}
 use Rattle.nb_chains.specs.declared.kind.ChainKind.TheVariants.{File}
+use Rattle.nb_drivechains.specs.declared.drive_chain.DriveChain.{DriveChain}
+use Rattle.nb_drivechains.specs.DriveChains.{IsReadyDrive, drive_ids, drive_notices, three_of, unit_notices}
+use Rattle.nb_drivenodes.specs.DriveAsks.{ask_parts_of, drive_ask_in}
 use Rattle.nb_webchains.specs.declared.web_chain.WebChain.{WebChain}
 use Rattle.nb_webchains.specs.Plugs.{web_notices}
 use Rattle.nb_webchains.specs.WebChains.{GrowsTo, IsReadyWeb, web_ids}
@@ -35,7 +38,7 @@ use Rattle.nb_webnodes.specs.WebAsks.{ask_parts, web_ask_in}
 use Rattle.nb_open.specs.declared.objects.OpenObjects.{OpenObjects}
 use Rattle.nb_open.specs.declared.objects.OpenObjects.TheVariants as objects
 use Rattle.nb_open.specs.Objects.{AreObjectsReleased, AreObjectsStill}
-use Rattle.nb_open.specs.Opening.{address_by, chain_kind, is_web, port_by}
+use Rattle.nb_open.specs.Opening.{address_by, chain_kind, is_drive, is_joined, is_web, port_by}
 
 -- how many are made
 abbrev pub count_made : Option Chain → ChainKind → ℕ
@@ -98,17 +101,36 @@ pub record MakesWeb (waits : Option Chain) (c : WebChain) (old new : Objects Obj
   pub noded : AreNoded rank_of_obj new
   pub newest : IsLatest waits old → IsNewest (run_state new.book []) c.conn.0
 
+-- The same of a drive: three, or the two below a unit that waits.
+abbrev pub making_drive_notices : Option Chain → DriveChain → List Notice
+making_drive_notices None c = unit_notices c.unit ++ drive_notices c
+making_drive_notices (Some w) c = drive_notices c
+
+pub record DriveMade (waits : Option Chain) (c : DriveChain) (old new : Objects Obj) (before after : Heard) : Type 0 where
+  pub ready : IsReadyDrive c new
+  pub gives : WebMakes (three_of c) old new before after (making_drive_notices waits c)
+  pub top : IsFetchOf waits old (three_of c)
+  pub grows : GrowsTo (count_made_web waits) (drive_ids c) old new
+
+pub record MakesDrive (waits : Option Chain) (c : DriveChain) (old new : Objects Obj) (before after : Heard) : Type 0 where
+  pub made : DriveMade waits c old new before after
+  pub noded : AreNoded rank_of_obj new
+  pub newest : IsLatest waits old → IsNewest (run_state new.book []) c.conn.0
+
 -- They were made for what is asked.
 abbrev pub MakesObjectsOf : Opening → Option Chain → OpenObjects → Objects Obj → Objects Obj → Heard → Heard → Type 0
 MakesObjectsOf a waits (objects.Chain kind chain) old new before after =
-    (is_web a ≡ false) × (kind ≡ chain_kind a) × MakesChain kind waits chain old new before after
+    (is_joined a ≡ false) × (kind ≡ chain_kind a) × MakesChain kind waits chain old new before after
 MakesObjectsOf a waits (objects.Web port own chain) old new before after =
     (is_web a ≡ true) × (port ≡ port_by a) × (own ≡ address_by a) × MakesWeb waits chain old new before after
+MakesObjectsOf a waits (objects.Drive port own chain) old new before after =
+    (is_drive a ≡ true) × (port ≡ port_by a) × (own ≡ address_by a) × MakesDrive waits chain old new before after
 
 -- these bytes ask for what the open does
 abbrev pub IsAskOf : Opening → List ℕ → Type 0
 IsAskOf (asked.File a) bytes = ask_in bytes ≡ Some (ask_value a)
 IsAskOf (asked.Web a) bytes = web_ask_in (length a.ask.host.now) bytes ≡ Some (ask_parts a.ask)
+IsAskOf (asked.Drive a) bytes = drive_ask_in bytes ≡ Some (ask_parts_of a.ask)
 IsAskOf (asked.Name a) bytes = lookup_asked bytes ≡ Some (lookup_for (lookup_ask_value a))
 IsAskOf (asked.Lease a) bytes = lease_asked bytes ≡ Some (asker_of a)
 IsAskOf (asked.Echo a) bytes = ping_asked bytes ≡ Some (pinged_by a)
@@ -117,6 +139,7 @@ IsAskOf (asked.Echo a) bytes = ping_asked bytes ≡ Some (pinged_by a)
 abbrev pub host_length : Opening → ℕ
 host_length (asked.File a) = 0
 host_length (asked.Web a) = length a.ask.host.now
+host_length (asked.Drive a) = 0
 host_length (asked.Name a) = 0
 host_length (asked.Lease a) = 0
 host_length (asked.Echo a) = 0
@@ -134,9 +157,14 @@ pub record AsksWeb (a : Opening) (c : WebChain) (old new : Objects Obj) (now rec
   pub short : length bytes < 2 ^ 32
   pub does : DoesWeb c now (begins_web c rec (host_length a) bytes) None old new before after
 
+-- and so of a drive
+abbrev pub AsksDrive : Opening → DriveChain → Objects Obj → Objects Obj → ℕ → ℕ → Heard → Heard → Type 0
+AsksDrive a c old new now rec before after = AsksWeb a (three_of c) old new now rec before after
+
 abbrev pub AsksObjects : Opening → OpenObjects → Objects Obj → Objects Obj → ℕ → ℕ → Heard → Heard → Type 0
 AsksObjects a (objects.Chain kind chain) old new now rec before after = AsksChain a chain old new now rec before after
 AsksObjects a (objects.Web port own chain) old new now rec before after = AsksWeb a chain old new now rec before after
+AsksObjects a (objects.Drive port own chain) old new now rec before after = AsksDrive a chain old new now rec before after
 
 -- its objects live on, or are gone
 abbrev pub GoesOnOr : Option Cause → Open → Objects Obj → Objects Obj → Type 0

@@ -32,6 +32,12 @@ use Rattle.nb_command.specs.SettingAddresses.{host}
 use Rattle.nb_machine.specs.Connections.{connection_of, talk_of}
 use Rattle.nb_machine.specs.Kinds.{is_connection}
 use Rattle.nb_machine.specs.Webs.{KeepsWeb, request_at, web_talking}
+use Rattle.nb_machine.specs.Drives.{KeepsSession, session_of}
+use Rattle.nb_login.specs.declared.info.LoginInfo.{LoginInfo}
+use Rattle.nb_drivechains.specs.declared.drive_chain.DriveChain.{DriveChain}
+use Rattle.nb_drivechains.specs.DriveChains.{AreOfDrive, three_of}
+use Rattle.nb_drivenodes.specs.DriveAsks.{DriveAskParts}
+use Rattle.nb_drivetalks.specs.SessionStands.{StandsForSession}
 use Rattle.nb_open.specs.Objects.{AreObjectsChained}
 use Rattle.nb_open.specs.declared.objects.OpenObjects.{OpenObjects}
 use Rattle.nb_open.specs.declared.objects.OpenObjects.TheVariants as objects
@@ -66,7 +72,7 @@ IsUnderWay ping c g l = IsAskingCore ping_service (top_mark chain.Echo) (ping_of
 abbrev pub kind_for : OpenKind → ChainKind
 kind_for tftp = chain.File
 kind_for (http isn) = chain.File
-kind_for (iscsi isn i) = chain.File
+kind_for (iscsi isn i) = chain.Drive
 kind_for (dns id) = chain.Name
 kind_for (dhcp a) = chain.Lease
 kind_for ping = chain.Echo
@@ -92,6 +98,7 @@ AsksRight ping server own = Unit {0}
 abbrev pub AreOfKind : OpenObjects → Live → Type 0
 AreOfKind (objects.Chain kind chain) l = (is_connection l.kind ≡ false) × (kind ≡ kind_for l.kind)
 AreOfKind (objects.Web port own chain) l = (is_connection l.kind ≡ true) × (port ≡ l.port)
+AreOfKind (objects.Drive port own chain) l = (is_connection l.kind ≡ true) × (port ≡ l.port)
 
 -- it has the machine's number, server, port and kind
 pub record IsSpeakerOf (o : Open) (l : Live) : Type 0 where
@@ -116,7 +123,19 @@ pub record IsTalkingWeb (isn : ℕ) (own : Ip4) (c : WebChain) (g : Objects Obj)
   pub keeps : KeepsWeb isn l
   pub asked : 0 < length (request_at l.target)
 
--- a drive has no objects yet
+-- and with what its login is begun
+abbrev pub session_ask : ℕ → Ip4 → LoginInfo → Live → DriveAskParts
+session_ask isn own i l = record { conn = ask_of isn own l; info = i }
+
+-- the three of a drive stand for the talk that all its exchanges made
+pub record IsTalkingDrive (isn : ℕ) (i : LoginInfo) (own : Ip4) (c : DriveChain) (g : Objects Obj) (l : Live) : Type 0 where
+  pub opened : IsOpenWeb (three_of c) g
+  pub kinds : AreOfDrive c g
+  pub hosted : AreHosted (three_of c) g
+  pub stands : StandsForSession (session_ask isn own i l) l.since (session_of isn i l) c g
+  pub keeps : KeepsSession isn i l
+
+-- an open by HTTP has the three of one
 abbrev pub IsWebUnderWay : OpenKind → Ip4 → WebChain → Objects Obj → Live → Type 0
 IsWebUnderWay (http isn) own c g l = IsTalkingWeb isn own c g l
 IsWebUnderWay (iscsi isn i) own c g l = ⊥
@@ -125,9 +144,19 @@ IsWebUnderWay (dns id) own c g l = ⊥
 IsWebUnderWay (dhcp a) own c g l = ⊥
 IsWebUnderWay ping own c g l = ⊥
 
+-- and a drive its three
+abbrev pub IsDriveUnderWay : OpenKind → Ip4 → DriveChain → Objects Obj → Live → Type 0
+IsDriveUnderWay (http isn) own c g l = ⊥
+IsDriveUnderWay (iscsi isn i) own c g l = IsTalkingDrive isn i own c g l
+IsDriveUnderWay tftp own c g l = ⊥
+IsDriveUnderWay (dns id) own c g l = ⊥
+IsDriveUnderWay (dhcp a) own c g l = ⊥
+IsDriveUnderWay ping own c g l = ⊥
+
 abbrev pub AreUnderWay : OpenObjects → Objects Obj → Live → Type 0
 AreUnderWay (objects.Chain kind chain) g l = IsUnderWay l.kind chain g l
 AreUnderWay (objects.Web port own chain) g l = IsWebUnderWay l.kind own chain g l
+AreUnderWay (objects.Drive port own chain) g l = IsDriveUnderWay l.kind own chain g l
 
 -- the open lives on this graph, and is this one of the machine's
 pub record IsOpenOf (g : Objects Obj) (o : Open) (l : Live) : Type 0 where
@@ -151,9 +180,14 @@ pieces_of kind c = record { serial = c.top.0; kind = top_number kind } ∷ piece
 abbrev pub web_pieces : WebChain → List GraphObject
 web_pieces c = record { serial = c.fetch.0; kind = 1 } ∷ record { serial = c.web.0; kind = 2 } ∷ record { serial = c.conn.0; kind = 3 } ∷ []
 
+-- those of a drive: a unit (9), a session (8) and a Tcp (3)
+abbrev pub drive_pieces : DriveChain → List GraphObject
+drive_pieces c = record { serial = c.unit.0; kind = 9 } ∷ record { serial = c.session.0; kind = 8 } ∷ record { serial = c.conn.0; kind = 3 } ∷ []
+
 abbrev pub objects_pieces : OpenObjects → List GraphObject
 objects_pieces (objects.Chain kind chain) = pieces_of kind chain
 objects_pieces (objects.Web port own chain) = web_pieces chain
+objects_pieces (objects.Drive port own chain) = drive_pieces chain
 
 -- the open by its objects
 abbrev pub kin_of : Open → Kin

@@ -2,17 +2,20 @@ ghost use Rattle.std.specs.Prelude.{◌≡◌, ◌+◌, ◌<◌, ◌^◌, ◌++�
 ghost use Rattle.std.specs.Option.{option_map};
 ghost use Rattle.nb_chains.specs.Chains.{AreChained, AreStillChained, chain_ids};
 ghost use Rattle.nb_open.specs.Begins.{AwaitsFor, BeginsBeside, BeginsOpen};
-ghost use Rattle.nb_open.specs.Making.{AsksChain, AsksObjects, AsksWeb, StartsOpen};
+ghost use Rattle.nb_open.specs.Making.{AsksChain, AsksDrive, AsksObjects, AsksWeb, StartsOpen};
 ghost use Rattle.nb_open.specs.Objects.{AreObjectsChained, AreObjectsReady, AreObjectsStill};
-ghost use Rattle.nb_open.specs.Opening.{CanOpen, chain_kind, is_web, speaker_for};
+ghost use Rattle.nb_open.specs.Opening.{CanOpen, chain_kind, is_drive, is_joined, is_web, speaker_for};
 ghost use Rattle.nb_open.specs.Settling.{told_so_far};
+ghost use Rattle.nb_drivechains.specs.DriveChains.{drive_ids};
 ghost use Rattle.nb_webchains.specs.WebChains.{web_ids};
 ghost use Rattle.nb_webnodes.specs.WebAsks.{web_ask_in};
 
+use crate::drive_bytes::drive_bytes;
 use crate::making::make_waiting;
 use crate::{KeptEnded, Open, OpenObjects, Opening};
 use nb_chains::{Chain, ChainKind};
 use nb_conns::ConnAsk;
+use nb_drivechains::DriveChain;
 use nb_graph::Graph;
 use nb_nodes::Obj;
 use nb_stack::Stack;
@@ -168,6 +171,7 @@ impl Opening<'_> {
                 Ok(())
             }
             OpenObjects::Web { chain, .. } => self.ask_web(alloc, chain, graph, rec, now, out),
+            OpenObjects::Drive { chain, .. } => self.ask_drive(alloc, chain, graph, rec, now, out),
         }
     }
 
@@ -180,7 +184,7 @@ impl Opening<'_> {
         now: u64,
         out: &mut Teller<'_>,
     )
-        requires other { is_web self.now ≡ false }
+        requires other { is_joined self.now ≡ false }
         requires can { CanOpen self.now }
         requires chained { AreChained graph.old (chain_ids chain) }
         ensures on { AreStillChained (chain_ids chain) graph.old graph.new }
@@ -197,7 +201,7 @@ impl Opening<'_> {
                 let bytes = ask.bytes();
                 chain.begin(graph, rec, &bytes, &[], now, out)
             }
-            Opening::Web(_) => unreachable!(),
+            Opening::Web(_) | Opening::Drive(_) => unreachable!(),
         }
     }
 
@@ -222,6 +226,30 @@ impl Opening<'_> {
         let host = host_len(&web.ask)?;
         let first = head_of(alloc, web.ask.conn, web.ask.host)?;
         chain.begin(graph, rec, host, first.as_slice(), web.ask.path, now, out);
+        Ok(())
+    }
+
+    /// The user asks this of the objects of a drive.
+    fn ask_drive(
+        &self,
+        alloc: Global,
+        chain: DriveChain,
+        graph: &mut Graph<Obj>,
+        rec: u32,
+        now: u64,
+        out: &mut Teller<'_>,
+    ) -> Result<(), NoMemory>
+        requires drive { is_drive self.now ≡ true }
+        requires can { CanOpen self.now }
+        requires chained { AreChained graph.old (drive_ids chain) }
+        ensures on { OnOk result (AreStillChained (drive_ids chain) graph.old graph.new) }
+        ensures asks { OnOk result (AsksDrive self.now chain graph.old graph.new now rec (told_so_far out.old) (told_so_far out.new)) }
+    {
+        let Opening::Drive(drive) = self else {
+            unreachable!();
+        };
+        let bytes = drive_bytes(alloc, &drive.ask)?;
+        chain.begin(graph, rec, bytes.as_slice(), &[], now, out);
         Ok(())
     }
 }

@@ -105,6 +105,7 @@ impl Open {
             }
             // What waits does so beside the look-up of a name alone.
             (OpenObjects::Web { chain, .. }, _) => chain.shut_down(graph, cause, now, out),
+            (OpenObjects::Drive { chain, .. }, _) => chain.shut_down(graph, cause, now, out),
         }
     }
 }

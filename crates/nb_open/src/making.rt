@@ -3,14 +3,15 @@
 ghost use Rattle.std.specs.Prelude.{◌≡◌, ◌+◌, ◌<◌, ◌≤◌, ◌^◌, IfOk, IsTrue, ◌↔◌, None, Some, length};
 ghost use Rattle.nb_chains.specs.Chains.{Awaits};
 ghost use Rattle.nb_chains.specs.Kinds.{count_below};
-ghost use Rattle.nb_chains.specs.declared.kind.ChainKind.TheVariants.{File};
+ghost use Rattle.nb_chains.specs.declared.kind.ChainKind.TheVariants.{Drive, File};
 ghost use Rattle.nb_open.specs.Begins.{AwaitsFor};
-ghost use Rattle.nb_open.specs.Making.{MakesChain, MakesObjectsOf, MakesWeb, WaitsNew, WebMade};
+ghost use Rattle.nb_open.specs.Making.{DriveMade, MakesChain, MakesDrive, MakesObjectsOf, MakesWeb, WaitsNew, WebMade};
 ghost use Rattle.nb_open.specs.Opening.{chain_kind};
 ghost use Rattle.nb_open.specs.Settling.{told_so_far};
 
 use crate::{OpenObjects, Opening};
 use nb_chains::{Chain, ChainKind};
+use nb_drivechains::DriveChain;
 use nb_graph::Graph;
 use nb_nodes::Obj;
 use nb_teller::Teller;
@@ -39,6 +40,11 @@ impl Opening<'_> {
                 port: web.ask.conn.peer_port,
                 own: web.ask.conn.own,
                 chain: make_web(alloc, graph, most, waits, out)?,
+            }),
+            Opening::Drive(drive) => Ok(OpenObjects::Drive {
+                port: drive.ask.conn.peer_port,
+                own: drive.ask.conn.own,
+                chain: make_drive(alloc, graph, most, waits, out)?,
             }),
             Opening::File(_) | Opening::Name(_) | Opening::Lease(_) | Opening::Echo(_) => {
                 let kind = self.kind();
@@ -211,6 +217,81 @@ fn complete_web(
     WebChain::complete(waits, alloc, graph, out)
 }
 
+/// Makes the objects of a drive, or what is missing of them below a unit that waits.
+fn make_drive(
+    alloc: Global,
+    graph: &mut Graph<Obj>,
+    most: usize,
+    waits: Option<Chain>,
+    out: &mut Teller<'_>,
+) -> Result<DriveChain, NoMemory>
+    requires room { graph.old.book.room ≡ most }
+    requires serials { graph.old.book.made + 3 < 2 ^ 64 }
+    requires waits { AwaitsFor Drive waits graph.old }
+    ensures { IfOk result (λ c. MakesDrive waits c graph.old graph.new (told_so_far out.old) (told_so_far out.new)) }
+{
+    let chain = make_or_complete_drive(alloc, graph, most, waits, out)?;
+    graph.has_nodes();
+    // Nothing lives that was made later.
+    let _later = graph.ids(chain.conn.0);
+    Ok(chain)
+}
+
+/// Makes all three, or the two that are missing.
+fn make_or_complete_drive(
+    alloc: Global,
+    graph: &mut Graph<Obj>,
+    most: usize,
+    waits: Option<Chain>,
+    out: &mut Teller<'_>,
+) -> Result<DriveChain, NoMemory>
+    requires room { graph.old.book.room ≡ most }
+    requires serials { graph.old.book.made + 3 < 2 ^ 64 }
+    requires waits { AwaitsFor Drive waits graph.old }
+    ensures { IfOk result (λ c. DriveMade waits c graph.old graph.new (told_so_far out.old) (told_so_far out.new)) }
+{
+    match waits {
+        None => make_all_drive(alloc, graph, most, out),
+        Some(waits) => complete_drive(alloc, graph, most, waits, out),
+    }
+}
+
+/// Makes all three.
+fn make_all_drive(
+    alloc: Global,
+    graph: &mut Graph<Obj>,
+    most: usize,
+    out: &mut Teller<'_>,
+) -> Result<DriveChain, NoMemory>
+    requires room { graph.old.book.room ≡ most }
+    requires serials { graph.old.book.made + 3 < 2 ^ 64 }
+    ensures { IfOk result (λ c. DriveMade None c graph.old graph.new (told_so_far out.old) (told_so_far out.new)) }
+{
+    if !has_room(graph, most, 3) {
+        return Err(NoMemory);
+    }
+    DriveChain::make(alloc, graph, out)
+}
+
+/// Makes the two that are missing below a unit that waits.
+fn complete_drive(
+    alloc: Global,
+    graph: &mut Graph<Obj>,
+    most: usize,
+    waits: Chain,
+    out: &mut Teller<'_>,
+) -> Result<DriveChain, NoMemory>
+    requires room { graph.old.book.room ≡ most }
+    requires serials { graph.old.book.made + 3 < 2 ^ 64 }
+    requires waits { Awaits Drive waits graph.old }
+    ensures { IfOk result (λ c. DriveMade (Some waits) c graph.old graph.new (told_so_far out.old) (told_so_far out.new)) }
+{
+    if !has_room(graph, most, 2) {
+        return Err(NoMemory);
+    }
+    DriveChain::complete(waits.top, alloc, graph, out)
+}
+
 /// Whether the graph has room for so many objects more, of the most that it may have.
 fn has_room(graph: &Graph<Obj>, most: usize, count: usize) -> bool
     ensures { IsTrue result ↔ (length graph.now.book.objects + count ≤ most) }
@@ -227,5 +308,6 @@ fn lower_objects(kind: ChainKind) -> usize
         ChainKind::Name => 0,
         ChainKind::Lease => 0,
         ChainKind::Echo => 0,
+        ChainKind::Drive => 0,
     }
 }

@@ -1,10 +1,11 @@
 ghost use Rattle.std.specs.Prelude.{◌≡◌, ◌≤◌, length, None, IfOk};
 ghost use Rattle.std.specs.Option.{option_map};
 ghost use Rattle.nb_chains.specs.Chains.{AreChained, AreStillChained, IsShutChain, chain_ids};
-ghost use Rattle.nb_open.specs.Objects.{AreObjectsChained, AreObjectsShut, AreObjectsStill, ClosesObjects, DoesMessage, DoesTime, HandsFile, HandsBrought, ReleasesObjects};
+ghost use Rattle.nb_open.specs.Objects.{AreObjectsChained, AreObjectsShut, AreObjectsStill, AreDriveObjects, ClosesObjects, DoesMessage, DoesRead, DoesTime, HandsFile, HandsBrought, ReleasesObjects};
 ghost use Rattle.nb_open.specs.Settling.{told_so_far};
 
 use nb_chains::{Arrival, Chain, ChainKind};
+use nb_drivechains::DriveChain;
 use nb_graph::Graph;
 use nb_image::Body;
 use nb_nodes::Obj;
@@ -28,6 +29,12 @@ pub enum OpenObjects {
         port: u16,
         own: Ip4,
         chain: WebChain,
+    },
+    /// Those of a drive, which asks at this port of its target, from this address of the client's.
+    Drive {
+        port: u16,
+        own: Ip4,
+        chain: DriveChain,
     },
 }
 
@@ -56,6 +63,7 @@ impl OpenObjects {
         match self {
             OpenObjects::Chain { chain, .. } => chain.message(graph, rec, arrival, now, out),
             OpenObjects::Web { chain, .. } => chain.message(graph, rec, arrival, now, out),
+            OpenObjects::Drive { chain, .. } => chain.message(graph, rec, arrival, now, out),
         }
     }
 
@@ -68,6 +76,28 @@ impl OpenObjects {
         match self {
             OpenObjects::Chain { chain, .. } => chain.time(graph, now, out),
             OpenObjects::Web { chain, .. } => chain.time(graph, now, out),
+            OpenObjects::Drive { chain, .. } => chain.time(graph, now, out),
+        }
+    }
+
+    /// The user asks for so many blocks of a drive, from this one on, in the record `rec`.
+    pub(crate) fn read(
+        self,
+        graph: &mut Graph<Obj>,
+        rec: u32,
+        block: u32,
+        count: u16,
+        now: u64,
+        out: &mut Teller<'_>,
+    )
+        requires chained { AreObjectsChained graph.old self }
+        requires drive { AreDriveObjects self }
+        ensures on { AreObjectsStill self graph.old graph.new }
+        ensures does { DoesRead self rec block count now graph.old graph.new (told_so_far out.old) (told_so_far out.new) }
+    {
+        match self {
+            OpenObjects::Drive { chain, .. } => chain.read(graph, rec, block, count, now, out),
+            OpenObjects::Chain { .. } | OpenObjects::Web { .. } => unreachable!(),
         }
     }
 
@@ -80,6 +110,7 @@ impl OpenObjects {
         match self {
             OpenObjects::Chain { chain, .. } => chain.close(graph, cause, now, out),
             OpenObjects::Web { chain, .. } => chain.close(graph, cause, now, out),
+            OpenObjects::Drive { chain, .. } => chain.close(graph, cause, now, out),
         }
     }
 
@@ -92,6 +123,7 @@ impl OpenObjects {
         match self {
             OpenObjects::Chain { chain, .. } => chain.release(graph, out),
             OpenObjects::Web { chain, .. } => chain.release(graph, out),
+            OpenObjects::Drive { chain, .. } => chain.release(graph, out),
         }
     }
 
@@ -111,6 +143,10 @@ impl OpenObjects {
             OpenObjects::Web { chain, .. } => Ok(Brought {
                 moved: copied(alloc, chain.moved(graph))?,
                 body: chain.collect(graph),
+            }),
+            OpenObjects::Drive { .. } => Ok(Brought {
+                body: None,
+                moved: None,
             }),
         }
     }

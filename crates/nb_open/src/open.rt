@@ -1,9 +1,9 @@
-ghost use Rattle.std.specs.Prelude.{◌≡◌, ◌≤◌, Some, length, IfOk};
+ghost use Rattle.std.specs.Prelude.{◌≡◌, ◌≤◌, None, Some, length, IfOk};
 ghost use Rattle.nb_ledger.specs.declared.event.Way.TheVariants as way;
 ghost use Rattle.nb_machine.specs.CommandRecords.{no_route};
-ghost use Rattle.nb_machine.specs.Lives.{Live, OpenInput, time as time_comes};
+ghost use Rattle.nb_machine.specs.Lives.{Live, OpenInput, task, time as time_comes};
 ghost use Rattle.nb_open.specs.Exchanges.{Exchanges, IsInput};
-ghost use Rattle.nb_open.specs.Objects.{AreObjectsChained, AreObjectsShut};
+ghost use Rattle.nb_open.specs.Objects.{AreObjectsChained, AreObjectsShut, AreDriveObjects};
 ghost use Rattle.nb_open.specs.Open.{IsOpenOf, LivesSome};
 ghost use Rattle.nb_open.specs.Settling.{LetsObjectsGo, MaySettle, SettlesOpen, told_so_far};
 
@@ -89,6 +89,43 @@ impl Open {
         } = desk;
         let mut out = Teller::over(net, &self.speaker, told, &mut room);
         self.objects.time(graph, now, &mut out);
+        let ended = self.settle(alloc, graph, now, &mut out)?;
+        let told = out.finish()?;
+        let desk = Desk {
+            room,
+            made,
+            told,
+            freed,
+        };
+        Ok((ended, desk))
+    }
+
+    /// The user asks this drive for so many blocks, from this one on, in the record `rec`. It does so only within the unit, at
+    /// most 64 at once, while nothing else is asked of it.
+    pub fn ask(
+        &self,
+        alloc: Global,
+        graph: &mut Graph<Obj>,
+        net: &Stack,
+        rec: u32,
+        block: u32,
+        count: u16,
+        now: u64,
+        desk: Desk,
+    ) -> Result<(Option<KeptEnded>, Desk), NoMemory>
+        requires open { LivesSome graph.old self.now }
+        requires drive { AreDriveObjects self.now.objects }
+        ensures { IfOk result (λ r. (l : Live) → IsOpenOf graph.old self.now l
+            → Exchanges self.now l (task (record { lba = block; blocks = count }) now) net.now None graph.old graph.new r.1.told.value r.0) }
+    {
+        let Desk {
+            mut room,
+            made,
+            told,
+            freed,
+        } = desk;
+        let mut out = Teller::over(net, &self.speaker, told, &mut room);
+        self.objects.read(graph, rec, block, count, now, &mut out);
         let ended = self.settle(alloc, graph, now, &mut out)?;
         let told = out.finish()?;
         let desk = Desk {

@@ -2,6 +2,7 @@ ghost use Rattle.std.specs.Prelude.{◌≡◌};
 ghost use Rattle.nb_open.specs.Opening.{chain_kind, speaker_for};
 
 use nb_chains::ChainKind;
+use nb_drivenodes::DriveAsk;
 use nb_nodes::{Ask, LeaseAsk, LookupAsk, PingAsk};
 use nb_teller::{Carrier, Speaker};
 use nb_webnodes::WebAsk;
@@ -22,6 +23,15 @@ pub struct WebOpening<'a> {
     pub url: &'a [u8],
 }
 
+/// A drive of an iSCSI target.
+#[derive(Clone, Copy)]
+pub struct DriveOpening<'a> {
+    /// Which unit of which target is asked for, by which connection, and what the login is begun with.
+    pub ask: DriveAsk<'a>,
+    /// The target's name, a zero byte and the unit, as its OPEN says them.
+    pub target: &'a [u8],
+}
+
 /// What an open asks for.
 #[derive(Clone, Copy)]
 pub enum Opening<'a> {
@@ -29,6 +39,8 @@ pub enum Opening<'a> {
     File(Ask<'a>),
     /// A file of an HTTP server (RFC 9110).
     Web(WebOpening<'a>),
+    /// A drive of an iSCSI target (RFC 7143).
+    Drive(DriveOpening<'a>),
     /// The address of a name (RFC 1035).
     Name(LookupAsk<'a>),
     /// A lease (RFC 2131).
@@ -38,12 +50,13 @@ pub enum Opening<'a> {
 }
 
 impl Opening<'_> {
-    /// The kind of its objects; of an open by HTTP that of what may wait for it, a Fetch.
+    /// The kind of its objects; of an open by HTTP or of a drive that of what may wait for it, a Fetch or a unit.
     pub fn kind(&self) -> ChainKind
         ensures { result ≡ chain_kind self.now }
     {
         match self {
             Opening::File(_) | Opening::Web(_) => ChainKind::File,
+            Opening::Drive(_) => ChainKind::Drive,
             Opening::Name(_) => ChainKind::Name,
             Opening::Lease(_) => ChainKind::Lease,
             Opening::Echo(_) => ChainKind::Echo,
@@ -57,6 +70,7 @@ impl Opening<'_> {
         let (carrier, server, own_port) = match self {
             Opening::File(ask) => (Carrier::Udp, ask.server, ask.own_port),
             Opening::Web(web) => (Carrier::Tcp, web.ask.conn.peer, web.ask.conn.own_port),
+            Opening::Drive(drive) => (Carrier::Tcp, drive.ask.conn.peer, drive.ask.conn.own_port),
             Opening::Name(ask) => (Carrier::Udp, ask.server, ask.own_port),
             Opening::Lease(_) => (Carrier::Udp, ALL_HOSTS, DHCP_CLIENT),
             Opening::Echo(ask) => (Carrier::Icmp, ask.host, ask.ident),

@@ -24,7 +24,7 @@ use Rattle.nb_machine.specs.Kinds.{Keeps}
 use Rattle.nb_machine.specs.States.{net0}
 use Rattle.nb_machine.specs.Takings.{Over, AllTake, all_have, lives_on, is_over}
 use Rattle.nb_openlaws.specs.Standings.{HasLogin, live_opening, heard_call, heard_calls, streamed, HaveOwnNumbers}
-use Rattle.nb_openlaws.specs.OpenEndings.{HadWay}
+use Rattle.nb_laws.specs.Endings.{HadWay}
 use Rattle.nb_openlaws.specs.OpenReasons.{HaveWays, OpenReasons}
 use Rattle.nb_streams.proofs.FlowLaws.{all_append}
 use Rattle.nb_openlaws.proofs.OpenRecords.{AreLater, left, of_later, kept_puts}

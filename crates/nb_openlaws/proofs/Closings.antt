@@ -5,21 +5,24 @@ use Rattle.std.specs.List.{AllByRecursion}
 use Rattle.std.proofs.lemmas.List.{map-append}
 use Rattle.nb_terms.specs.declared.cause.Cause.{Cause}
 use Rattle.nb_defs.specs.Causes.{is_ok_cause}
-use Rattle.nb_defs.specs.Records.{Out, ended}
+use Rattle.nb_defs.specs.Records.{Out, ended, step, sent}
 use Rattle.nb_stack.specs.Client.{Client}
 use Rattle.nb_machine.specs.Lives.{OpenKind, tftp, http, iscsi, dns, dhcp, ping, close, Exchange, exchange, Live, continued}
 use Rattle.nb_machine.specs.Kinds.{KeepsBy, Keeps, is_connection}
 use Rattle.nb_machine.specs.Takings.{Over, AllTake, all_have, lives_on, is_over}
+use Rattle.nb_machine.specs.CommandRecords.{stopped_cause}
 use Rattle.nb_laws.specs.Events.{Event, puts}
 use Rattle.nb_laws.specs.Histories.{client}
-use Rattle.nb_laws.specs.Lists.{hardware}
+use Rattle.nb_laws.specs.Lists.{hardware, openings}
 use Rattle.nb_laws.specs.Progress.{IsAdvanced}
 use Rattle.nb_laws.proofs.Tellings.{told, advanced_more}
 use Rattle.nb_openlaws.specs.Standings.{live_opening, heard_call, IsKindBy, HasLogin, ComesToOwnPort, IsOngoing, AgreesLive, AreLive, lives_among, HaveOwnNumbers}
-use Rattle.nb_openlaws.specs.OpenEndings.{EndsBecause, WhyClosed}
+use Rattle.nb_laws.specs.Endings.{WhyClosed, by_unhooking}
+use Rattle.nb_laws.specs.Hookings.{LetsGo}
+use Rattle.nb_openlaws.specs.OpenEndings.{EndsBecause, by_itself}
 use Rattle.nb_openlaws.specs.OpenReasons.{OpenReasons}
 use Rattle.nb_streams.proofs.FlowLaws.{all_append}
-use Rattle.nb_openlaws.proofs.OpenRecords.{AreOf, left, of_later, kept_puts}
+use Rattle.nb_openlaws.proofs.OpenRecords.{AreOf, left, of_later, kept_puts, IsFrame, AreLater, IsLater}
 use Rattle.nb_openlaws.proofs.NetworkDevices.{client_some, some_of}
 use Rattle.nb_openlaws.proofs.LastEntries.{LastAs, took_as, closed_as, last_as}
 use Rattle.nb_openlaws.proofs.KindFacts.{opening_as}
@@ -32,6 +35,8 @@ use Rattle.nb_openlaws.proofs.LiveStates.{all_same}
 use Rattle.nb_openlaws.proofs.Sendings.{no_reasons, reasons_then}
 use Rattle.nb_openlaws.proofs.Puts.{puts_so, IsClosing, AreClosing, frames_close, closed_put}
 use Rattle.nb_openlaws.proofs.KeptOpens.{AreKept, live_unanswered}
+use Rattle.nb_openlaws.proofs.SessionSendings.{closes_with_all, closes_alone}
+use Rattle.nb_login.specs.declared.info.LoginInfo.{LoginInfo}
 
 -- why each ends, and its connection is closed: after any frames and ends with this cause
 abbrev pub EndsFor : Cause → List Event → Type 0
@@ -65,7 +70,7 @@ kind_closes (http isn) es l x cause is came bad same a k keeps advanced why =
     (subst (λ z. AllByRecursion (IsOngoing z l.number l.own) l.exchanges) is a.goes_on) advanced (subst WhyClosed (append-nil es) (why [] tt).1) (λ frames alone. (why frames (frames_close cause frames alone)).0 l.number)
 kind_closes (iscsi isn i) es l x cause is came bad same a k keeps advanced why =
     drive_closes es l x isn i cause came bad same (subst (λ z. IsKindBy (hardware es) l.number z (opening_as z l)) is a.kind_is) (a.opening ∙ ap (λ z. opening_as z l ∷ []) is) a.lives (subst (λ z. HasLogin l.number es z (opening_as z l)) is a.login) a.streams keeps
-    (subst (λ z. AllByRecursion (IsOngoing z l.number l.own) l.exchanges) is a.goes_on) advanced (subst WhyClosed (append-nil es) (why [] tt).1) (λ frames alone. (why frames (frames_close cause frames alone)).0 l.number)
+    (subst (λ z. AllByRecursion (IsOngoing z l.number l.own) l.exchanges) is a.goes_on) advanced (closes_with_all (subst WhyClosed (append-nil es) (why [] tt).1)) (λ frames alone. (why frames (frames_close cause frames alone)).0 l.number)
 kind_closes (dns id) es l x cause is came bad same a k keeps advanced why =
     subst (λ z. OpenReasons es z) (sym (datagrams_close (dns id) l x cause refl came keeps (subst (λ z. AllByRecursion (IsOngoing z l.number l.own) l.exchanges) is a.goes_on) tt)) (end_closes es l cause bad a k advanced why)
 kind_closes (dhcp b) es l x cause is came bad same a k keeps advanced why =
@@ -109,3 +114,66 @@ closes_reasons devices cause ls0 put0 after0 over0 (is_over l ls after link put 
     let closing = closed_put l.number cause link put (puts_so l (exchange (close cause) link put) keeps_so) in
     reasons_then es put more one
     (closes_reasons devices cause ls more after over rest bad (es ++ told put) (d ∙ ap (λ c. c ∷ []) (sym (client_some es put (some_of l.number put of)))) (others_live es l.number put ls of apart.0 a.1) apart.1 kept.1 one.after (why_on es put cause closing why))
+
+-- A DRIVE IS LET GO
+
+-- why: after any frames and ends of those that are closed with it
+abbrev pub LetsGoFor : ℕ → List Event → Type 0
+LetsGoFor k es = (closings : List Out) → AreClosing stopped_cause closings → LetsGo k (es ++ told closings)
+
+-- an open that is a drive's
+abbrev pub IsDrives : Live → Type 0
+IsDrives l = (isn : ℕ) × (i : LoginInfo) × (l.kind ≡ iscsi isn i)
+
+-- so it is of each of these
+abbrev pub AreLetGo : List Event → List Live → Type 0
+AreLetGo es ls = AllByRecursion (λ l. IsDrives l × LetsGoFor l.number es) ls
+
+go_on : (es : List Event) (put : List Out) (ls : List Live) → AreClosing stopped_cause put → AreLetGo es ls → AreLetGo (es ++ told put) ls
+go_on es put [] of h = tt
+go_on es put (l ∷ ls) of h = (
+  (
+    h.0.0,
+    λ closings all.
+        let same : es ++ told (put ++ closings) ≡ (es ++ told put) ++ told closings = ap (λ z. es ++ z) (map-append puts put closings) ∙ sym (append_assoc es (told put) (told closings)) in
+        subst (LetsGo l.number) same (h.0.1 (put ++ closings) (all_append (IsClosing stopped_cause) put closings of all)),
+  ),
+  go_on es put ls of h.1,
+)
+
+frames_later : (outs : List Out) → AllByRecursion IsFrame outs → AreLater outs
+frames_later [] h = tt
+frames_later (o ∷ outs) h = (one o h.0, frames_later outs h.1)
+  where
+    one : (x : Out) → IsFrame x → IsLater x
+    one (sent bytes) h = tt
+    one (step number) h = absurd h
+    one _ h = absurd h
+
+one_let_go : (devices : List Client) (es : List Event) (l : Live) (link : Client) (put : List Out) → devices ≡ client es ∷ [] → slice_get devices l.device ≡ Some link → AgreesLive es l → Keeps (continued l (exchange (close stopped_cause) link put)) →
+    IsAdvanced es → IsDrives l × LetsGoFor l.number es → OpenReasons es put
+one_let_go devices es l link put d got_it a keeps advanced ((isn, i, is), why) =
+    drive_closes es l (exchange (close stopped_cause) link put) isn i stopped_cause refl refl (link_of es devices l link d a.on_net0 got_it) (subst (λ z. IsKindBy (hardware es) l.number z (opening_as z l)) is a.kind_is)
+    (a.opening ∙ ap (λ z. opening_as z l ∷ []) is) a.lives (subst (λ z. HasLogin l.number es z (opening_as z l)) is a.login) a.streams (subst (λ z. KeepsBy z (continued l (exchange (close stopped_cause) link put))) is keeps)
+    (subst (λ z. AllByRecursion (IsOngoing z l.number l.own) l.exchanges) is a.goes_on) advanced (closes_alone (subst (LetsGo l.number) (append-nil es) (why [] tt)))
+    (λ frames alone.
+    let es1 = es ++ told frames in
+    let same : openings l.number es1 ≡ opening_as (iscsi isn i) l ∷ [] = (left es frames (frames_later frames alone)).openings_is l.number ∙ a.opening ∙ ap (λ z. opening_as z l ∷ []) is in
+    by_itself (by_unhooking (opening_as (iscsi isn i) l) (record { opening = same; kind_is = refl }) refl (why frames (frames_close stopped_cause frames alone))))
+
+-- they are closed, and put what each puts
+pub let_go_reasons : (devices : List Client) (ls : List Live) (put : List Out) (after : List Live) (over : List Over) → AllTake devices (close stopped_cause) ls put after over →
+    (es : List Event) → devices ≡ client es ∷ [] → AreLive es ls → HaveOwnNumbers ls → IsAdvanced es → AreLetGo es ls → OpenReasons es put
+let_go_reasons devices ls put after over all_have es d a apart advanced why = no_reasons es advanced
+let_go_reasons devices ls0 put0 after0 over0 (lives_on l ls after link put more over got_it keeps_so none rest) es d a apart advanced why =
+    let of = (kept_puts l (exchange (close stopped_cause) link put) keeps_so).of in
+    let one = one_let_go devices es l link put d got_it a.0 keeps_so advanced why.0 in
+    let closing = closed_put l.number stopped_cause link put (puts_so l (exchange (close stopped_cause) link put) keeps_so) in
+    reasons_then es put more one
+    (let_go_reasons devices ls more after over rest (es ++ told put) (d ∙ ap (λ c. c ∷ []) (sym (client_some es put (some_of l.number put of)))) (others_live es l.number put ls of apart.0 a.1) apart.1 one.after (go_on es put ls closing why.1))
+let_go_reasons devices ls0 put0 after0 over0 (is_over l ls after link put more over c got_it keeps_so some rest) es d a apart advanced why =
+    let of = (kept_puts l (exchange (close stopped_cause) link put) keeps_so).of in
+    let one = one_let_go devices es l link put d got_it a.0 keeps_so advanced why.0 in
+    let closing = closed_put l.number stopped_cause link put (puts_so l (exchange (close stopped_cause) link put) keeps_so) in
+    reasons_then es put more one
+    (let_go_reasons devices ls more after over rest (es ++ told put) (d ∙ ap (λ c. c ∷ []) (sym (client_some es put (some_of l.number put of)))) (others_live es l.number put ls of apart.0 a.1) apart.1 one.after (go_on es put ls closing why.1))

@@ -11,33 +11,31 @@ use Rattle.nb_machine.specs.FirstText.{text_refusal}
 use Rattle.nb_laws.specs.Agreement.{AreStill}
 use Rattle.nb_defs.specs.Records.{Start, In, Out, result, enter, leave}
 use Rattle.nb_settings.specs.Tables.{TableLists}
-use Rattle.nb_uri.specs.declared.target.UriTarget.{UriTarget}
-use Rattle.nb_uri.specs.declared.target.UriTarget.TheVariants.{Tftp, Http, Iscsi}
 use Rattle.nb_stack.specs.Client.{Client}
-use Rattle.nb_machine.specs.Effects.{Effect, says, asks, goes, sleeps, shuts_device, inquires, on_images, concludes_at_once, full_opens, shown_words}
-use Rattle.nb_machine.specs.Queries.{Query, for_lease, for_echo, for_host, for_address}
-use Rattle.nb_machine.specs.Errands.{Wanted, Onward, fetches_now, echoes_now, looks_up_now}
+use Rattle.nb_machine.specs.Effects.{Effect, says, asks, goes, sleeps, shuts_device, inquires, on_images, on_drives, hooks_disk, unhooks_drive, concludes_at_once, full_opens, shown_words}
 use Rattle.nb_defs.specs.Causes.{ok}
 use Rattle.nb_machine.specs.Running.{Running, no_label, entered, anew}
 use Rattle.nb_machine.specs.CommandRecords.{command_record, command_records, no_route, stopped_cause}
 use Rattle.nb_machine.specs.Conclusions.{Conclusion, keeps, tells, fails, boots, runs_script, conclusion_records}
 use Rattle.nb_image.specs.Images.{ImageList}
-use Rattle.nb_machine.specs.Lives.{kind_number, close, Live, open_record, end_record}
-use Rattle.nb_machine.specs.States.{State, following, state_at_start, with_images, with_settings, with_live, with_opened, with_one_made}
+use Rattle.nb_machine.specs.Lives.{close, Live, open_record, end_record}
+use Rattle.nb_machine.specs.States.{State, following, state_at_start, with_images, with_settings, with_live, with_opened, with_one_made, with_drive}
 use Rattle.nb_machine.specs.Takings.{Over, AllTake}
-use Rattle.nb_machine.specs.Scripts.{Job, ends, opens, shuts, doing_by, transfer_kind, transfer_for, live_for, live_onward, net0_mac, Upshot, concludes, settles, goes_onward, upshot_records, concluded_by}
+use Rattle.nb_machine.specs.Scripts.{Job, ends, opens, shuts, doing_by, transfer_for, live_for, live_onward, net0_mac, Upshot, concludes, settles, goes_onward, upshot_records, concluded_by, hooks_drive}
 use Rattle.nb_machine.specs.Courses as course
 use Rattle.nb_machine.specs.Courses.{Standing, Progress, stands, nowhere, text_records, text_standing, ScriptLeads, ConclusionLeads, LeadsTo, StepBegins, Proceeds, Course}
+use Rattle.nb_machine.specs.BootTables.{boot_table}
 use Rattle.nb_laws.specs.Events.{Event, starts, stops, puts, inputs, outputs, used_by, written_by, put_one}
 use Rattle.nb_laws.specs.Lists.{time, made, port_offset, hardware, gathered, openings, open_has_ended, live, calls, marks}
 use Rattle.nb_laws.specs.Webs.{brought_to, try_marks_of}
-use Rattle.nb_openlaws.specs.Standings.{live_opening, IsKindBy, AgreesState, AgreesStanding}
+use Rattle.nb_openlaws.specs.Standings.{AgreesState, AgreesStanding}
 use Rattle.nb_laws.proofs.Tellings.{told}
 use Rattle.nb_laws.proofs.Asides.{more_still, still_command, still_conclusion, still_handoff, silent_handoff}
 use Rattle.nb_openlaws.proofs.UsedEvents.{IsUsed}
-use Rattle.nb_openlaws.proofs.LiveStates.{as_state, nothing_came, close_agrees, SameStart}
+use Rattle.nb_openlaws.proofs.LiveStates.{as_state, nothing_came, close_agrees, SameStart, some_close, splits_first, drop_agrees}
 use Rattle.nb_openlaws.proofs.Networks.{network_agrees}
 use Rattle.nb_openlaws.proofs.OpenStates.{still_state, IsNext, opened_state, failed_state, begun_so}
+use Rattle.nb_openlaws.proofs.NextOpens.{query_next, transfer_next, opens_settings, onward_settings, onward_so, MayHook}
 
 -- WHAT A COMMAND DOES TO THE STATE
 
@@ -63,6 +61,9 @@ ends_keep s t table up (goes name) o e = absurd (cc)
 ends_keep s t table up (sleeps seconds) o e = absurd (cc)
 ends_keep s t table up (inquires q) o e = absurd (cc)
 ends_keep s t table up (on_images c) o e = absurd (cc)
+ends_keep s t table up (on_drives c) o e = absurd (cc)
+ends_keep s t table up (hooks_disk hooking) o e = absurd (cc)
+ends_keep s t table up (unhooks_drive number cause) o e = absurd (cc)
 ends_keep s t table up (concludes_at_once c) o e = absurd (cc)
 ends_keep s t table up shuts_device o e = absurd (cc)
 
@@ -74,31 +75,10 @@ shuts_keep s t table up (goes name) e = absurd (cc)
 shuts_keep s t table up (sleeps seconds) e = absurd (cc)
 shuts_keep s t table up (inquires q) e = absurd (cc)
 shuts_keep s t table up (on_images c) e = absurd (cc)
+shuts_keep s t table up (on_drives c) e = absurd (cc)
+shuts_keep s t table up (hooks_disk hooking) e = absurd (cc)
+shuts_keep s t table up (unhooks_drive number cause) e = absurd (cc)
 shuts_keep s t table up (concludes_at_once c) e = absurd (cc)
-
-query_next : (s : State) (q : Query) → IsNext s (live_for s q)
-query_next s for_lease = record { number_is = refl; device_is = refl; since_is = refl; bare = refl; kind_is = (refl, refl, refl, refl, refl); no_drive = λ is. absurd (cc) }
-query_next s (for_echo server) = record { number_is = refl; device_is = refl; since_is = refl; bare = refl; kind_is = (refl, refl); no_drive = λ is. absurd (cc) }
-query_next s (for_host errand name by) = record { number_is = refl; device_is = refl; since_is = refl; bare = refl; kind_is = (refl, refl); no_drive = λ is. absurd (cc) }
-query_next s (for_address setting name by) = record { number_is = refl; device_is = refl; since_is = refl; bare = refl; kind_is = (refl, refl); no_drive = λ is. absurd (cc) }
-
-transfer_next : (s : State) (wanted : Wanted) → IsNext s (transfer_for s wanted)
-transfer_next s wanted = record { number_is = refl; device_is = refl; since_is = refl; bare = refl; kind_is = by wanted.asking.target; no_drive = none wanted.asking.target }
-  where
-    by : (target : UriTarget) → IsKindBy (record { mac = net0_mac s.devices; identity = s.machine }) s.opens (transfer_kind s target) (live_opening (transfer_for s wanted))
-    by (Tftp name port path whole) = tt
-    by (Http name port path whole) = refl
-    by (Iscsi name port lun disk whole) = tt
-
-    none : (target : UriTarget) → kind_number (transfer_kind s target) ≡ 3 → ⊥
-    none (Tftp name port path whole) is = absurd (cc)
-    none (Http name port path whole) is = absurd (cc)
-    none (Iscsi name port lun disk whole) is = absurd (cc)
-
-pub onward_next : (s : State) (next : Onward) → IsNext s (live_onward s next)
-onward_next s (fetches_now wanted) = transfer_next s wanted
-onward_next s (echoes_now server) = query_next s (for_echo server)
-onward_next s (looks_up_now errand name by) = query_next s (for_host errand name by)
 
 pub opens_next : (s t : State) (table : TableLists) (up : Bool) (e : Effect) (l : Live) (job : Job) → doing_by s table up e ≡ opens t l job → KeepsOpens s t × IsNext t l
 opens_next s t table up (asks wanted) l job e =
@@ -114,6 +94,9 @@ opens_next s t table up (goes name) l job e = absurd (cc)
 opens_next s t table up (sleeps seconds) l job e = absurd (cc)
 opens_next s t table up shuts_device l job e = absurd (cc)
 opens_next s t table up (on_images c) l job e = absurd (cc)
+opens_next s t table up (on_drives c) l job e = absurd (cc)
+opens_next s t table up (hooks_disk hooking) l job e = absurd (cc)
+opens_next s t table up (unhooks_drive number cause) l job e = absurd (cc)
 opens_next s t table up (concludes_at_once c) l job e = absurd (cc)
 
 pub kept_state : (es : List Event) (s t : State) → KeepsOpens s t → AgreesState es s → AgreesState es t
@@ -184,7 +167,7 @@ conclusion_agrees es s inner outer (runs_script list image replaces) put p leads
 conclusion_agrees es s inner outer (fails cause) put p (none, is) a = subst (AgreesStanding (es ++ told put)) (sym is) (subst (λ z. AgreesState (es ++ told z) s) (sym none) (subst (λ z. AgreesState z s) (sym (append-nil es)) a))
 conclusion_agrees es s inner outer (boots list kernel) put p (over, all, is) a =
     subst (AgreesStanding (es ++ told put)) (sym is)
-    (as_state (es ++ told put) (with_live s []) (with_live (with_images s list) []) (record { now = refl; opens = refl; offset = refl; mac = refl; identity = refl }) refl (close_agrees es s stopped_cause put [] over a all), still_handoff kernel list.images, silent_handoff kernel list.images)
+    (as_state (es ++ told put) (with_live s []) (with_live (with_images s list) []) (record { now = refl; opens = refl; offset = refl; mac = refl; identity = refl }) refl (close_agrees es s stopped_cause put [] over a all), still_handoff kernel list.images (boot_table s), silent_handoff kernel list.images (boot_table s))
 
 upshot_agrees : (es : List Event) (s : State) (inner : Running) (outer : List Running) (u : Upshot) (put : List Out) (p : Standing) → LeadsTo s inner outer u put p → AgreesState es s → AgreesStanding ((es ++ told (upshot_records u)) ++ told put) p
 upshot_agrees es s inner outer (concludes c) put p leads a = conclusion_agrees (es ++ told (conclusion_records c)) s inner outer c put p leads (still_state es (conclusion_records c) s (still_conclusion c) a)
@@ -192,6 +175,10 @@ upshot_agrees es s inner outer (settles x) put p (none, is) a =
     let es1 = es ++ told (result x.cause ∷ []) in
     subst (AgreesStanding (es1 ++ told put)) (sym is) (as_state (es1 ++ told put) s (with_settings s x.table s.up) (keeps_with s x.table s.up).same refl
     (subst (λ z. AgreesState (es1 ++ told z) s) (sym none) (subst (λ z. AgreesState z s) (sym (append-nil es1)) (still_state es (result x.cause ∷ []) s (tt, tt) a))))
+upshot_agrees es s inner outer (hooks_drive d) put p (none, is) a =
+    let es1 = es ++ told (result ok ∷ []) in
+    subst (AgreesStanding (es1 ++ told put)) (sym is) (as_state (es1 ++ told put) s (with_drive s d) (record { now = refl; opens = refl; offset = refl; mac = refl; identity = refl }) refl
+    (subst (λ z. AgreesState (es1 ++ told z) s) (sym none) (subst (λ z. AgreesState z s) (sym (append-nil es1)) (still_state es (result ok ∷ []) s (tt, tt) a))))
 upshot_agrees es s inner outer (goes_onward next) put p (none, is) a =
     let es1 = es ++ told [] in
     subst (AgreesStanding (es1 ++ told put)) (sym is) (subst (λ z. AgreesState (es1 ++ told z) s) (sym none) (subst (λ z. AgreesState z s) (sym (append-nil es1)) (still_state es [] s tt a)))
@@ -283,38 +270,55 @@ step_more_is es m r added m2 (course.switches_off n s w put over all) a = refl
 step_more_is es m r added m2 (course.resumes n s s2 inner outer r0 put over valid net) a = refl
 step_more_is es m r added m2 (course.goes_off n s inner outer put over all) a = refl
 
+-- all that lives is closed, the drives first
+first_close : (es : List Event) (s : State) (put : List Out) (over : List Over) → AgreesState es s → AllTake s.devices (close course.down_cause) (course.drives_first s.drives s.live) put [] over → AgreesState (es ++ told put) (with_live s [])
+first_close es s put over a all = some_close es s course.down_cause put (course.drives_first s.drives s.live) [] over a (splits_first es s s.drives a) all
+
+-- a drive is closed, and its command is over
+dropped_told : (es : List Event) (s s2 : State) (inner : Running) (ws : List (List ℕ)) (number : ℕ) (put : List Out) (cause : Cause) → course.DropsDrive s number put s2 → AgreesState es s →
+    AgreesState (es ++ told (command_record inner (shown_words s.table ws) ∷ put ++ (result cause ∷ []))) s2
+dropped_told es s s2 inner ws number put cause drops a =
+    let b = command_record inner (shown_words s.table ws) ∷ [] in
+    let a3 = still_state ((es ++ told b) ++ told put) (result cause ∷ []) s2 (tt, tt) (drop_agrees (es ++ told b) s s2 number put (still_state es b s (tt, tt) a) drops) in
+    subst (λ z. AgreesState z s2) (ap (λ z. z ++ told (result cause ∷ [])) (told_two es b put) ∙ told_two es (b ++ put) (result cause ∷ [])) a3
+
 -- a run goes on
-pub move_told : (es : List Event) (m : Progress) (added : List Out) (m2 : Progress) → Proceeds m added m2 → AgreesStanding es m.standing → AgreesStanding (es ++ told added) m2.standing
-move_told es m added m2 (course.passes n s inner next outer comes) a = still_state es [] s tt a
-move_told es m added m2 (course.is_left n s inner outer cause comes) a = still_state es (leave inner.depth cause ∷ []) s (tt, tt) a
-move_told es m added m2 (course.hands_back n s inner outer cause) a = still_state es (result cause ∷ []) s (tt, tt) a
-move_told es m added m2 (course.concludes_there n s inner outer c cs x put p comes few is leads) a =
+pub move_told : (es : List Event) (m : Progress) (added : List Out) (m2 : Progress) → Proceeds m added m2 → AgreesStanding es m.standing → MayHook es m.standing → AgreesStanding (es ++ told added) m2.standing
+move_told es m added m2 (course.passes n s inner next outer comes) a r = still_state es [] s tt a
+move_told es m added m2 (course.is_left n s inner outer cause comes) a r = still_state es (leave inner.depth cause ∷ []) s (tt, tt) a
+move_told es m added m2 (course.hands_back n s inner outer cause) a r = still_state es (result cause ∷ []) s (tt, tt) a
+move_told es m added m2 (course.concludes_there n s inner outer c cs x put p comes few is leads) a r =
     let b = command_record inner (shown_words s.table (c ∷ cs)) ∷ conclusion_records x in
     subst (λ z. AgreesStanding z p) (told_two es b put) (conclusion_agrees (es ++ told b) s (entered inner) outer x put p leads (still_state es b s (tt, still_conclusion x) a))
-move_told es m added m2 (course.yields n s inner outer c cs comes full) a = still_state es [] s tt a
-move_told es m added m2 (course.does n s s2 inner outer c cs x comes few is stays) a =
+move_told es m added m2 (course.yields n s inner outer c cs comes full) a r = still_state es [] s tt a
+move_told es m added m2 (course.does n s s2 inner outer c cs x comes few is stays) a r =
     let b = command_records inner (shown_words s.table (c ∷ cs)) x in
     kept_state (es ++ told b) s s2 (ends_keep s s2 _ _ _ x is) (still_state es b s (still_command inner (shown_words s.table (c ∷ cs)) x) a)
-move_told es m added m2 (course.closes_device n s s2 inner outer c cs put over comes few is all) a =
+move_told es m added m2 (course.closes_device n s s2 inner outer c cs put over comes few is all) a r =
     let b = command_record inner (shown_words s.table (c ∷ cs)) ∷ [] in
-    let a2 = close_agrees (es ++ told b) s2 course.down_cause put [] over (kept_state (es ++ told b) s s2 (shuts_keep s s2 _ _ _ is) (still_state es b s (tt, tt) a)) all in
+    let a2 = first_close (es ++ told b) s2 put over (kept_state (es ++ told b) s s2 (shuts_keep s s2 _ _ _ is) (still_state es b s (tt, tt) a)) all in
     let a3 = still_state ((es ++ told b) ++ told put) (result ok ∷ []) (with_live s2 []) (tt, tt) a2 in
     subst (λ z. AgreesState z (with_live s2 [])) (ap (λ z. z ++ told (result ok ∷ [])) (told_two es b put) ∙ told_two es (b ++ put) (result ok ∷ [])) a3
-move_told es m added m2 (course.leaves n s s2 inner outer c cs x comes few is away) a =
+move_told es m added m2 (course.goes_to_hook n s s2 inner outer c cs hooking put next comes few is drops next_asked) a r =
+    let b = command_record inner (shown_words s.table (c ∷ cs)) ∷ [] in
+    subst (λ z. AgreesState z s2) (told_two es b put) (drop_agrees (es ++ told b) s s2 hooking.number put (still_state es b s (tt, tt) a) drops)
+move_told es m added m2 (course.hooks_none n s s2 inner outer c cs hooking put cause comes few is drops next_asked) a r = dropped_told es s s2 inner (c ∷ cs) hooking.number put cause drops a
+move_told es m added m2 (course.unhooks n s s2 inner outer c cs number put cause comes few is drops) a r = dropped_told es s s2 inner (c ∷ cs) number put cause drops a
+move_told es m added m2 (course.leaves n s s2 inner outer c cs x comes few is away) a r =
     let b = command_records inner (shown_words s.table (c ∷ cs)) x ++ (leave inner.depth x.cause ∷ []) in
     kept_state (es ++ told b) s s2 (ends_keep s s2 _ _ _ x is)
     (still_state es b s (more_still (command_records inner (shown_words s.table (c ∷ cs)) x) (leave inner.depth x.cause ∷ []) (still_command inner (shown_words s.table (c ∷ cs)) x) (tt, tt)) a)
-move_told es m added m2 (course.jumps n s inner outer c cs name line comes few is there) a =
+move_told es m added m2 (course.jumps n s inner outer c cs name line comes few is there) a r =
     still_state es (command_records inner (shown_words s.table (c ∷ cs)) (refused ok)) s (still_command inner (shown_words s.table (c ∷ cs)) (refused ok)) a
-move_told es m added m2 (course.finds_no_label n s inner outer c cs name comes few is none) a =
+move_told es m added m2 (course.finds_no_label n s inner outer c cs name comes few is none) a r =
     still_state es (command_records inner (shown_words s.table (c ∷ cs)) (refused no_label)) s (still_command inner (shown_words s.table (c ∷ cs)) (refused no_label)) a
-move_told es m added m2 (course.falls_asleep n s inner outer c cs t comes few is) a = still_state es (command_record inner (shown_words s.table (c ∷ cs)) ∷ []) s (tt, tt) a
-move_told es m added m2 (course.opens_one n s s2 inner outer c cs l job link put comes few is got first) a =
+move_told es m added m2 (course.falls_asleep n s inner outer c cs t comes few is) a r = still_state es (command_record inner (shown_words s.table (c ∷ cs)) ∷ []) s (tt, tt) a
+move_told es m added m2 (course.opens_one n s s2 inner outer c cs l job link put comes few is got first) a r =
     let b = command_record inner (shown_words s.table (c ∷ cs)) ∷ [] in
     let k = opens_next s s2 _ _ _ l job is in
     let f = begun_so link l put first in
-    subst (λ z. AgreesState z (with_opened s2 l)) (told_two es b (open_record l ∷ put)) (opened_state (es ++ told b) s2 l put k.1 f.0 f.1 f.2 f.3 (kept_state (es ++ told b) s s2 k.0 (still_state es b s (tt, tt) a)))
-move_told es m added m2 (course.finds_no_route n s s2 inner outer c cs l job link comes few is got none) a =
+    subst (λ z. AgreesState z (with_opened s2 l)) (told_two es b (open_record l ∷ put)) (opened_state (es ++ told b) s2 l put k.1 (opens_settings (es ++ told b) s s2 _ _ _ l job is) f.0 f.1 f.2 f.3 (kept_state (es ++ told b) s s2 k.0 (still_state es b s (tt, tt) a)))
+move_told es m added m2 (course.finds_no_route n s s2 inner outer c cs l job link comes few is got none) a r =
     let b = command_record inner (shown_words s.table (c ∷ cs)) ∷ [] in
     let k = opens_next s s2 _ _ _ l job is in
     let es1 = es ++ told b in
@@ -322,18 +326,18 @@ move_told es m added m2 (course.finds_no_route n s s2 inner outer c cs l job lin
     let last = conclusion_records (fails (no_route l.server)) in
     subst (λ z. AgreesState z (with_one_made s2)) (ap (λ z. z ++ told last) (told_two es b two) ∙ told_two es (b ++ two) last)
     (still_state (es1 ++ told two) last (with_one_made s2) (tt, tt) (failed_state es1 s2 l (no_route l.server) k.1 (kept_state es1 s s2 k.0 (still_state es b s (tt, tt) a))))
-move_told es m added m2 (course.opens_onward n s inner outer next link put few got first) a =
+move_told es m added m2 (course.opens_onward n s inner outer next link put few got first) a r =
     let l = live_onward s next in
     let f = begun_so link l put first in
-    opened_state es s l put (onward_next s next) f.0 f.1 f.2 f.3 a
-move_told es m added m2 (course.finds_no_way n s inner outer next link few got none) a =
+    opened_state es s l put (onward_so es s next r) (onward_settings es s next r) f.0 f.1 f.2 f.3 a
+move_told es m added m2 (course.finds_no_way n s inner outer next link few got none) a r =
     let l = live_onward s next in
     let two = open_record l ∷ end_record l (no_route l.server) ∷ [] in
     let last = conclusion_records (fails (no_route l.server)) in
-    subst (λ z. AgreesState z (with_one_made s)) (told_two es two last) (still_state (es ++ told two) last (with_one_made s) (tt, tt) (failed_state es s l (no_route l.server) (onward_next s next) a))
-move_told es m added m2 (course.opens_no_more n s inner outer next full) a = still_state es (result full_opens ∷ []) s (tt, tt) a
-move_told es m added m2 (course.hands n s r rest) a = (still_state es (r ∷ []) s (a.1.0, tt) a.0, a.1.1, a.2.1)
-move_told es m added m2 (course.has_handed n s) a = still_state es [] s tt a.0
+    subst (λ z. AgreesState z (with_one_made s)) (told_two es two last) (still_state (es ++ told two) last (with_one_made s) (tt, tt) (failed_state es s l (no_route l.server) (onward_so es s next r) a))
+move_told es m added m2 (course.opens_no_more n s inner outer next full) a r = still_state es (result full_opens ∷ []) s (tt, tt) a
+move_told es m added m2 (course.hands n s o rest) a r = (still_state es (o ∷ []) s (a.1.0, tt) a.0, a.1.1, a.2.1)
+move_told es m added m2 (course.has_handed n s) a r = still_state es [] s tt a.0
 
 -- records are written
 pub writes_more : (outs : List Out) (es : List Event) (more : List Out) → outs ≡ outputs es → outs ++ more ≡ outputs (es ++ told more)

@@ -23,7 +23,7 @@ use Rattle.nb_machine.specs.CommandRecords.{no_route}
 use Rattle.nb_login.specs.declared.info.LoginInfo.{LoginInfo}
 use Rattle.nb_laws.specs.Agreement.{moment, try_marks, entry_marks}
 use Rattle.nb_laws.specs.Cores.{answers_open, has_its_answer}
-use Rattle.nb_laws.specs.Endings.{fate_to}
+use Rattle.nb_laws.specs.Endings.{fate_to, HadWay}
 use Rattle.nb_laws.specs.Events.{Event, puts}
 use Rattle.nb_laws.specs.Frames.{IsDue}
 use Rattle.nb_laws.specs.Histories.{client}
@@ -48,7 +48,7 @@ use Rattle.nb_laws.specs.Webs.{opens_web, opens_session, opens_connection, broug
 use Rattle.nb_machine.specs.Transfers.{transfer_of, earlier, finds_none, end_records}
 use Rattle.nb_machine.specs.Takings.{end_among}
 use Rattle.nb_openlaws.specs.Standings.{streamed, streamed_marks, heard_call, heard_calls, heard_marks, moment_in, told_tries, IsKindBy, HasLogin, ComesToOwnPort, IsOngoing}
-use Rattle.nb_openlaws.specs.OpenEndings.{HadWay, EndsBecause, by_itself, by_lost_way}
+use Rattle.nb_openlaws.specs.OpenEndings.{EndsBecause, by_itself, by_lost_way}
 use Rattle.nb_openlaws.specs.OpenReasons.{OpenReasons}
 use Rattle.nb_openlaws.proofs.Takings.{IsNow, IsDueBy, came_marks, way_stays, grown}
 use Rattle.nb_openlaws.proofs.OpenRecords.{of_acts}

@@ -49,7 +49,7 @@ use Rattle.nb_openlaws.proofs.WebSendings.{segment_reasons}
 use Rattle.nb_openlaws.proofs.SessionSendings.{session_reason}
 use Rattle.nb_openlaws.proofs.SessionEnds.{drive_opening}
 use Rattle.nb_openlaws.proofs.KindFacts.{opening_as, first_of, no_way_as}
-use Rattle.nb_openlaws.proofs.OpenStates.{IsNext, opens_here, hardware_now, no_login}
+use Rattle.nb_openlaws.proofs.OpenStates.{IsNext, SaysSettings, opens_here, hardware_now, opens_login}
 use Rattle.nb_openlaws.proofs.Closings.{ended_advanced}
 
 -- ITS FIRST MESSAGE
@@ -92,6 +92,7 @@ first_unanswered ping es l is none unstreamed = ap (answers_open (hardware es) l
 -- the next open of this state, over this client
 pub record Opens (es : List Event) (s : State) (l : Live) (link : Client) : Type 0 where
   pub next : IsNext s l
+  pub settings : SaysSettings es s l.kind
   pub base : AgreesState es s
   pub client_is : client es ≡ link
   pub advanced : IsAdvanced es
@@ -212,7 +213,7 @@ begins_reasons es s l link put o first =
     let es1 = es ++ puts (open_record l) ∷ [] in
     let r = open_reasons es s l link o in
     let m = opened_so es s l link o in
-    let sends = kind_begins l.kind es1 l link m.client_is m.opening m.lives m.received m.streams m.due (kind_then es s l link o) (no_login l.number es1 l.kind (live_opening l) o.next.no_drive) r.after in
+    let sends = kind_begins l.kind es1 l link m.client_is m.opening m.lives m.received m.streams m.due (kind_then es s l link o) (opens_login es s l o.next o.settings o.base) r.after in
     reasons_then es (open_record l ∷ []) put r (by es1 l.kind first sends)
   where
     by : (es1 : List Event) (kind : OpenKind) → first_records kind l link ≡ Some put → OpenReasons es1 (send_records link l.number (Some 1) (first_of kind l)) → OpenReasons es1 put

@@ -1,7 +1,8 @@
 -- Each open that lives keeps its promises, wherever a course stands; and so what it asks for hasn't come.
-use Rattle.std.proofs.Common.{◌≡◌, ℕ, ◌+◌, ◌==◌, Bool, true, false, ◌||◌, List, [], ◌∷◌, ◌++◌, Option, Some, None, refl, sym, ◌∙◌, ap, subst}
+use Rattle.std.proofs.Common.{◌≡◌, ℕ, ◌+◌, ◌==◌, Bool, true, false, ◌||◌, List, [], ◌∷◌, ◌++◌, Option, Some, None, refl, sym, ◌∙◌, ap, subst, not}
 use Rattle.std.specs.List.{AllByRecursion}
 use Rattle.std.proofs.lemmas.Bool.{eqb-true}
+use Rattle.std.specs.Prelude.{filter}
 use Rattle.nb_tftp.proofs.BlockLemmas.{either_way}
 use Rattle.nb_defs.specs.Records.{In, Out}
 use Rattle.nb_tftp.specs.Asks.{Begun}
@@ -10,7 +11,7 @@ use Rattle.nb_stack.specs.Client.{Client}
 use Rattle.nb_machine.specs.Conclusions.{Conclusion, keeps, tells, fails, boots, runs_script}
 use Rattle.nb_settings.specs.Tables.{TableLists}
 use Rattle.nb_machine.specs.Effects.{Effect}
-use Rattle.nb_machine.specs.Errands.{Wanted, Onward, fetches_now, echoes_now, looks_up_now}
+use Rattle.nb_machine.specs.Errands.{Wanted, Onward, fetches_now, echoes_now, looks_up_now, hooks_now}
 use Rattle.nb_machine.specs.Queries.{Query, for_lease, for_echo, for_host, for_address}
 use Rattle.nb_machine.specs.Running.{Running, entered, anew}
 use Rattle.nb_streams.proofs.FlowLaws.{all_append}
@@ -31,9 +32,9 @@ use Rattle.nb_imagecmd.specs.declared.outcome.ScriptImage.{ScriptImage}
 use Rattle.nb_machine.specs.FirstText.{text_refusal}
 use Rattle.nb_machine.specs.Takings.{Over, AllTake, all_have, lives_on, is_over}
 use Rattle.nb_machine.specs.Network.{Network, passes_by, brings, brings_reply, brings_segment, passes_time}
-use Rattle.nb_machine.specs.Scripts.{Job, transfer_kind, transfer_for, live_for, live_onward, Upshot, concludes, settles, goes_onward, concluded_by}
+use Rattle.nb_machine.specs.Scripts.{Job, transfer_kind, transfer_for, live_for, live_onward, Upshot, concludes, settles, goes_onward, concluded_by, hooks_drive}
 use Rattle.nb_machine.specs.Courses as course
-use Rattle.nb_machine.specs.Courses.{Standing, Progress, text_standing, ScriptLeads, ConclusionLeads, LeadsTo, StepBegins, Proceeds, Course}
+use Rattle.nb_machine.specs.Courses.{Standing, Progress, text_standing, ScriptLeads, ConclusionLeads, LeadsTo, StepBegins, Proceeds, Course, DropsDrive, is_drives_own}
 use Rattle.nb_laws.specs.Events.{Event}
 use Rattle.nb_laws.specs.Lists.{hardware, Opening, live, calls}
 use Rattle.nb_laws.specs.Webs.{brought_to, talk_by}
@@ -47,6 +48,8 @@ use Rattle.nb_openlaws.proofs.KindFacts.{by_datagrams, answer_as, opening_as, un
 use Rattle.nb_openlaws.proofs.Requests.{calls_after, said_once}
 use Rattle.nb_openlaws.proofs.WebStands.{goes_unwhole, web_goes, ongoing}
 use Rattle.nb_openlaws.proofs.Doings.{ends_by, OpensBy, opens_transfer, opens_query, opens_by}
+use Rattle.nb_openlaws.proofs.LiveParts.{all_filter}
+use Rattle.nb_drivecmd.specs.HookedDrives.{is_drive}
 
 abbrev pub AreKept : List Live → Type 0
 AreKept ls = AllByRecursion Keeps ls
@@ -113,6 +116,7 @@ query_kept s (for_address setting name by) = record { calls = []; exchanged = co
 onward_kept : (s : State) (next : Onward) → Keeps (live_onward s next)
 onward_kept s (fetches_now wanted) = transfer_kept s wanted
 onward_kept s (echoes_now server) = query_kept s (for_echo server)
+onward_kept s (hooks_now hooking server) = tt
 onward_kept s (looks_up_now errand name by) = query_kept s (for_host errand name by)
 
 -- what is opened keeps its promises, beside those that live
@@ -140,7 +144,12 @@ conclusion_kept s inner outer (boots list kernel) put p (over, all, is) h = subs
 upshot_kept : (s : State) (inner : Running) (outer : List Running) (u : Upshot) (put : List Out) (p : Standing) → LeadsTo s inner outer u put p → AreKept s.live → KeptAt p
 upshot_kept s inner outer (concludes c) put p leads h = conclusion_kept s inner outer c put p leads h
 upshot_kept s inner outer (settles x) put p (none, is) h = subst KeptAt (sym is) h
+upshot_kept s inner outer (hooks_drive d) put p (none, is) h = subst KeptAt (sym is) h
 upshot_kept s inner outer (goes_onward next) put p (none, is) h = subst KeptAt (sym is) h
+
+-- the others live on where a drive was closed
+drop_kept : (s s' : State) (number : ℕ) (put : List Out) → DropsDrive s number put s' → AreKept s.live → AreKept s'.live
+drop_kept s s' number put d h = subst (λ (z : State). AreKept z.live) (sym d.leaves) (all_filter Keeps (λ l. not (is_drives_own (filter (is_drive number) s.drives) l)) s.live h)
 
 pub step_kept : (m : Progress) (r : In) (added : List Out) (m2 : Progress) → StepBegins m r added m2 → KeptAt m.standing → KeptAt m2.standing
 step_kept m r added m2 (course.runs n s code valid reads) h = tt
@@ -159,6 +168,9 @@ move_kept m added m2 (course.concludes_there n s inner outer c cs x put p comes 
 move_kept m added m2 (course.yields n s inner outer c cs comes full) h = h
 move_kept m added m2 (course.does n s s2 inner outer c cs x comes few is stays) h = subst (λ (z : State). AreKept z.live) (sym (ends_by s inner (c ∷ cs) x s2 is).1) h
 move_kept m added m2 (course.closes_device n s s2 inner outer c cs put over comes few is all) h = tt
+move_kept m added m2 (course.goes_to_hook n s s2 inner outer c cs hooking put next comes few is drops asks) h = drop_kept s s2 hooking.number put drops h
+move_kept m added m2 (course.hooks_none n s s2 inner outer c cs hooking put cause comes few is drops asks) h = drop_kept s s2 hooking.number put drops h
+move_kept m added m2 (course.unhooks n s s2 inner outer c cs number put cause comes few is drops) h = drop_kept s s2 number put drops h
 move_kept m added m2 (course.leaves n s s2 inner outer c cs x comes few is away) h = subst (λ (z : State). AreKept z.live) (sym (ends_by s inner (c ∷ cs) x s2 is).1) h
 move_kept m added m2 (course.jumps n s inner outer c cs name line comes few is there) h = h
 move_kept m added m2 (course.finds_no_label n s inner outer c cs name comes few is none) h = h

@@ -2,10 +2,12 @@ pub mod OpenRecords
 pub mod Takings
 pub mod UsedEvents
 pub mod HeardFrames
+pub mod LiveParts
 pub mod LiveStates
 pub mod Networks
 pub mod NetworkDevices
 pub mod OpenStates
+pub mod NextOpens
 pub mod Courses
 pub mod OpenEntries
 pub mod LastEntries

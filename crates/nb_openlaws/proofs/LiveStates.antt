@@ -1,7 +1,8 @@
 -- The state after records that tell no open, after a time, and where all is closed.
-use Rattle.std.proofs.Common.{◌≡◌, ℕ, ◌+◌, ◌≤◌, ◌==◌, Bool, true, false, ◌||◌, List, [], ◌∷◌, ◌++◌, refl, sym, ◌∙◌, ap, subst, append-nil, add-zero, arith, eq-eqb, ne_eqb}
+use Rattle.std.proofs.Common.{◌≡◌, ℕ, ◌+◌, ◌≤◌, ◌==◌, Bool, true, false, ◌||◌, List, [], ◌∷◌, ◌++◌, refl, sym, ◌∙◌, ap, subst, append-nil, add-zero, arith, eq-eqb, ne_eqb, not}
 use Rattle.std.specs.List.{flat_map}
 use Rattle.std.proofs.Math.Bool.{or-false}
+use Rattle.std.specs.Prelude.{filter}
 use Rattle.nb_terms.specs.declared.cause.Cause.{Cause}
 use Rattle.nb_defs.specs.Records.{Out}
 use Rattle.nb_tftp.proofs.BlockLemmas.{either_way}
@@ -14,14 +15,19 @@ use Rattle.nb_laws.specs.Lists.{time, ms_of, made, Hardware, hardware, Opening, 
 use Rattle.nb_laws.specs.Webs.{try_marks_of}
 use Rattle.nb_talks.specs.Talking.{by_time}
 use Rattle.nb_streams.specs.Trying.{tries_at}
-use Rattle.nb_openlaws.specs.Standings.{heard_calls, heard_marks, streamed, streamed_marks, live_opening, ComesToOwnPort, AreLive, lives_among, HaveOwnNumbers, AgreesState, told_tries}
+use Rattle.nb_openlaws.specs.Standings.{heard_calls, heard_marks, streamed, streamed_marks, live_opening, ComesToOwnPort, AreLive, lives_among, HaveOwnNumbers, AgreesState, told_tries, AgreesLive}
 use Rattle.nb_laws.proofs.Histories.{time_more}
 use Rattle.nb_laws.specs.Frames.{by_call}
 use Rattle.nb_machine.specs.Scripts.{net0_mac}
+use Rattle.nb_machine.specs.CommandRecords.{stopped_cause}
+use Rattle.nb_machine.specs.Courses.{is_drives_own, drives_first, DropsDrive}
 use Rattle.nb_laws.proofs.Tellings.{told, try_marks_by, no_more, live_same}
 use Rattle.nb_openlaws.proofs.OpenRecords.{AreLater, ends_in, left}
 use Rattle.nb_openlaws.proofs.Takings.{SameAt, then_same, Grows, grown, AllCome, live_on, both_false, all_taken}
 use Rattle.nb_openlaws.proofs.UsedEvents.{IsUsed, IsFurther, BringsNone, live_ended, live_one, no_call, made_used, used_same, offset_used, hardware_used, has_come}
+use Rattle.nb_openlaws.proofs.LiveParts.{all_filter, left_by_test, among_both, not_taken, own_taken, parts_apart, all_first, among_first, own_first}
+use Rattle.nb_drivecmd.specs.declared.drive.Drive.{Drive}
+use Rattle.nb_drivecmd.specs.HookedDrives.{is_drive}
 
 -- THE STATE
 
@@ -191,6 +197,75 @@ closes_come es cause (l ∷ ls) h = (
   },
   closes_come es cause ls h.1,
 )
+
+-- some of the opens that live, whose numbers are their own, and the others
+pub record Splits (es : List Event) (live some others : List Live) : Type 0 where
+  pub each : AreLive es some
+  pub own : HaveOwnNumbers some
+  pub rest_each : AreLive es others
+  pub rest_own : HaveOwnNumbers others
+  pub apart : (j : ℕ) → lives_among j some ≡ true → lives_among j others ≡ false
+  pub away : (j : ℕ) → lives_among j live ≡ false → lives_among j some ≡ false
+  pub rest : (j : ℕ) → lives_among j some ≡ false → lives_among j others ≡ false → lives_among j live ≡ false
+
+-- these are closed, and the others live on
+pub some_close : (es : List Event) (s : State) (cause : Cause) (put : List Out) (some others : List Live) (over : List Over) → AgreesState es s → Splits es s.live some others → AllTake s.devices (close cause) some put [] over →
+    AgreesState (es ++ told put) (with_live s others)
+some_close es s cause put some others over a p all =
+    let es2 = es ++ told put in
+    let t = all_taken s.devices (close cause) some put [] over all es (closes_come es cause some p.each) p.own in
+    let none : (j : ℕ) → made es2 ≤ j → lives_among j some ≡ false = λ j more. not_among es j some p.each (subst (λ z. z ≤ j) t.made_is more) in
+    let still : (j : ℕ) → lives_among j others ≡ true → SameAt j es es2 =
+    λ j lives. either_way (lives_among j some) (λ mine. absurd (let no : false ≡ true = sym (p.apart j mine) ∙ lives in cc no)) (λ other. t.still j other) in
+    record {
+      time = t.time_is ∙ a.time;
+      opens = t.made_is ∙ a.opens;
+      offset = t.offset_is ∙ a.offset;
+      mac_is = ap (λ (h : Hardware). h.mac) t.hardware_is ∙ a.mac_is;
+      identity_is = ap (λ (h : Hardware). h.identity) t.hardware_is ∙ a.identity_is;
+      each = all_same es es2 others (grown es (told put)) t.made_is t.hardware_is still p.rest_each;
+      apart = p.rest_own;
+      others = λ j gone. either_way (lives_among j some) (λ mine. live_ended j es2 (t.gone j mine refl))
+          (λ other. live_same j es2 es (t.still j other).openings_are (t.still j other).over_are ∙ a.others j (p.rest j other gone));
+      unopened = λ j more. (t.still j (none j more)).openings_are ∙ a.unopened j (subst (λ z. z ≤ j) t.made_is more);
+      unended = λ j more. (t.still j (none j more)).over_are ∙ a.unended j (subst (λ z. z ≤ j) t.made_is more);
+      untold = λ j more. let u = a.untold j (subst (λ z. z ≤ j) t.made_is more) in ((t.still j (none j more)).calls_are ∙ u.0, (t.still j (none j more)).marks_are ∙ u.1);
+      unstreamed = λ j more. let u = a.unstreamed j (subst (λ z. z ≤ j) t.made_is more) in ((t.still j (none j more)).came_are ∙ u.0, (t.still j (none j more)).try_marks_are ∙ u.1);
+    }
+
+either_one : (b c : Bool) → b ≡ false → c ≡ false → (b || c) ≡ false
+either_one true c e f = absurd (let no : true ≡ false = e in cc no)
+either_one false c e f = f
+
+-- those that a test takes
+pub splits_by : (es : List Event) (s : State) (f : Live → Bool) → AgreesState es s → Splits es s.live (filter f s.live) (filter (λ l. not (f l)) s.live)
+splits_by es s f a = record {
+  each = all_filter (AgreesLive es) f s.live a.each;
+  own = own_taken f s.live a.apart;
+  rest_each = all_filter (AgreesLive es) (λ l. not (f l)) s.live a.each;
+  rest_own = own_taken (λ l. not (f l)) s.live a.apart;
+  apart = λ j mine. parts_apart j f s.live a.apart mine;
+  away = λ j none. not_taken j f s.live none;
+  rest = λ j none more. among_both j f s.live ∙ either_one (lives_among j (filter f s.live)) (lives_among j (left_by_test f s.live)) none more;
+}
+
+-- all that lives, the drives first
+pub splits_first : (es : List Event) (s : State) (drives : List Drive) → AgreesState es s → Splits es s.live (drives_first drives s.live) []
+splits_first es s drives a = record {
+  each = all_first (AgreesLive es) drives s.live a.each;
+  own = own_first drives s.live a.apart;
+  rest_each = tt;
+  rest_own = tt;
+  apart = λ j mine. refl;
+  away = λ j none. among_first j drives s.live ∙ none;
+  rest = λ j none more. sym (among_first j drives s.live) ∙ none;
+}
+
+-- the drive of a number is closed
+pub drop_agrees : (es : List Event) (s s' : State) (number : ℕ) (put : List Out) → AgreesState es s → DropsDrive s number put s' → AgreesState (es ++ told put) s'
+drop_agrees es s s' number put a d =
+    subst (AgreesState (es ++ told put)) (sym d.leaves)
+    (some_close es s stopped_cause put _ _ d.over a (splits_by es s (is_drives_own (filter (is_drive number) s.drives)) a) d.closes)
 
 -- all that lives is closed, and nothing lives
 pub close_agrees : (es : List Event) (s : State) (cause : Cause) (put : List Out) (after : List Live) (over : List Over) → AgreesState es s → AllTake s.devices (close cause) s.live put after over →

@@ -27,7 +27,8 @@ use Rattle.nb_machine.specs.States.{State, net0}
 use Rattle.nb_machine.specs.Takings.{Over, AllTake}
 use Rattle.nb_machine.specs.Network.{Network, on_net0, passes_by, brings, brings_reply, brings_segment, passes_time}
 use Rattle.nb_openlaws.specs.Standings.{live_opening, AgreesLive, AreLive, lives_among, AgreesState, AgreesDevice, streamed}
-use Rattle.nb_openlaws.specs.OpenEndings.{HadWay, by_reason}
+use Rattle.nb_laws.specs.Endings.{HadWay}
+use Rattle.nb_openlaws.specs.OpenEndings.{by_reason}
 use Rattle.nb_openlaws.specs.OpenReasons.{HaveWays, OpenReasons}
 use Rattle.nb_openlaws.proofs.Takings.{HasCome, both_false, or_first, or_second, way_stays, grown}
 use Rattle.nb_openlaws.proofs.UsedEvents.{IsUsed, BringsNone, live_one, no_call}

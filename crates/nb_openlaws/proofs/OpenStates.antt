@@ -1,6 +1,6 @@
 -- The state after records that tell nothing of an open, and where an open begins.
 use Rattle.std.proofs.Common.{◌≡◌, ℕ, ◌+◌, ◌≤◌, ◌==◌, Bool, true, false, cond, ◌||◌, List, [], ◌∷◌, ◌++◌, Some, None, refl, sym, ◌∙◌, ap, subst, append_assoc, append-nil, add-zero, arith, ne_eqb}
-use Rattle.std.specs.List.{AllByRecursion}
+use Rattle.std.specs.List.{AllByRecursion, flat_map}
 use Rattle.std.proofs.lemmas.Bool.{eqb-true}
 use Rattle.std.proofs.Math.Bool.{or-false}
 use Rattle.nb_terms.specs.declared.cause.Cause.{Cause}
@@ -28,8 +28,11 @@ use Rattle.nb_laws.specs.Lists.{time, made, port_offset, Hardware, hardware, Ope
 use Rattle.nb_openlaws.specs.Standings.{heard_calls, heard_marks, streamed, streamed_marks, told_try, told_tries, IsKindBy, HasLogin, IsOngoing, live_opening, AgreesLive, AreLive, lives_among, HaveOwnNumbers, AgreesState}
 use Rattle.nb_laws.specs.Agreement.{IsStill, AreStill}
 use Rattle.nb_laws.proofs.Histories.{time_more, offset_more, hardware_more}
-use Rattle.nb_laws.proofs.Tellings.{told, try_marks_by, made_more, openings_more, calls_more, came_more, try_marks_more, marks_more, over_more, no_more, live_same, same_number, sessions_stay}
+use Rattle.nb_laws.proofs.Tellings.{told, try_marks_by, made_more, openings_more, calls_more, came_more, try_marks_more, marks_more, over_more, no_more, live_same, same_number, sessions_stay, sessions_more}
 use Rattle.nb_laws.proofs.Asides.{own_send}
+use Rattle.nb_laws.specs.Drives.{session_with, session_opening, session_at, login_at}
+use Rattle.nb_laws.specs.CommandsSoFar.{so_far}
+use Rattle.nb_laws.proofs.SessionOpenings.{no_session_unopened}
 use Rattle.nb_streams.proofs.FlowLaws.{all_append}
 use Rattle.nb_openlaws.proofs.OpenRecords.{AreOf, IsLater, AreLater, is_end_record, ends_in, left, of_later, of_send, other_tries, other_try_marks, other_ends}
 use Rattle.nb_openlaws.proofs.Takings.{SameAt, then_same, or_first, or_second, both_false, login_on}
@@ -79,6 +82,24 @@ still_state es outs s h a = quiet_state es outs s (still_later outs h) (λ j. st
 
 -- AN OPEN BEGINS
 
+-- what a drive's login is begun with is what the settings say then
+abbrev pub IsLoginBy : State → OpenKind → ℕ → Opening → Type 0
+IsLoginBy s tftp k o = Unit {0}
+IsLoginBy s (http isn) k o = Unit {0}
+IsLoginBy s (iscsi isn i) k o = i ≡ login_at (record { mac = net0_mac s.devices; identity = s.machine }) k s.table o
+IsLoginBy s (dns id) k o = Unit {0}
+IsLoginBy s (dhcp a) k o = Unit {0}
+IsLoginBy s ping k o = Unit {0}
+
+-- where a drive's open begins, the history says the settings
+abbrev pub SaysSettings : List Event → State → OpenKind → Type 0
+SaysSettings es s tftp = Unit {0}
+SaysSettings es s (http isn) = Unit {0}
+SaysSettings es s (iscsi isn i) = (so_far es).table ≡ s.table
+SaysSettings es s (dns id) = Unit {0}
+SaysSettings es s (dhcp a) = Unit {0}
+SaysSettings es s ping = Unit {0}
+
 -- the next open of this state, to which nothing has come
 pub record IsNext (s : State) (l : Live) : Type 0 where
   pub number_is : l.number ≡ s.opens
@@ -86,8 +107,7 @@ pub record IsNext (s : State) (l : Live) : Type 0 where
   pub since_is : l.since ≡ s.now
   pub bare : l.exchanges ≡ []
   pub kind_is : IsKindBy (record { mac = net0_mac s.devices; identity = s.machine }) l.number l.kind (live_opening l)
-  -- no command opens a drive yet
-  pub no_drive : kind_number l.kind ≡ 3 → ⊥
+  pub login : IsLoginBy s l.kind l.number (live_opening l)
 
 pub opens_here : (es : List Event) (s : State) (l : Live) → IsNext s l → AgreesState es s → openings l.number (es ++ puts (open_record l) ∷ []) ≡ live_opening l ∷ []
 opens_here es s l next a =
@@ -180,19 +200,32 @@ apart_last es (x ∷ ls) l e h a = (last ls a.0, apart_last es ls l e h.1 a.1)
 pub hardware_now : (es : List Event) (s : State) → AgreesState es s → record { mac = net0_mac s.devices; identity = s.machine } ≡ hardware es
 hardware_now es s a = rw (sym a.mac_is, sym a.identity_is) refl
 
--- a login begins with a drive's open alone
-pub no_login : (k : ℕ) (es : List Event) (kind : OpenKind) (o : Opening) → (kind_number kind ≡ 3 → ⊥) → HasLogin k es kind o
-no_login k es tftp o none = tt
-no_login k es (http isn) o none = tt
-no_login k es (iscsi isn i) o none = absurd (none refl)
-no_login k es (dns id) o none = tt
-no_login k es (dhcp x) o none = tt
-no_login k es ping o none = tt
+-- its login is the history's
+pub opens_login : (es : List Event) (s : State) (l : Live) → IsNext s l → SaysSettings es s l.kind → AgreesState es s → HasLogin l.number (es ++ puts (open_record l) ∷ []) l.kind (live_opening l)
+opens_login es s l next said a = by l.kind refl next.login said
+  where
+    here : opening_at l.number es (puts (open_record l)) ≡ live_opening l ∷ []
+    here =
+        ap (λ b. cond b (record { kind = (live_opening l).kind; server = l.server; port = l.port; own = l.own; target = l.target; since = time es } ∷ []) []) (same_number l.number)
+        ∙ ap (λ t. record { kind = (live_opening l).kind; server = l.server; port = l.port; own = l.own; target = l.target; since = t } ∷ []) (a.time ∙ sym next.since_is)
+
+    by : (kind : OpenKind) → l.kind ≡ kind → IsLoginBy s kind l.number (live_opening l) → SaysSettings es s kind → HasLogin l.number (es ++ puts (open_record l) ∷ []) kind (live_opening l)
+    by tftp is login settings = tt
+    by (http isn) is login settings = tt
+    by (iscsi isn i) is login settings =
+        sessions_more l.number es (puts (open_record l)) ∙ ap (λ z. z ++ session_at l.number es (puts (open_record l))) (no_session_unopened l.number es (a.unopened l.number (omega (arith, a.opens, next.number_is))))
+        ∙ ap (λ (os : List Opening). flat_map (session_opening l.number es) os) here
+        ∙ ap (λ b. cond b (session_with l.number es (live_opening l) ∷ []) [] ++ []) (ap (λ z. kind_number z == 3) is)
+        ∙ ap (λ z. record { opening = live_opening l; login = z } ∷ [])
+        (ap (λ h. login_at h l.number (so_far es).table (live_opening l)) (sym (hardware_now es s a)) ∙ ap (λ t. login_at (record { mac = net0_mac s.devices; identity = s.machine }) l.number t (live_opening l)) settings ∙ sym login)
+    by (dns id) is login settings = tt
+    by (dhcp x) is login settings = tt
+    by ping is login settings = tt
 
 -- it lives, and has had its first try
-pub opened_state : (es : List Event) (s : State) (l : Live) (put : List Out) → IsNext s l → AreOf l.number put → ends_in l.number put ≡ false → ((now : ℕ) → told_tries l.number now put ≡ tries 1 now ∷ []) → ((now : ℕ) → try_marks_by l.number now put ≡ tries_at 1 now ∷ []) → AgreesState es s →
+pub opened_state : (es : List Event) (s : State) (l : Live) (put : List Out) → IsNext s l → SaysSettings es s l.kind → AreOf l.number put → ends_in l.number put ≡ false → ((now : ℕ) → told_tries l.number now put ≡ tries 1 now ∷ []) → ((now : ℕ) → try_marks_by l.number now put ≡ tries_at 1 now ∷ []) → AgreesState es s →
     AgreesState (es ++ told (open_record l ∷ put)) (with_opened s l)
-opened_state es s l put next of no_end first first_mark a =
+opened_state es s l put next settings of no_end first first_mark a =
     let k = l.number in
     let es1 = es ++ puts (open_record l) ∷ [] in
     let es2 = es1 ++ told put in
@@ -213,7 +246,7 @@ opened_state es s l put next of no_end first first_mark a =
           made_so = omega (arith, o.made_is, now_made);
           on_net0 = next.device_is;
           kind_is = subst (λ z. IsKindBy z k l.kind (live_opening l)) (hardware_now es s a ∙ sym o.hardware_is) next.kind_is;
-          login = no_login k es2 l.kind (live_opening l) next.no_drive;
+          login = login_on k es1 es2 l.kind (live_opening l) (f.sessions_is k) (opens_login es s l next settings a);
           opening = o.opening_is;
           lives = f.over_is k ∙ ap (λ b. open_has_ended k es1 || b) no_end ∙ or-false (open_has_ended k es1) ∙ over_more k es (puts (open_record l)) ∙ or-false (open_has_ended k es) ∙ a.unended k (omega (arith, now_made));
           received = o.calls_is ∙ sym (ap (heard_calls l.kind) next.bare);

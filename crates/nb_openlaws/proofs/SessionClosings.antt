@@ -24,7 +24,7 @@ use Rattle.nb_laws.specs.Progress.{IsAdvanced}
 use Rattle.nb_laws.specs.Webs.{brought_to}
 use Rattle.nb_laws.proofs.Tellings.{told}
 use Rattle.nb_openlaws.specs.Standings.{streamed, IsKindBy, IsOngoing}
-use Rattle.nb_openlaws.specs.OpenEndings.{EndsBecause, WhyClosed}
+use Rattle.nb_openlaws.specs.OpenEndings.{EndsBecause}
 use Rattle.nb_openlaws.specs.OpenReasons.{OpenReasons}
 use Rattle.nb_openlaws.proofs.OpenRecords.{IsFrame, frame_by, last_exchange}
 use Rattle.nb_openlaws.proofs.Sendings.{reasons_then}
@@ -34,14 +34,14 @@ use Rattle.nb_openlaws.proofs.WebSendings.{closing_of}
 use Rattle.nb_openlaws.proofs.ExchangeReasons.{ended_reasons}
 use Rattle.nb_openlaws.proofs.SegmentReasons.{client_segments}
 use Rattle.nb_openlaws.proofs.SessionTalks.{session_is}
-use Rattle.nb_openlaws.proofs.SessionSendings.{SessionAt, session_on, session_closing}
+use Rattle.nb_openlaws.proofs.SessionSendings.{SessionAt, session_on, session_closing, WhyDriveCloses}
 use Rattle.nb_openlaws.proofs.SessionStands.{talk_at}
 use Rattle.nb_openlaws.proofs.SessionEnds.{drive_opening}
 
 -- one is closed: its segment, and its end with this cause
 pub drive_closes : (es : List Event) (l : Live) (x : Exchange) (isn : ℕ) (i : LoginInfo) (why : Cause) → x.came ≡ close why → is_ok_cause why ≡ false → client es ≡ x.link → IsKindBy (hardware es) l.number (iscsi isn i) (opening_as (iscsi isn i) l) →
     openings l.number es ≡ opening_as (iscsi isn i) l ∷ [] → open_has_ended l.number es ≡ false → sessions l.number es ≡ drive_opening i isn l ∷ [] → brought_to l.number es ≡ streamed l.exchanges → KeepsBy (iscsi isn i) (continued l x) → AllByRecursion (IsOngoing (iscsi isn i) l.number l.own) l.exchanges →
-    IsAdvanced es → WhyClosed es → ((ends : List Out) → AllByRecursion IsFrame ends → EndsBecause l.number (es ++ told ends) why) → OpenReasons es x.put
+    IsAdvanced es → WhyDriveCloses l.number es → ((ends : List Out) → AllByRecursion IsFrame ends → EndsBecause l.number (es ++ told ends) why) → OpenReasons es x.put
 drive_closes es l x isn i why came bad same is opening lives session streams keeps going a closed ends =
     subst (λ z. OpenReasons es z) (sym put_is)
     (reasons_then es frames (ended k why ∷ []) first (ended_reasons (es ++ told frames) k o why (ends frames alone, bad) at2.opening at2.lives first.after))

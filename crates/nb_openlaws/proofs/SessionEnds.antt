@@ -1,5 +1,5 @@
 -- Why a drive's session ends: each cause stands in what came to it, and none is Ok.
-use Rattle.std.proofs.Common.{◌≡◌, ℕ, Bool, true, false, cond, List, [], ◌∷◌, ◌++◌, map, Option, Some, None, refl, sym, ◌∙◌, ap, subst}
+use Rattle.std.proofs.Common.{◌≡◌, ℕ, Bool, true, false, cond, List, [], ◌∷◌, ◌++◌, Option, Some, None, refl, sym, ◌∙◌, ap, subst}
 use Rattle.std.specs.List.{flat_map}
 use Rattle.std.proofs.lemmas.Option.{same_Some}
 use Rattle.std.proofs.lemmas.List.Concat.{flat_map-append}
@@ -36,12 +36,12 @@ use Rattle.nb_machine.specs.Findings.{first_word}
 use Rattle.nb_machine.specs.Lives.{iscsi, Live}
 use Rattle.nb_machine.specs.Connections.{connection_of, loses_way, talk_end}
 use Rattle.nb_laws.specs.Drives.{SessionOpening, session_so_far, to_session, came_to, session_marks}
-use Rattle.nb_laws.specs.Endings.{fate_to, by_session, by_drive_connection, by_drive_silence}
+use Rattle.nb_laws.specs.Endings.{fate_to, by_session, by_drive_connection, by_drive_silence, HadWay}
 use Rattle.nb_laws.specs.Events.{Event}
 use Rattle.nb_laws.specs.Lists.{hardware, time, Opening}
 use Rattle.nb_laws.specs.Webs.{brought_to, try_marks_of}
 use Rattle.nb_openlaws.specs.Standings.{streamed, streamed_marks}
-use Rattle.nb_openlaws.specs.OpenEndings.{HadWay, by_itself, by_lost_way}
+use Rattle.nb_openlaws.specs.OpenEndings.{by_itself, by_lost_way}
 use Rattle.nb_openlaws.proofs.KindFacts.{opening_as, no_way_as}
 use Rattle.nb_openlaws.proofs.WebTries.{timer_more, time_tries}
 use Rattle.nb_openlaws.proofs.WebEnds.{broken_not_ok, any_lost}

@@ -35,7 +35,7 @@ use Rattle.nb_laws.specs.Progress.{file_place, IsFurther}
 use Rattle.nb_laws.specs.Webs.{brought_to, try_marks_of}
 use Rattle.nb_laws.proofs.Tellings.{told, Kept, kept}
 use Rattle.nb_openlaws.specs.Standings.{streamed, streamed_marks, IsOngoing}
-use Rattle.nb_openlaws.specs.OpenEndings.{HadWay}
+use Rattle.nb_laws.specs.Endings.{HadWay}
 use Rattle.nb_openlaws.specs.OpenReasons.{OpenReasons}
 use Rattle.nb_openlaws.proofs.Takings.{due_told, way_stays, grown as grown_by}
 use Rattle.nb_openlaws.proofs.OpenRecords.{last_exchange}
@@ -77,7 +77,8 @@ heard_calls i isn l c = (receives isn (talk_at i isn l.since (streamed l.exchang
 abbrev all_calls : LoginInfo → ℕ → Live → Came NoTask → List TcpCall
 all_calls i isn l c = (talks_on (session_talker i) isn (talk_at i isn l.since (streamed l.exchanges)) (to_session c)).calls
 
-at_come : (es : List Event) (l : Live) (x : Exchange) (i : LoginInfo) (isn : ℕ) (c : Came NoTask) (p : Put) (calls : List TcpCall) (texts : List (List ℕ)) (now : ℕ) → SessionCome es l x i isn c p → all_calls i isn l c ≡ calls ++ text_calls texts now →
+at_come : (es : List Event) (l : Live) (x : Exchange) (i : LoginInfo) (isn : ℕ) (c : Came NoTask) (p : Put) (calls : List TcpCall) (texts : List (List ℕ)) (now : ℕ) →
+    SessionCome es l x i isn c p → all_calls i isn l c ≡ calls ++ text_calls texts now →
     SessionAt es (opening_as (iscsi isn i) l) x.link (connection_of isn l) (drive_opening i isn l) calls
 at_come es l x i isn c p calls texts now w is = record {
   client_is = w.client_is;

@@ -59,7 +59,8 @@ session_well i isn start came (by_segment m now) put puts =
       first_may = all_may_be_sent isn d.calls m now;
       first_tried = subst (λ p. AllByRecursion (TriedSo isn p) first) (sym (phase_append isn d.calls (segment_came m now))) (calls_tried isn (conn_phase isn d.calls) m now);
       second_may = all_append (λ (s : Outgoing × Option ℕ). MaySend isn after s.0) said closes (unless_each (λ s. MaySend isn after s.0) other sent (texts_may isn heard texts now)) (close_may isn after ends other);
-      second_tried = all_append (TriedSo isn (conn_phase isn after)) said closes (unless_each (TriedSo isn (conn_phase isn after)) other sent (texts_tried isn heard texts now)) (close_tried isn (conn_phase isn after) (conn_phase isn after) ends other);
+      second_tried = all_append (TriedSo isn (conn_phase isn after)) said closes (unless_each (TriedSo isn (conn_phase isn after)) other sent (texts_tried isn heard texts now))
+          (close_tried isn (conn_phase isn after) (conn_phase isn after) ends other);
       place = ap (λ (p : Put). p.advance) puts ∙ ap (λ h. grown (next (held_after isn d.calls)) (next h)) (sym (held_with_texts isn heard texts now));
       further = subst (λ h. next (held_after isn d.calls) ≤ next h) (sym (held_with_texts isn heard texts now)) (not_back isn d.calls (segment_came m now ∷ []));
     }

@@ -18,13 +18,15 @@ use Rattle.nb_machine.specs.Connections.{Connection, segment_records}
 use Rattle.nb_laws.specs.Agreement.{AreAside}
 use Rattle.nb_laws.specs.Drives.{SessionOpening, sessions, session_by, session_so_far, came_to, AreItsCalls, ClosesSession}
 use Rattle.nb_laws.specs.Events.{Event}
-use Rattle.nb_laws.specs.Frames.{IsSent, as_said, IsMessageTried, IsDue}
+use Rattle.nb_laws.specs.Frames.{IsSent, as_said, IsMessageTried, IsDue, by_unhooking}
 use Rattle.nb_laws.specs.Histories.{client}
 use Rattle.nb_laws.specs.Lists.{hardware, Opening, openings, open_has_ended}
 use Rattle.nb_laws.specs.Progress.{IsAdvanced}
 use Rattle.nb_laws.specs.Webs.{connection_link, brought_to}
 use Rattle.nb_laws.proofs.Tellings.{told, kept, still_advanced}
-use Rattle.nb_openlaws.specs.OpenEndings.{WhyClosed, by_drive_close}
+use Rattle.nb_laws.specs.Endings.{WhyClosed}
+use Rattle.nb_laws.specs.Hookings.{LetsGo}
+use Rattle.nb_openlaws.specs.OpenEndings.{by_drive_close, by_reason, IsPutOrCloses}
 use Rattle.nb_openlaws.specs.OpenReasons.{OpenReasons}
 use Rattle.nb_openlaws.proofs.OpenRecords.{aside_sessions}
 use Rattle.nb_openlaws.proofs.UsedEvents.{live_one}
@@ -103,7 +105,12 @@ session_reasons es o link c x all sends a d w may again =
 
 -- WHAT CLOSES IT
 
-pub session_closing : (es : List Event) (o : Opening) (link : Client) (c : Connection) (x : SessionOpening) (all : List TcpCall) → IsAdvanced es → WhyClosed es → SessionAt es o link c x all → (session_so_far c.number x es).calls ≡ all →
+-- a drive is closed as all that lives is, or let go by a command
+pub data WhyDriveCloses (k : ℕ) (es : List Event) : Type 0 where
+  closes_with_all : WhyClosed es → WhyDriveCloses k es
+  closes_alone : LetsGo k es → WhyDriveCloses k es
+
+pub session_closing : (es : List Event) (o : Opening) (link : Client) (c : Connection) (x : SessionOpening) (all : List TcpCall) → IsAdvanced es → WhyDriveCloses c.number es → SessionAt es o link c x all → (session_so_far c.number x es).calls ≡ all →
     OpenReasons es (segment_records c link (without_try (closing_segment c.link.isn (conn_phase c.link.isn all)) ∷ []))
 unfolding session_sent
 session_closing es o link c x all a why w full =
@@ -118,8 +125,12 @@ session_closing es o link c x all a why w full =
     subst (OpenReasons es) (sym (append-nil (send_records link c.number None send)))
     (either_reasons es (has_route link send) (sent (put_on link send (way_of link send)) ∷ []) (record {
       ends = (tt, tt);
-      frames = (by_drive_close c.number one.0 w.kind_is closes why, tt);
+      frames = (framed one.0 w.kind_is closes why, tt);
       advances = (a, tt);
       tries = (tt, tt);
       after = still_advanced es (sent (put_on link send (way_of link send)) ∷ []) (tt, tt) a;
     }) a)
+  where
+    framed : {bytes : List ℕ} (sends : IsSent c.number es bytes) → sends.opening.kind ≡ 3 → ClosesSession c.number es sends.send → WhyDriveCloses c.number es → IsPutOrCloses es bytes
+    framed sends kind closes (closes_with_all closed) = by_drive_close c.number sends kind closes closed
+    framed sends kind closes (closes_alone let_go) = by_reason (by_unhooking c.number sends kind closes let_go)

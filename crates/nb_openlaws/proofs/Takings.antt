@@ -21,7 +21,7 @@ use Rattle.nb_laws.specs.Events.{Event, puts}
 use Rattle.nb_laws.specs.Frames.{IsDue, stays_due}
 use Rattle.nb_laws.specs.Lists.{time, made, port_offset, hardware, Opening, openings, open_has_ended, calls, tries, marks, mark_of}
 use Rattle.nb_laws.specs.Webs.{brought_to, told_try_mark, try_marks_of}
-use Rattle.nb_openlaws.specs.OpenEndings.{HadWay}
+use Rattle.nb_laws.specs.Endings.{HadWay}
 use Rattle.nb_openlaws.specs.Standings.{heard_call, moment_in, told_try, told_tries, streamed, exchange_try_marks, streamed_marks, heard_calls, exchange_marks, heard_marks, live_opening, IsKindBy, HasLogin, ComesToOwnPort, IsOngoing, AgreesLive, AreLive, lives_among, HaveOwnNumbers}
 use Rattle.nb_laws.proofs.Tellings.{told, try_marks_by, no_more}
 use Rattle.nb_streams.proofs.FlowLaws.{all_append}
@@ -108,6 +108,14 @@ pub record HasCome (es : List Event) (input : OpenInput) (l : Live) : Type 0 whe
 abbrev pub AllCome : List Event → OpenInput → List Live → Type 0
 AllCome es input ls = AllByRecursion (HasCome es input) ls
 
+-- what has come to it is for its own port
+abbrev pub IsToOwnPort : OpenKind → (own : ℕ) → Exchange → Type 0
+IsToOwnPort kind own x = ComesToOwnPort kind own x.came
+
+pub own_ports : (kind : OpenKind) (k own : ℕ) (xs : List Exchange) → AllByRecursion (IsOngoing kind k own) xs → AllByRecursion (IsToOwnPort kind own) xs
+own_ports kind k own [] h = tt
+own_ports kind k own (x ∷ xs) h = (h.0.1, own_ports kind k own xs h.1)
+
 -- an open that has ended: what the history says of it
 pub record AgreesOver (es : List Event) (o : Over) : Type 0 where
   pub made_so : o.live.number < made es
@@ -116,6 +124,8 @@ pub record AgreesOver (es : List Event) (o : Over) : Type 0 where
   pub over : open_has_ended o.live.number es ≡ true
   pub received : calls o.live.number es ≡ heard_calls o.live.kind o.live.exchanges
   pub streams : brought_to o.live.number es ≡ streamed o.live.exchanges
+  pub login : HasLogin o.live.number es o.live.kind (live_opening o.live)
+  pub own : AllByRecursion (IsToOwnPort o.live.kind o.live.own) o.live.exchanges
 
 abbrev pub AreOver : List Event → List Over → Type 0
 AreOver es os = AllByRecursion (AgreesOver es) os
@@ -151,6 +161,8 @@ over_on a b o made_are hardware_are s h = record {
   over = s.over_are ∙ h.over;
   received = s.calls_are ∙ h.received;
   streams = s.came_are ∙ h.streams;
+  login = login_on o.live.number a b o.live.kind (live_opening o.live) s.sessions_are h.login;
+  own = h.own;
 }
 
 pub due_told : (k : ℕ) (es : List Event) (outs : List Out) → IsDue k es → IsDue k (es ++ told outs)
@@ -259,6 +271,8 @@ one_ends es came l link put cause c p some =
       over = f.over_is k ∙ ap (λ b. b || ends_in k put) c.lives ∙ end_among_is k put ∙ ap is_some some;
       received = f.calls_is k ∙ c.received ∙ sym (flat_map-append (λ (y : Exchange). heard_call l.kind y.came) l.exchanges (x ∷ []) ∙ ap (λ z. heard_calls l.kind l.exchanges ++ z) (append-nil (heard_call l.kind came)));
       streams = f.came_is k ∙ c.streams ∙ sym (flat_map-append (λ (y : Exchange). came_on y.came) l.exchanges (x ∷ []) ∙ ap (λ z. streamed l.exchanges ++ z) (append-nil (came_on came)));
+      login = login_on k es (es ++ told put) l.kind (live_opening l) (f.sessions_is k) c.login;
+      own = all_append (IsToOwnPort l.kind l.own) l.exchanges (x ∷ []) (own_ports l.kind k l.own l.exchanges c.goes_on) (c.own, tt);
     }
 
 -- records of an open leave all others as they were

@@ -21,7 +21,8 @@ use Rattle.nb_laws.specs.Progress.{IsAdvanced}
 use Rattle.nb_laws.specs.Webs.{brought_to, talk_by}
 use Rattle.nb_laws.proofs.Tellings.{told, kept}
 use Rattle.nb_openlaws.specs.Standings.{streamed, IsKindBy, IsOngoing}
-use Rattle.nb_openlaws.specs.OpenEndings.{EndsBecause, WhyClosed}
+use Rattle.nb_laws.specs.Endings.{WhyClosed}
+use Rattle.nb_openlaws.specs.OpenEndings.{EndsBecause}
 use Rattle.nb_openlaws.specs.OpenReasons.{OpenReasons}
 use Rattle.nb_openlaws.proofs.OpenRecords.{IsFrame, frame_by, last_exchange}
 use Rattle.nb_openlaws.proofs.Sendings.{reasons_then}

@@ -32,13 +32,13 @@ use Rattle.nb_machine.specs.Lives.{http, Exchange, Live}
 use Rattle.nb_machine.specs.Connections.{Connection, connection_of, came_on, loses_way, talk_end}
 use Rattle.nb_machine.specs.Webs.{request_at}
 use Rattle.nb_laws.specs.Cores.{has_its_answer}
-use Rattle.nb_laws.specs.Endings.{fate_to, by_answer, by_response, by_connection, by_no_acknowledgement}
+use Rattle.nb_laws.specs.Endings.{fate_to, by_answer, by_response, by_connection, by_no_acknowledgement, HadWay}
 use Rattle.nb_laws.specs.Events.{Event}
 use Rattle.nb_laws.specs.Lists.{hardware, time, Opening, openings, open_has_ended}
 use Rattle.nb_laws.specs.Progress.{IsAdvanced}
 use Rattle.nb_laws.specs.Webs.{brought_to, response_so_far, told_try_mark, try_marks_of, connection_marks}
 use Rattle.nb_openlaws.specs.Standings.{streamed, exchange_try_marks, streamed_marks}
-use Rattle.nb_openlaws.specs.OpenEndings.{HadWay, by_itself, by_lost_way}
+use Rattle.nb_openlaws.specs.OpenEndings.{by_itself, by_lost_way}
 use Rattle.nb_openlaws.specs.OpenReasons.{OpenReasons}
 use Rattle.nb_openlaws.proofs.Sendings.{no_reasons}
 use Rattle.nb_openlaws.proofs.KindFacts.{opening_as, no_way_as}

@@ -32,7 +32,7 @@ use Rattle.nb_laws.specs.Progress.{file_place, IsFurther}
 use Rattle.nb_laws.specs.Webs.{brought_to, talk_by, try_marks_of}
 use Rattle.nb_laws.proofs.Tellings.{told, Kept, kept}
 use Rattle.nb_openlaws.specs.Standings.{streamed, streamed_marks, ComesToOwnPort, IsOngoing}
-use Rattle.nb_openlaws.specs.OpenEndings.{HadWay}
+use Rattle.nb_laws.specs.Endings.{HadWay}
 use Rattle.nb_openlaws.specs.OpenReasons.{OpenReasons}
 use Rattle.nb_openlaws.proofs.Takings.{due_told, way_stays, grown as grown_by}
 use Rattle.nb_openlaws.proofs.OpenRecords.{last_exchange}

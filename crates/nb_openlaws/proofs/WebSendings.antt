@@ -22,7 +22,8 @@ use Rattle.nb_laws.specs.Lists.{hardware, Opening, openings, open_has_ended}
 use Rattle.nb_laws.specs.Progress.{IsAdvanced}
 use Rattle.nb_laws.specs.Webs.{connection_link, brought_to, talk_by, closing_message}
 use Rattle.nb_laws.proofs.Tellings.{told, kept, still_advanced}
-use Rattle.nb_openlaws.specs.OpenEndings.{WhyClosed, by_close}
+use Rattle.nb_laws.specs.Endings.{WhyClosed}
+use Rattle.nb_openlaws.specs.OpenEndings.{by_close}
 use Rattle.nb_openlaws.specs.OpenReasons.{OpenReasons}
 use Rattle.nb_openlaws.proofs.UsedEvents.{live_one}
 use Rattle.nb_openlaws.proofs.Sendings.{either_reasons}

@@ -224,7 +224,8 @@ texts_in isn start calls came put (x ∷ xs) now t =
     let rest = text_calls xs now in
     let said = said_sends (conn_phase isn calls) x in
     let then = texts_sent isn (calls ++ one) xs now in
-    same_in isn start ((calls ++ one) ++ rest) (calls ++ (one ++ rest)) ((came ++ map comes_in one) ++ map comes_in rest) (came ++ map comes_in (one ++ rest)) ((put ++ sends_marks now said) ++ sends_marks now then) (put ++ sends_marks now (said ++ then))
+    same_in isn start ((calls ++ one) ++ rest) (calls ++ (one ++ rest)) ((came ++ map comes_in one) ++ map comes_in rest) (came ++ map comes_in (one ++ rest))
+    ((put ++ sends_marks now said) ++ sends_marks now then) (put ++ sends_marks now (said ++ then))
     (append_assoc calls one rest)
     (append_assoc came (map comes_in one) (map comes_in rest) ∙ ap (λ z. came ++ z) (sym (map-append comes_in one rest)))
     (append_assoc put (sends_marks now said) (sends_marks now then) ∙ ap (λ z. put ++ z) (sym (marks_of_two now said then)))

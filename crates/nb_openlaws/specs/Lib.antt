@@ -1,4 +1,3 @@
 pub mod Standings
 pub mod OpenEndings
-pub mod CourseEvents
 pub mod OpenReasons

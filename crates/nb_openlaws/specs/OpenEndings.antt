@@ -1,59 +1,21 @@
 -- Why an open has ended, and why a FRAME stands, where other opens may live on while commands begin and end.
-use Rattle.std.specs.Prelude.{◌≡◌, ℕ, true, List, [], ◌∷◌, ◌++◌, map, Some}
-use Rattle.std.specs.List.{AllByRecursion}
+use Rattle.std.specs.Prelude.{◌≡◌, ℕ, true, List, [], ◌∷◌}
 use Rattle.nb_terms.specs.declared.cause.Cause.{Cause}
-use Rattle.nb_defs.specs.Causes.{ok, is_ok_cause}
-use Rattle.nb_defs.specs.Records.{Out, step, sent, text, command, result, script, opened, tried, advanced, ended, graph, part, done}
+use Rattle.nb_defs.specs.Causes.{is_ok_cause}
+use Rattle.nb_defs.specs.Records.{step, sent, ended}
 use Rattle.nb_stack.specs.declared.taken.Fate.TheVariants as fate
 use Rattle.nb_machine.specs.Effects.{shuts_device}
 use Rattle.nb_machine.specs.CommandRecords.{no_route, stopped_cause}
 use Rattle.nb_laws.specs.Events.{Event, puts}
 use Rattle.nb_laws.specs.Histories.{client}
-use Rattle.nb_laws.specs.Lists.{hardware, Opening, openings, live, made, last_end}
-use Rattle.nb_laws.specs.CommandsSoFar.{so_far, ComesTo, conclusion_so_far}
+use Rattle.nb_laws.specs.Lists.{hardware, Opening, openings, live, made}
+use Rattle.nb_laws.specs.CommandsSoFar.{so_far, ComesTo}
 use Rattle.nb_laws.specs.Cores.{has_its_answer}
-use Rattle.nb_laws.specs.Endings.{fate_to, Holds, is_off}
+use Rattle.nb_laws.specs.Endings.{fate_to, HadWay, ClosesToBoot, WhyClosed, Holds}
 use Rattle.nb_laws.specs.Frames.{IsSent, IsPut}
 use Rattle.nb_laws.specs.Drives.{ClosesSession}
 use Rattle.nb_laws.specs.Webs.{brought_to, closing_message}
-use Rattle.nb_image.specs.Images.{ImageList}
-use Rattle.nb_machine.specs.Conclusions.{boots}
 use Rattle.nb_machine.specs.Courses.{down_cause}
-
--- when open k was made there was a way to its server
-pub record HadWay (k : ℕ) (es : List Event) (o : Opening) : Type 0 where
-  pub before : List Event
-  pub since : List Event
-  pub all : es ≡ before ++ since
-  pub opened : openings k before ≡ o ∷ []
-  pub goes : fate_to (client before) o ≡ fate.NoRoute → ⊥
-
--- no COMMAND, RESULT, SCRIPT, OPEN or DONE: a FRAME may
-abbrev pub MayStandBehind : Out → Type 0
-MayStandBehind (sent bytes) = Unit {0}
-MayStandBehind (step number) = Unit {0}
-MayStandBehind (text bytes) = Unit {0}
-MayStandBehind (command depth line place expanded words) = ⊥
-MayStandBehind (result cause) = ⊥
-MayStandBehind (script what depth cause) = ⊥
-MayStandBehind (opened number kind server port own target) = ⊥
-MayStandBehind (tried number count) = Unit {0}
-MayStandBehind (advanced number place) = Unit {0}
-MayStandBehind (ended number cause) = Unit {0}
-MayStandBehind (graph happens) = Unit {0}
-MayStandBehind (part kind index offset bytes) = Unit {0}
-MayStandBehind (done status) = ⊥
-
--- the last RESULT is Ok, of a command that boots the image at this place of this list, and no COMMAND stands after it; what is closed then
--- may have its FRAME
-pub record ClosesToBoot (es : List Event) : Type 0 where
-  pub before : List Event
-  pub since : List Out
-  pub ends : es ≡ before ++ puts (result ok) ∷ map puts since
-  pub behind : AllByRecursion MayStandBehind since
-  pub list : ImageList
-  pub kernel : ℕ
-  pub boots : conclusion_so_far (last_end before) before (so_far before) ≡ Some (boots list kernel)
 
 -- the cause of an end of open k, by what came before it
 pub data EndsBecause (k : ℕ) (es : List Event) (cause : Cause) : Type 0 where
@@ -71,15 +33,6 @@ abbrev pub OpensEndSo : List Event → Event → Type 0
 OpensEndSo before (puts (ended k cause)) = EndsBecause k before cause × (o : Opening) × (live k before ≡ o ∷ []) × (is_ok_cause cause ≡ has_its_answer k o before)
 OpensEndSo before (puts (step number)) = Unit {0}
 OpensEndSo before _ = Unit {0}
-
--- why all that lives is closed from above
-pub data WhyClosed (es : List Event) : Type 0 where
-  -- the power is switched off
-  closes_off : is_off es ≡ true → WhyClosed es
-  -- a command sets the device down
-  closes_down : (so_far es).is_open ≡ true → ComesTo es (made es) shuts_device → WhyClosed es
-  -- a command boots what was brought
-  closes_booted : ClosesToBoot es → WhyClosed es
 
 -- why a FRAME stands
 pub data IsPutOrCloses (es : List Event) (bytes : List ℕ) : Type 0 where

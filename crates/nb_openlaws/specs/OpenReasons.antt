@@ -9,7 +9,8 @@ use Rattle.nb_laws.specs.Events.{Event, puts, used_by, EachEvent, EachThen}
 use Rattle.nb_laws.specs.Frames.{TriesSo}
 use Rattle.nb_laws.specs.Progress.{AdvancesSo, IsAdvanced}
 use Rattle.nb_openlaws.specs.Standings.{live_opening, AgreesState, AgreesDevice}
-use Rattle.nb_openlaws.specs.OpenEndings.{HadWay, OpensEndSo, FramesSo}
+use Rattle.nb_laws.specs.Endings.{HadWay}
+use Rattle.nb_openlaws.specs.OpenEndings.{OpensEndSo, FramesSo}
 
 -- when each of these was made there was a way to its server
 abbrev pub HaveWays : List Event → List Live → Type 0

@@ -3,18 +3,10 @@
 ghost use Rattle.std.specs.Prelude.{ℕ, List};
 ghost use Rattle.nb_defs.specs.Records.{In, Out};
 ghost use Rattle.nb_laws.specs.Events.{Event};
-ghost use Rattle.nb_machine.specs.Courses.{Progress, Course};
 ghost use Rattle.nb_machine.specs.Network.{Network};
 ghost use Rattle.nb_machine.specs.States.{State};
 ghost use Rattle.nb_machine.specs.Takings.{Over};
-ghost use Rattle.nb_openlaws.specs.CourseEvents.{HasEvents};
 ghost use Rattle.nb_openlaws.specs.OpenReasons.{OpensAgree, GivesReasons};
-
-/// The records of a course are those of a list of events. It says, of where the course stands, the time, how many opens
-/// were made, and of each that lives all that has come to it: what that open asks for isn't among it.
-pub fn courses_have_events()
-    ensures { (ins : List In) (outs : List Out) (p : Progress) → Course ins outs p → HasEvents ins outs p.standing }
-{}
 
 /// A record is used while opens live, however many: each ENDED, FRAME, TRY and ADVANCE that is put then has its reason in
 /// the events so far, where these agree with the state.

@@ -6,4 +6,4 @@
 
 mod laws;
 
-pub use laws::{courses_have_events, records_of_opens_have_reasons};
+pub use laws::records_of_opens_have_reasons;

@@ -46,7 +46,7 @@ found_same x y e = rw (e, eq-eqb y.code y.code refl, eq-eqb y.a y.a refl, eq-eqb
 
 pub record IsCarriedOut (p : CommandPlan) (o : Outcome) (s s' : State) : Type 0 where
   pub comes_to : (opens : ℕ) → plan_effect opens s.table p ≡ outcome_effect o
-  pub state_is : s' ≡ state_of (plan_table p s.table) s.images (plan_up p s.up)
+  pub state_is : s' ≡ state_of (plan_table p s.table) s.images s.drives (plan_up p s.up)
   pub is_local : IsLocalOutcome o
 
 -- an answer with an outcome and a state
@@ -65,7 +65,7 @@ keeps_state p o0 o s s' same still comes here e =
     let both = same_outcome o0 o s s' e in
     record {
       comes_to = λ opens. comes opens ∙ ap outcome_effect both.0;
-      state_is = sym both.1 ∙ (ap (λ t. state_of t s.images s.up) (sym same) ∙ ap (λ u. state_of (plan_table p s.table) s.images u) (sym still));
+      state_is = sym both.1 ∙ (ap (λ t. state_of t s.images s.drives s.up) (sym same) ∙ ap (λ u. state_of (plan_table p s.table) s.images s.drives u) (sym still));
       is_local = subst IsLocalOutcome both.0 here;
     }
 
@@ -85,10 +85,10 @@ text_ok p (Err why) o s s' same still comes e = absurd (cc)
 change_ok : (p : CommandPlan) (r : Change) (o : Outcome) (s s' : State) → plan_table p s.table ≡ changed s.table r → plan_up p s.up ≡ s.up → ((opens : ℕ) → plan_effect opens s.table p ≡ says (change_outcome r)) →
     Answered (with_table s r) ≡ Ok (o, s') → IsCarriedOut p o s s'
 change_ok p (Ok table) o s s' same still comes e =
-    let both = same_outcome outcome.Done o (state_of table s.images s.up) s' e in
+    let both = same_outcome outcome.Done o (state_of table s.images s.drives s.up) s' e in
     record {
       comes_to = λ opens. comes opens ∙ ap outcome_effect both.0;
-      state_is = sym both.1 ∙ (ap (λ t. state_of t s.images s.up) (sym same) ∙ ap (λ u. state_of (plan_table p s.table) s.images u) (sym still));
+      state_is = sym both.1 ∙ (ap (λ t. state_of t s.images s.drives s.up) (sym same) ∙ ap (λ u. state_of (plan_table p s.table) s.images s.drives u) (sym still));
       is_local = subst IsLocalOutcome both.0 tt;
     }
 change_ok p (Err why) o s s' same still comes e = absurd (cc)
@@ -97,10 +97,10 @@ change_ok p (Err why) o s s' same still comes e = absurd (cc)
 device_ok : (p : CommandPlan) (wanted : Outcome) (r : Result Bool ApplyError) (o : Outcome) (s s' : State) → plan_table p s.table ≡ s.table → plan_up p s.up ≡ set_up s.up r →
     ((opens : ℕ) → plan_effect opens s.table p ≡ device_effect (outcome_effect wanted) r) → IsLocalOutcome wanted → Answered (with_up wanted s r) ≡ Ok (o, s') → IsCarriedOut p o s s'
 device_ok p wanted (Ok up) o s s' same still comes here e =
-    let both = same_outcome wanted o (state_of s.table s.images up) s' e in
+    let both = same_outcome wanted o (state_of s.table s.images s.drives up) s' e in
     record {
       comes_to = λ opens. comes opens ∙ ap outcome_effect both.0;
-      state_is = sym both.1 ∙ (ap (λ t. state_of t s.images up) (sym same) ∙ ap (λ u. state_of (plan_table p s.table) s.images u) (sym still));
+      state_is = sym both.1 ∙ (ap (λ t. state_of t s.images s.drives up) (sym same) ∙ ap (λ u. state_of (plan_table p s.table) s.images s.drives u) (sym still));
       is_local = subst IsLocalOutcome both.0 here;
     }
 device_ok p wanted (Err why) o s s' same still comes here e = absurd (cc)
@@ -120,6 +120,7 @@ carried_ok (plan.Ifopen device) o s s' here e = device_ok (plan.Ifopen device) o
 carried_ok (plan.Ifclose device) o s s' here e = device_ok (plan.Ifclose device) outcome.Down (device_change device false) o s s' refl refl (λ opens. refl) tt e
 carried_ok (plan.Sleep seconds) o s s' here e = keeps_state (plan.Sleep seconds) _ o s s' refl refl (λ opens. refl) tt e
 carried_ok (plan.Images command) o s s' here e = absurd here
+carried_ok (plan.Drives command) o s s' here e = absurd here
 carried_ok (plan.Dhcp device) o s s' here e = absurd here
 carried_ok (plan.Ping text) o s s' here e = absurd here
 carried_ok (plan.Nslookup setting text) o s s' here e = absurd here
@@ -175,6 +176,7 @@ carried_err (plan.Ifopen device) s cause here e = device_err (plan.Ifopen device
 carried_err (plan.Ifclose device) s cause here e = device_err (plan.Ifclose device) outcome.Down (device_change device false) shuts_device s cause refl refl (λ opens. refl) e
 carried_err (plan.Sleep seconds) s cause here e = never_fails (plan.Sleep seconds) _ s s cause e
 carried_err (plan.Images command) s cause here e = absurd here
+carried_err (plan.Drives command) s cause here e = absurd here
 carried_err (plan.Dhcp device) s cause here e = absurd here
 carried_err (plan.Ping text) s cause here e = absurd here
 carried_err (plan.Nslookup setting text) s cause here e = absurd here

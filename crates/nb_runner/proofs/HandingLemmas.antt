@@ -5,14 +5,16 @@ use Rattle.std.specs.List.{AllByRecursion, flat_map, remove, enumerate_from}
 use Rattle.std.specs.Option.{option_to_list}
 use Rattle.std.proofs.lemmas.Option.{slice_get_within, none-some, same_Some}
 use Rattle.std.proofs.lemmas.List.{drop-append-le, drop_all, length-take}
-use Rattle.nb_defs.specs.Records.{Out}
+use Rattle.std.proofs.lemmas.Bool.{eqb-true, eqb-false}
+use Rattle.nb_defs.specs.Records.{Out, out_texts}
+use Rattle.nb_record.specs.Logged.{Logged, Puts}
 use Rattle.nb_image.specs.declared.image.Image.{Image}
 use Rattle.nb_image.specs.Images.{ImageList, put_image, image_place, with_image}
-use Rattle.nb_image.specs.Parts.{PartText, PieceText, parts, kernel_parts, initrd_parts, others_parts, part_pieces, piece_count}
+use Rattle.nb_image.specs.Parts.{PartText, PieceText, parts, table_parts, kernel_parts, initrd_parts, others_parts, part_pieces, piece_count}
 use Rattle.nb_image.proofs.PartsLemmas.{parts_length, piece_is, pieces_length}
 use Rattle.nb_runner.specs.declared.handing.Handing.{Handing}
 use Rattle.nb_machine.specs.Conclusions.{part_records, piece_record}
-use Rattle.nb_runner.specs.Handings.{IsShortImage, AreShortImages, IsAtPiece}
+use Rattle.nb_runner.specs.Handings.{IsShortImage, AreShortImages, IsShortTable, IsAtPiece, PutsNext, moved_on, parts_handed}
 
 -- of all elements of both lists, and of an element
 pub all_append : {A : Type 0} (P : A → Type 0) (xs ys : List A) → AllByRecursion P xs → AllByRecursion P ys → AllByRecursion P (xs ++ ys)
@@ -66,8 +68,15 @@ parts_small kernel images p =
     (kernel_small (option_to_list (slice_get images kernel)) (all_option IsShortImage images kernel p))
     (initrd_small 0 (remove images kernel) (all_remove IsShortImage images kernel p))
 
-pub part_small : (kernel : ℕ) (images : List Image) (k : ℕ) (p : PartText) → AreShortImages images → slice_get (parts kernel images) k ≡ Some p → length p.bytes ≤ 268435456
-part_small kernel images k p short h = all_at IsSmall (parts kernel images) k p (parts_small kernel images short) h
+table_small : (table : Option (List ℕ)) → IsShortTable table → AllByRecursion IsSmall (table_parts table)
+table_small None short = tt
+table_small (Some bytes) short = (short, tt)
+
+handed_small : (images : List Image) (h : Handing) → AreShortImages images → IsShortTable h.table → AllByRecursion IsSmall (parts_handed images h)
+handed_small images h short table = all_append IsSmall (parts h.kernel images) (table_parts h.table) (parts_small h.kernel images short) (table_small h.table table)
+
+pub part_small : (images : List Image) (h : Handing) (k : ℕ) (p : PartText) → AreShortImages images → IsShortTable h.table → slice_get (parts_handed images h) k ≡ Some p → length p.bytes ≤ 268435456
+part_small images h k p short table e = all_at IsSmall (parts_handed images h) k p (handed_small images h short table) e
 
 -- from a place on: what stands there, and the rest
 pub drop_get : {A : Type 0} (xs : List A) (k : ℕ) (x : A) → slice_get xs k ≡ Some x → drop k xs ≡ x ∷ drop (k + 1) xs
@@ -165,35 +174,38 @@ first_piece None = tt
 first_piece (Some p) = rw (records_of_part p, pieces_length p.bytes) (some_count (length p.bytes))
 
 -- a hand-off begins
-pub begins_at : (list : ImageList) (kernel : ℕ) → kernel < length list.images → AreShortImages list.images → IsAtPiece list (record { kernel = kernel; part = 0; piece = 0 })
-begins_at list kernel within short = record {
+pub begins_at : (list : ImageList) (kernel : ℕ) (table : Option (List ℕ)) → kernel < length list.images → AreShortImages list.images → IsShortTable table →
+    IsAtPiece list (record { kernel = kernel; table = table; part = 0; piece = 0 })
+begins_at list kernel table within short fits = record {
   kernel = within;
   part = omega arith;
-  piece = first_piece (slice_get (parts kernel list.images) 0);
+  piece = first_piece (slice_get (parts kernel list.images ++ table_parts table) 0);
   behind = λ _. refl;
   short = short;
+  table = fits;
 }
 
 -- after a part comes the next, at its first piece
-pub at_next : (list : ImageList) (h : Handing) → IsAtPiece list h → h.part < length (parts h.kernel list.images) →
-    IsAtPiece list (record { kernel = h.kernel; part = h.part + 1; piece = 0 })
+pub at_next : (list : ImageList) (h : Handing) → IsAtPiece list h → h.part < length (parts_handed list.images h) → IsAtPiece list (moved_on true h)
 at_next list h at within = record {
   kernel = at.kernel;
-  part = omega arith;
-  piece = first_piece (slice_get (parts h.kernel list.images) (h.part + 1));
+  part = omega (arith, within);
+  piece = first_piece (slice_get (parts_handed list.images h) (h.part + 1));
   behind = λ _. refl;
   short = at.short;
+  table = at.table;
 }
 
 -- within a part comes the next piece
-pub at_piece : (list : ImageList) (h : Handing) (p : PartText) → IsAtPiece list h → slice_get (parts h.kernel list.images) h.part ≡ Some p →
-    h.piece + 1 < length (part_records p) → IsAtPiece list (record { kernel = h.kernel; part = h.part; piece = h.piece + 1 })
+pub at_piece : (list : ImageList) (h : Handing) (p : PartText) → IsAtPiece list h → slice_get (parts_handed list.images h) h.part ≡ Some p →
+    h.piece + 1 < length (part_records p) → IsAtPiece list (moved_on false h)
 at_piece list h p at is within = record {
   kernel = at.kernel;
   part = at.part;
   piece = rw is within;
   behind = λ none. absurd (none-some p (sym none ∙ is));
   short = at.short;
+  table = at.table;
 }
 
 pub part_within : (ps : List PartText) (k : ℕ) (p : PartText) → slice_get ps k ≡ Some p → k < length ps
@@ -217,7 +229,68 @@ flat_few (p ∷ ps) small =
     let one : length (part_records p) ≤ 4097 = rw (records_of_part p, pieces_length p.bytes) (count_some (length p.bytes) small.0) in
     omega (arith, one, flat_few ps small.1, length-append (part_records p) (flat_map part_records ps))
 
+table_few : (table : Option (List ℕ)) → length (table_parts table) ≤ 1
+table_few None = omega arith
+table_few (Some bytes) = omega arith
+
 -- a hand-off of few images has few records
-pub handoff_few : (kernel : ℕ) (images : List Image) → kernel < length images → AreShortImages images → length images ≤ 32 → length (flat_map part_records (parts kernel images)) ≤ 266305
-handoff_few kernel images within short few =
-    omega (arith, flat_few (parts kernel images) (parts_small kernel images short), parts_length images kernel within, few)
+pub handoff_few : (images : List Image) (h : Handing) → h.kernel < length images → AreShortImages images → IsShortTable h.table → length images ≤ 32 →
+    length (flat_map part_records (parts_handed images h)) ≤ 270402
+handoff_few images h within short table few =
+    omega (arith, flat_few (parts_handed images h) (handed_small images h short table), length-append (parts h.kernel images) (table_parts h.table), parts_length images h.kernel within, table_few h.table, few)
+
+-- ONE PART AFTER ANOTHER
+
+-- an element of two lists on one another, of which the second has one at most
+get_short : {A : Type 0} (ys : List A) (k : ℕ) → length ys ≤ 1 → (k ≡ 0 → ⊥) → slice_get [] k ≡ slice_get ys k
+get_short [] k few other = refl
+get_short (y ∷ ys) zero few other = absurd (other refl)
+get_short (y ∷ []) (suc k) few other = refl
+get_short (y ∷ z ∷ ys) (suc k) few other = absurd (omega (arith, few))
+
+get_other : {A : Type 0} (xs ys : List A) (k : ℕ) → length ys ≤ 1 → (k ≡ length xs → ⊥) → slice_get xs k ≡ slice_get (xs ++ ys) k
+get_other [] ys k few other = get_short ys k few other
+get_other (x ∷ xs) ys zero few other = refl
+get_other (x ∷ xs) ys (suc k) few other = get_other xs ys k few (λ e. other (ap suc e))
+
+get_second : {A : Type 0} (xs ys : List A) → slice_get (xs ++ ys) (length xs) ≡ slice_get ys 0
+get_second [] ys = refl
+get_second (x ∷ xs) ys = get_second xs ys
+
+-- the boot table stands after the parts of the images
+pub part_of_images : (images : List Image) (h : Handing) → (h.part ≡ length (parts h.kernel images) → ⊥) → slice_get (parts h.kernel images) h.part ≡ slice_get (parts_handed images h) h.part
+part_of_images images h other = get_other (parts h.kernel images) (table_parts h.table) h.part (table_few h.table) other
+
+pub part_of_table : (images : List Image) (h : Handing) → h.part ≡ length (parts h.kernel images) → slice_get (table_parts h.table) 0 ≡ slice_get (parts_handed images h) h.part
+part_of_table images h e = sym (ap (slice_get (parts_handed images h)) e ∙ get_second (parts h.kernel images) (table_parts h.table))
+
+-- how many parts there are, where an element is found among those of the images
+pub part_early : (images : List Image) (h : Handing) (p : PartText) → length (parts h.kernel images) ≤ 65 → slice_get (parts h.kernel images) h.part ≡ Some p → h.part ≤ 65
+part_early images h p few is = let within = slice_get_within (parts h.kernel images) h.part p is in omega (arith, within, few)
+
+-- A PIECE WAS PUT
+
+pub piece_done : {before after : Logged} (list : ImageList) (h : Handing) (p : PartText) (piece : PieceText) (last : Bool) → IsAtPiece list h → slice_get (parts_handed list.images h) h.part ≡ Some p → slice_get (part_pieces p.bytes) h.piece ≡ Some piece →
+    (h.piece + 1 == length (part_records p)) ≡ last → Puts before after (out_texts (piece_record p piece ∷ [])) → IsAtPiece list (moved_on last h) × PutsNext list.images h (moved_on last h) before after
+piece_done list h p piece true at is got at_end puts =
+    let ps = parts_handed list.images h in
+    let last : h.piece + 1 ≡ length (part_records p) = eqb-true (h.piece + 1) (length (part_records p)) at_end in (
+      at_next list h at (part_within ps h.part p is),
+      record {
+        next = piece_record p piece;
+        left = next_left ps h.part h.piece p piece is got ∙ ap (λ rs. piece_record p piece ∷ rs) (left_behind ps h.part h.piece p (drop_past (h.piece + 1) (part_records p) last));
+        puts = puts;
+      },
+    )
+piece_done list h p piece false at is got within puts =
+    let ps = parts_handed list.images h in
+    let here : h.piece < length (part_records p) = rw is at at.piece in
+    let other : h.piece + 1 ≡ length (part_records p) → ⊥ = eqb-false (h.piece + 1) (length (part_records p)) within in
+    let more : h.piece + 1 < length (part_records p) = grind arith in (
+      at_piece list h p at is more,
+      record {
+        next = piece_record p piece;
+        left = next_left ps h.part h.piece p piece is got ∙ ap (λ rs. piece_record p piece ∷ rs) (left_within ps h.part h.piece p is (omega (arith, more)));
+        puts = puts;
+      },
+    )

@@ -21,14 +21,14 @@ use Rattle.nb_runner.proofs.CommandLaws.{IsRefusedSo, Answered, same_outcome, sa
 -- a command that asks for a lease has set the device up
 pub record HasSetUp (p : CommandPlan) (s s' : State) : Type 0 where
   pub comes_to : (opens : ℕ) → plan_effect opens s.table p ≡ unless_full opens (inquires for_lease)
-  pub state_is : s' ≡ state_of (plan_table p s.table) s.images (plan_up p s.up)
+  pub state_is : s' ≡ state_of (plan_table p s.table) s.images s.drives (plan_up p s.up)
 
 set_up_so : (device : Option (List ℕ)) (o : Outcome) (s s' : State) (r : Result Bool ApplyError) → device_change device true ≡ r → Answered (with_up (outcome.Wait job.Lease) s r) ≡ Ok (o, s') → HasSetUp (plan.Dhcp device) s s'
 set_up_so device o s s' (Ok up) is e =
-    let same : state_of s.table s.images up ≡ s' = (same_outcome (outcome.Wait job.Lease) o (state_of s.table s.images up) s' e).1 in
+    let same : state_of s.table s.images s.drives up ≡ s' = (same_outcome (outcome.Wait job.Lease) o (state_of s.table s.images s.drives up) s' e).1 in
     record {
       comes_to = λ opens. ap (device_effect (unless_full opens (inquires for_lease))) is;
-      state_is = sym same ∙ ap (λ u. state_of s.table s.images u) (sym (ap (set_up s.up) is));
+      state_is = sym same ∙ ap (λ u. state_of s.table s.images s.drives u) (sym (ap (set_up s.up) is));
     }
 set_up_so device o s s' (Err why) is e = absurd (cc)
 
@@ -45,6 +45,7 @@ sets_up (plan.Clear name) o s s' here e = absurd here
 sets_up (plan.Show name) o s s' here e = absurd here
 sets_up (plan.Inc name by) o s s' here e = absurd here
 sets_up (plan.Images command) o s s' here e = absurd here
+sets_up (plan.Drives command) o s s' here e = absurd here
 sets_up (plan.Ifopen device) o s s' here e = absurd here
 sets_up (plan.Ifclose device) o s s' here e = absurd here
 sets_up (plan.Sleep seconds) o s s' here e = absurd here
@@ -75,6 +76,7 @@ refuses_lease (plan.Clear name) s cause here e = absurd here
 refuses_lease (plan.Show name) s cause here e = absurd here
 refuses_lease (plan.Inc name by) s cause here e = absurd here
 refuses_lease (plan.Images command) s cause here e = absurd here
+refuses_lease (plan.Drives command) s cause here e = absurd here
 refuses_lease (plan.Ifopen device) s cause here e = absurd here
 refuses_lease (plan.Ifclose device) s cause here e = absurd here
 refuses_lease (plan.Sleep seconds) s cause here e = absurd here

@@ -1,5 +1,6 @@
 pub mod Comings
 pub mod CommandLaws
+pub mod DriveLaws
 pub mod HandingLemmas
 pub mod Idles
 pub mod ImageLaws

@@ -1,9 +1,11 @@
 -- What a command read from words comes to.
-use Rattle.std.specs.Prelude.{◌≡◌, ℕ, ◌<◌, ◌≤◌, true, length, IfSome}
+use Rattle.std.specs.Prelude.{◌≡◌, ℕ, ◌<◌, ◌≤◌, Bool, true, false, List, length, IfSome, Option, Ok}
 use Rattle.nb_defs.specs.Causes.{ok}
 use Rattle.nb_defs.specs.Commands.{CommandOutcome, refused, prints_text}
 use Rattle.nb_imagecmd.specs.declared.asking.Asking.{Asking}
 use Rattle.nb_imagecmd.specs.Asking.{MayBeFetched}
+use Rattle.nb_drivecmd.specs.DiskNames.{named_disk}
+use Rattle.nb_drivecmd.specs.declared.outcome.Hooking.{Hooking}
 use Rattle.nb_command.specs.declared.command_plan.CommandPlan.{CommandPlan}
 use Rattle.nb_command.specs.declared.command_plan.CommandPlan.TheVariants as plan
 use Rattle.nb_command.specs.declared.outcome.Outcome.{Outcome}
@@ -29,10 +31,12 @@ wanted_of w = record { server = w.server.0; asking = w.asking }
 abbrev pub errand_of : Errand → defs.Errand
 errand_of (errand.File asking) = defs.fetches_then asking
 errand_of errand.Echo = defs.echoes_then
+errand_of (errand.Disk hooking) = defs.hooks_then hooking
 
 abbrev pub onward_of : Onward → defs.Onward
 onward_of (onward.File wanted) = defs.fetches_now (wanted_of wanted)
 onward_of (onward.Echo server) = defs.echoes_now server.0
+onward_of (onward.Disk hooking server) = defs.hooks_now hooking server.0
 onward_of (onward.Name errand name by) = defs.looks_up_now (errand_of errand) name by.0
 
 abbrev pub done_of : Done → CommandOutcome
@@ -56,6 +60,7 @@ outcome_effect (outcome.Wait (job.Ping text)) = says (refused ok)
 outcome_effect (outcome.Wait (job.Lookup setting text)) = says (refused ok)
 outcome_effect outcome.Down = shuts_device
 outcome_effect (outcome.Images o) = says (refused ok)
+outcome_effect (outcome.Drives o) = says (refused ok)
 
 -- what it prints has at most so many bytes
 abbrev pub PrintsAtMost : Deed → ℕ → Type 0
@@ -82,6 +87,7 @@ IsLocal (plan.Dhcp device) = ⊥
 IsLocal (plan.Ping text) = ⊥
 IsLocal (plan.Nslookup setting text) = ⊥
 IsLocal (plan.Images command) = ⊥
+IsLocal (plan.Drives command) = ⊥
 
 -- a plan that asks for a lease
 abbrev pub IsForLease : CommandPlan → Type 0
@@ -96,6 +102,7 @@ IsForLease (plan.Clear name) = ⊥
 IsForLease (plan.Show name) = ⊥
 IsForLease (plan.Inc name by) = ⊥
 IsForLease (plan.Images command) = ⊥
+IsForLease (plan.Drives command) = ⊥
 IsForLease (plan.Ifopen device) = ⊥
 IsForLease (plan.Ifclose device) = ⊥
 IsForLease (plan.Sleep seconds) = ⊥
@@ -117,6 +124,7 @@ IsForInquiry (plan.Clear name) = ⊥
 IsForInquiry (plan.Show name) = ⊥
 IsForInquiry (plan.Inc name by) = ⊥
 IsForInquiry (plan.Images command) = ⊥
+IsForInquiry (plan.Drives command) = ⊥
 IsForInquiry (plan.Ifopen device) = ⊥
 IsForInquiry (plan.Ifclose device) = ⊥
 IsForInquiry (plan.Sleep seconds) = ⊥
@@ -133,6 +141,7 @@ IsLocalOutcome (outcome.Wait job.Lease) = ⊥
 IsLocalOutcome (outcome.Wait (job.Ping text)) = ⊥
 IsLocalOutcome (outcome.Wait (job.Lookup setting text)) = ⊥
 IsLocalOutcome (outcome.Images o) = ⊥
+IsLocalOutcome (outcome.Drives o) = ⊥
 
 -- a file that a command asks for
 pub record IsAskedWell (asking : Asking) : Type 0 where
@@ -144,12 +153,32 @@ pub record CanFetch (opens : ℕ) (w : Wanted) : Type 0 where
   pub few : opens < 16384
   pub fits : IsAskedWell w.asking
 
--- a file that is asked for fits
+-- A disk that is to be hooked is one that a URI names.
+pub record IsHookedWell (hooking : Hooking) : Type 0 where
+  pub base : Option (List ℕ)
+  pub uri : List ℕ
+  pub names_it : named_disk base uri ≡ Ok hooking.disk
+
+-- a file or a disk that is asked for fits
 abbrev pub FitsErrand : Errand → Type 0
 FitsErrand (errand.File asking) = IsAskedWell asking
 FitsErrand errand.Echo = Unit {0}
+FitsErrand (errand.Disk hooking) = IsHookedWell hooking
 
 abbrev pub FitsOnward : Onward → Type 0
 FitsOnward (onward.File wanted) = IsAskedWell wanted.asking
 FitsOnward (onward.Echo server) = Unit {0}
+FitsOnward (onward.Disk hooking server) = IsHookedWell hooking
 FitsOnward (onward.Name errand name by) = (is_lookup_name name ≡ true) × FitsErrand errand
+
+-- a disk is hooked by it: the drive of the disk's number is closed first
+abbrev pub errand_hooks : Errand → Bool
+errand_hooks (errand.File asking) = false
+errand_hooks errand.Echo = false
+errand_hooks (errand.Disk hooking) = true
+
+abbrev pub onward_hooks : Onward → Bool
+onward_hooks (onward.File wanted) = false
+onward_hooks (onward.Echo server) = false
+onward_hooks (onward.Disk hooking server) = true
+onward_hooks (onward.Name errand name by) = errand_hooks errand

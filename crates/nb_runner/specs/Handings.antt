@@ -1,11 +1,11 @@
 -- How far a hand-off is, and what putting a piece does to it.
-use Rattle.std.specs.Prelude.{◌≡◌, ◌<◌, ◌≤◌, Bool, true, false, List, [], ◌∷◌, length, drop, None, slice_get, IfSome}
+use Rattle.std.specs.Prelude.{◌≡◌, ◌<◌, ◌≤◌, ℕ, ◌+◌, Bool, true, false, List, [], ◌∷◌, ◌++◌, length, drop, Option, None, slice_get, IfSome}
 use Rattle.std.specs.List.{flat_map, AllByRecursion}
 use Rattle.nb_defs.specs.Records.{Out, out_texts}
 use Rattle.nb_record.specs.Logged.{Logged, Puts}
 use Rattle.nb_image.specs.declared.image.Image.{Image}
 use Rattle.nb_image.specs.Images.{ImageList}
-use Rattle.nb_image.specs.Parts.{parts}
+use Rattle.nb_image.specs.Parts.{PartText, parts, table_parts}
 use Rattle.nb_runner.specs.declared.handing.Handing.{Handing}
 use Rattle.nb_machine.specs.Conclusions.{part_records}
 
@@ -18,17 +18,31 @@ pub record IsShortImage (image : Image) : Type 0 where
 abbrev pub AreShortImages : List Image → Type 0
 AreShortImages images = AllByRecursion IsShortImage images
 
+-- the parts: those of the images, and last the boot table, where there is one
+abbrev pub parts_handed : List Image → Handing → List PartText
+parts_handed images h = parts h.kernel images ++ table_parts h.table
+
 -- the records of the pieces that are still to come
 abbrev pub records_left : List Image → Handing → List Out
-records_left images h = drop h.piece (flat_map part_records (drop h.part (parts h.kernel images)))
+records_left images h = drop h.piece (flat_map part_records (drop h.part (parts_handed images h)))
+
+-- after a piece: at the next piece of its part, or at the first of the next part
+abbrev pub moved_on : Bool → Handing → Handing
+moved_on true h = record { kernel = h.kernel; table = h.table; part = h.part + 1; piece = 0 }
+moved_on false h = record { kernel = h.kernel; table = h.table; part = h.part; piece = h.piece + 1 }
+
+-- a boot table is short
+abbrev pub IsShortTable : Option (List ℕ) → Type 0
+IsShortTable table = IfSome table (λ bytes. length bytes ≤ 268435456)
 
 -- a hand-off stands at a piece of one of its parts, or after them all
 pub record IsAtPiece (list : ImageList) (h : Handing) : Type 0 where
   pub kernel : h.kernel < length list.images
-  pub part : h.part ≤ length (parts h.kernel list.images)
-  pub piece : IfSome (slice_get (parts h.kernel list.images) h.part) (λ p. h.piece < length (part_records p))
-  pub behind : slice_get (parts h.kernel list.images) h.part ≡ None → h.piece ≡ 0
+  pub part : h.part ≤ length (parts_handed list.images h)
+  pub piece : IfSome (slice_get (parts_handed list.images h) h.part) (λ p. h.piece < length (part_records p))
+  pub behind : slice_get (parts_handed list.images h) h.part ≡ None → h.piece ≡ 0
   pub short : AreShortImages list.images
+  pub table : IsShortTable h.table
 
 -- the next record was put, or there is none
 pub record PutsNext (images : List Image) (old new : Handing) (before after : Logged) : Type 0 where

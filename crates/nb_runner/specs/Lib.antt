@@ -1,4 +1,5 @@
 pub mod CommandWords
+pub mod Drives
 pub mod FirstScript
 pub mod Following
 pub mod Handings

@@ -104,9 +104,9 @@ fn deed_of(outcome: Outcome) -> Deed
         Outcome::Leave(n) => Deed::Ends(Done::leaving(n)),
         Outcome::Wait(Job::Sleep(seconds)) => Deed::Sleeps(seconds),
         Outcome::Down => Deed::Shuts,
-        Outcome::Wait(Job::Lease | Job::Ping { .. } | Job::Lookup { .. }) | Outcome::Images(_) => {
-            unreachable!()
-        }
+        Outcome::Wait(Job::Lease | Job::Ping { .. } | Job::Lookup { .. })
+        | Outcome::Images(_)
+        | Outcome::Drives(_) => unreachable!(),
     }
 }
 
@@ -114,7 +114,7 @@ fn deed_of(outcome: Outcome) -> Deed
 pub fn carry_out(alloc: Global, plan: &CommandPlan, state: &mut State) -> Result<Deed, NoMemory>
     requires { IsLocal plan.now }
     ensures value { IfOk result (λ deed. (opens : ℕ) → plan_effect opens state.old.table plan.now ≡ deed_effect deed) }
-    ensures after { OnOk result (state.new ≡ state_of (plan_table plan.now state.old.table) state.old.images (plan_up plan.now state.old.up)) }
+    ensures after { OnOk result (state.new ≡ state_of (plan_table plan.now state.old.table) state.old.images state.old.drives (plan_up plan.now state.old.up)) }
     ensures same { OnErr result (state.new ≡ state.old) }
     ensures printed { IfOk result (λ deed. PrintsAtMost deed (most_printed plan.now)) }
 {

@@ -2,9 +2,10 @@
 
 ghost use Rattle.std.specs.Prelude.{◌≡◌};
 ghost use Rattle.nb_imagecmd.specs.Asking.{target_host, target_text, target_port};
-ghost use Rattle.nb_runner.specs.CommandWords.{errand_of, onward_of, FitsErrand, FitsOnward};
+ghost use Rattle.nb_runner.specs.CommandWords.{errand_of, errand_hooks, onward_of, onward_hooks, FitsErrand, FitsOnward};
 ghost use Rattle.nb_machine.specs.Errands.{onward};
 
+use nb_drivecmd::Hooking;
 use nb_imagecmd::Asking;
 use nb_uri::UriTarget;
 use nb_wire::{Ip4, Text};
@@ -25,6 +26,8 @@ pub enum Errand {
     File(Asking),
     /// It is asked for an echo (RFC 792).
     Echo,
+    /// This disk of it is hooked.
+    Disk(Hooking),
 }
 
 /// What is asked of a server whose address was found.
@@ -34,6 +37,8 @@ pub enum Onward {
     File(Wanted),
     /// It is asked for an echo.
     Echo(Ip4),
+    /// This disk is hooked.
+    Disk { hooking: Hooking, server: Ip4 },
     /// A name server is asked for the address of another server's name, of which this is asked then.
     Name { errand: Errand, name: Text, by: Ip4 },
 }
@@ -43,10 +48,12 @@ impl Errand {
     pub fn at(self, server: Ip4) -> Onward
         ensures value { onward_of result ≡ onward (errand_of self) server.0 }
         ensures fits { FitsErrand self → FitsOnward result }
+        ensures hooks { onward_hooks result ≡ errand_hooks self }
     {
         match self {
             Errand::File(asking) => Onward::File(Wanted { server, asking }),
             Errand::Echo => Onward::Echo(server),
+            Errand::Disk(hooking) => Onward::Disk { hooking, server },
         }
     }
 }

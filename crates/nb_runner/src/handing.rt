@@ -1,32 +1,69 @@
-ghost use Rattle.std.specs.Prelude.{◌≡◌, ◌<◌, ◌∷◌, [], true, false, length};
+ghost use Rattle.std.specs.Prelude.{◌≡◌, ◌<◌, ◌≤◌, ◌∷◌, [], true, false, length, option_map, slice_get, IfSome};
+ghost use Rattle.std.specs.Option.{option_copied};
+ghost use Rattle.nb_image.specs.Parts.{part_text, table_parts};
 ghost use Rattle.nb_record.specs.Logged.{Puts};
-ghost use Rattle.nb_runner.specs.Handings.{IsAtPiece, HandsOn, records_left};
+ghost use Rattle.nb_runner.specs.Handings.{IsAtPiece, HandsOn, moved_on, parts_handed, records_left};
 ghost use Rattle.nb_machine.specs.Conclusions.{handoff_records};
 
-use nb_image::{Handoff, Images};
+use nb_image::{Handoff, Images, Part, PartBytes, PartKind};
 use nb_record::{Log, OutRec};
+use nb_wire::Text;
 
-/// How far a hand-off is: the image that is booted, and the part and the piece that come next.
-#[derive(Clone, Copy, Debug)]
+/// How far a hand-off is: the image that is booted, the boot table of drives where there is one, and the part and the piece
+/// that come next.
+#[derive(Drop)]
 pub struct Handing {
     /// The place of the image that is booted.
     pub kernel: usize,
+    /// The boot table, which is the last part.
+    pub table: Option<Text>,
     /// The part that comes next.
     pub part: usize,
     /// The piece of it that comes next.
     pub piece: usize,
 }
 
+/// The boot table as a part.
+fn table_part(table: &Option<Text>) -> Option<Part<'_>>
+    ensures { option_map part_text result ≡ slice_get (table_parts table.now) 0 }
+{
+    match table {
+        Some(text) => Some(Part {
+            kind: PartKind::Table,
+            index: 0,
+            bytes: PartBytes::Text(text.as_slice()),
+        }),
+        None => None,
+    }
+}
+
 impl Handing {
-    /// The hand-off of the image at this place; nothing was put.
-    pub fn of(kernel: usize) -> Handing
-        ensures { result ≡ record { kernel = kernel; part = 0; piece = 0 } }
+    /// The hand-off of the image at this place, and of this boot table; nothing was put.
+    pub fn of(kernel: usize, table: Option<Text>) -> Handing
+        ensures { result ≡ record { kernel = kernel; table = table; part = 0; piece = 0 } }
     {
         Handing {
             kernel,
+            table,
             part: 0,
             piece: 0,
         }
+    }
+
+    /// The part that comes next. None where all was put.
+    fn next_part<'a>(&'a self, images: &'a Images) -> Option<Part<'a>>
+        requires { self.now.kernel < length images.now.images }
+        ensures value { option_map part_text result ≡ slice_get (parts_handed images.now.images self.now) self.now.part }
+        ensures few { IfSome result (λ _. self.now.part ≤ 65) }
+    {
+        let handoff = Handoff {
+            kernel: self.kernel,
+            images,
+        };
+        if self.part == handoff.part_count() {
+            return table_part(&self.table);
+        }
+        handoff.part(self.part)
     }
 
     /// Puts the next piece. False where all was put.
@@ -34,15 +71,8 @@ impl Handing {
         requires { IsAtPiece images.now self.old }
         ensures { HandsOn result images.now self.old self.new log.old log.new }
     {
-        let handoff = Handoff {
-            kernel: self.kernel,
-            images,
-        };
-        if self.part == handoff.part_count() {
+        let Some(part) = self.next_part(images) else {
             return false;
-        }
-        let Some(part) = handoff.part(self.part) else {
-            unreachable!()
         };
         let Some(piece) = part.piece(self.piece) else {
             unreachable!()
@@ -53,11 +83,22 @@ impl Handing {
             offset: piece.offset as u32,
             bytes: piece.bytes,
         });
-        self.piece += 1;
-        if self.piece == part.piece_count() {
+        let last = self.piece + 1 == part.piece_count();
+        self.go_on(last);
+        true
+    }
+
+    /// The piece was put, which was the last of its part or not.
+    fn go_on(&mut self, last: bool)
+        requires piece { self.old.piece < 65536 }
+        requires part { self.old.part ≤ 65 }
+        ensures { self.new ≡ moved_on last self.old }
+    {
+        if last {
             self.part += 1;
             self.piece = 0;
+        } else {
+            self.piece += 1;
         }
-        true
     }
 }

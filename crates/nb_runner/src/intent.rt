@@ -1,11 +1,11 @@
-//! What a command comes to that asks for a lease, an echo, a name's address or a file.
+//! What a command comes to that asks for a lease, an echo, a name's address, a file or a drive.
 
 ghost use Rattle.std.specs.Prelude.{◌≡◌, ◌<◌, ◌≤◌, ◌==◌, ◌++◌, ◌∷◌, ℕ, List, length, true, false, Some, None, Ok, IfOk, OnOk, OnErr};
 ghost use Rattle.nb_settings.specs.Tables.{look};
 ghost use Rattle.nb_settings.specs.declared.setting.OwnedKey.TheVariants.{Tag};
 ghost use Rattle.nb_runner.specs.CommandWords.{IsAskedWell, IsForInquiry, IsForLease};
 ghost use Rattle.nb_machine.specs.Effects.{Surroundings, asked_effect, inquires, looked_up_effect, name_effect, plan_effect, plan_table, plan_up, unless_full};
-ghost use Rattle.nb_runner.specs.Intents.{query_of, intent_effect, looked_up_table, CanAsk, IsAskable};
+ghost use Rattle.nb_runner.specs.Intents.{query_of, intent_effect, looked_up_table, query_hooks, CanAsk, IsAskable};
 ghost use Rattle.nb_machine.specs.Queries.{dns_in, with_domain, domain_bytes};
 ghost use Rattle.nb_runner.specs.World.{IsLinkOfState, state_of, with_state, world_with};
 
@@ -20,6 +20,7 @@ use nb_command::{
     ApplyError, CommandPlan, State, apply, nonzero, put_address, refuses_address, setting_address,
 };
 use nb_dns::is_name;
+use nb_drivecmd::Hooking;
 use nb_imagecmd::Asking;
 use nb_record::{Cause, NoMemory};
 use nb_settings::{Key, Table};
@@ -40,6 +41,10 @@ pub enum Intent {
     Asks(Query),
     /// It fetches this.
     Fetches(Wanted),
+    /// It hooks this disk, once the drive of its number is closed.
+    Hooks(Hooking),
+    /// The drive of this number is closed, if one is hooked, and it is over with this cause.
+    LetsGo(u8, Cause),
 }
 
 /// The bytes of `domain`, none where it isn't set.
@@ -76,6 +81,7 @@ pub(crate) fn dns_in(table: &Table) -> Option<Ip4>
 fn unless_full(opens: u16, query: Query) -> Intent
     requires few { opens ≤ 16384 }
     requires can { CanAsk query }
+    requires plain { query_hooks query ≡ false }
     ensures value { intent_effect result ≡ unless_full opens (inquires (query_of query)) }
     ensures may { IsAskable opens result }
 {
@@ -125,7 +131,7 @@ fn intend_lease(
     requires few { opens ≤ 16384 }
     ensures value { IfOk result (λ i. plan_effect opens state.old.table plan.now ≡ intent_effect i) }
     ensures may { IfOk result (λ i. IsAskable opens i) }
-    ensures after { OnOk result (state.new ≡ state_of (plan_table plan.now state.old.table) state.old.images (plan_up plan.now state.old.up)) }
+    ensures after { OnOk result (state.new ≡ state_of (plan_table plan.now state.old.table) state.old.images state.old.drives (plan_up plan.now state.old.up)) }
     ensures same { OnErr result (state.new ≡ state.old) }
 {
     match apply(alloc, plan, None, state) {
@@ -201,7 +207,7 @@ impl World {
         requires few { self.old.opens ≤ 16384 }
         ensures value { IfOk result (λ i. plan_effect self.old.opens self.old.state.table plan.now ≡ intent_effect i) }
         ensures may { IfOk result (λ i. IsAskable self.old.opens i) }
-        ensures after { OnOk result (self.new ≡ with_state self.old (state_of (plan_table plan.now self.old.state.table) self.old.state.images (plan_up plan.now self.old.state.up))) }
+        ensures after { OnOk result (self.new ≡ with_state self.old (state_of (plan_table plan.now self.old.state.table) self.old.state.images self.old.state.drives (plan_up plan.now self.old.state.up))) }
         ensures same { OnErr result (self.new ≡ self.old) }
     {
         let opens = self.opens;

@@ -4,6 +4,7 @@
 #![tactic(auto)]
 
 mod command;
+mod drives;
 mod errand;
 mod first_script;
 mod following;

@@ -12,6 +12,7 @@ use crate::command::{Deed, carry_out};
 use crate::link::address_in;
 use crate::settings::start_table;
 use nb_command::{CommandPlan, State};
+use nb_drivecmd::Drives;
 use nb_image::Images;
 use nb_machine::Identity;
 use nb_record::{NoMemory, Start};
@@ -19,7 +20,7 @@ use nb_settings::Table;
 use nb_stack::Stack;
 use std::alloc::Global;
 
-/// What a run has beside its script: its link, its clock, its opens, its settings and its images.
+/// What a run has beside its script: its link, its clock, its opens, its settings, its images and its drives.
 #[derive(Drop)]
 pub struct World {
     /// The number from which the ports of the opens count.
@@ -32,7 +33,7 @@ pub struct World {
     pub net: Stack,
     /// How many opens were made.
     pub opens: u16,
-    /// Its settings, its images, and whether its device is up.
+    /// Its settings, its images, its drives, and whether its device is up.
     pub state: State,
     /// The scripts outside the one that runs.
     pub outer: OuterScripts,
@@ -71,6 +72,7 @@ impl World {
             state: State {
                 table: Table::new(alloc),
                 images: Images::new(alloc),
+                drives: Drives::new(),
                 up: false,
             },
             outer: OuterScripts::new(alloc),

@@ -8,6 +8,8 @@ use Rattle.nb_nodes.specs.Tags.{tag_number}
 use Rattle.nb_nodes.specs.declared.tag.Tag.TheVariants.{Advance, Try, Bytes, Address}
 use Rattle.nb_conns.specs.StreamTags.{stream_tag_number}
 use Rattle.nb_conns.specs.declared.stream_tag.StreamTag.TheVariants.{TwoSegments}
+use Rattle.nb_drivenodes.specs.DriveTags.{drive_tag_number}
+use Rattle.nb_drivenodes.specs.declared.drive_tag.DriveTag.TheVariants.{Answered}
 use Rattle.nb_teller.specs.declared.speaker.Speaker.{Speaker}
 use Rattle.nb_teller.specs.Speakers.{datagram_of}
 use Rattle.nb_machine.specs.Sendings.{send_records, has_route}
@@ -21,11 +23,15 @@ two_segments net who number count bytes =
     send_records net who.number None (datagram_of who 0 (take count bytes))
     ++ send_records net who.number (try_by number) (datagram_of who 0 (drop count bytes))
 
--- a message, by its tag: what was found has no record; else it says that the place has grown, is two segments, or is a datagram or a
+-- what was found or answered has no record
+abbrev pub is_delivery : ℕ → Bool
+is_delivery tag = (tag == tag_number Bytes) || ((tag == tag_number Address) || (tag == drive_tag_number Answered))
+
+-- a message, by its tag: a delivery has no record; else it says that the place has grown, is two segments, or is a datagram or a
 -- segment, which may be a try
 abbrev pub message_records : Client → Speaker → ℕ → ℕ → ℕ → List ℕ → List Out
 message_records net who tag a b bytes =
-    if (tag == tag_number Bytes) || (tag == tag_number Address) then []
+    if is_delivery tag then []
     else if tag == tag_number Advance then advanced who.number a ∷ []
     else if tag == stream_tag_number TwoSegments then two_segments net who a b bytes
     else send_records net who.number (if tag == tag_number Try then Some a else None) (datagram_of who b bytes)
@@ -40,7 +46,7 @@ told_records net who ns = flat_map (notice_records net who) ns
 -- a message, by its tag, is a datagram, which may be a try, that finds no route
 abbrev pub message_lacks_route : Client → Speaker → ℕ → ℕ → List ℕ → Bool
 message_lacks_route net who tag b bytes =
-    if (tag == tag_number Bytes) || (tag == tag_number Address) then false
+    if is_delivery tag then false
     else if tag == tag_number Advance then false
     else if tag == stream_tag_number TwoSegments
     then not (has_route net (datagram_of who 0 (take b bytes))) || not (has_route net (datagram_of who 0 (drop b bytes)))

@@ -1,4 +1,4 @@
-ghost use Rattle.std.specs.Prelude.{◌≡◌, ◌≤◌, ◌∷◌, ◌||◌, [], length, not, true, false, None, Some, IfOk};
+ghost use Rattle.std.specs.Prelude.{◌≡◌, ◌≤◌, ◌∷◌, ◌++◌, ◌||◌, [], length, not, true, false, None, Some, IfOk};
 ghost use Rattle.std.specs.Option.{option_copied};
 ghost use Rattle.nb_defs.specs.Records.{advanced, graph};
 ghost use Rattle.nb_ledger.specs.Flat as notice;
@@ -10,6 +10,7 @@ ghost use Rattle.nb_teller.specs.Speakers.{datagram_of, CanCarry};
 use crate::desk::Room;
 use crate::put::put_datagram;
 use crate::speaker::Speaker;
+use nb_drivechains::DriveAnswer;
 use nb_record::{Cause, Event, Log, NoMemory, OutRec};
 use nb_runner::copy;
 use nb_stack::Stack;
@@ -26,7 +27,7 @@ const CLOSED: u8 = 8;
 /// The code of a cause: memory ran out.
 const OUT_OF_MEMORY: u8 = 23;
 
-/// The records of what a graph told since this was cleared, what was delivered first, and whether a message found no
+/// The records of what a graph told since this was cleared, what was delivered, and whether a message found no
 /// route. Where memory ran out, or a message isn't one of an open's, in one part, all of it is lost.
 #[derive(Drop)]
 pub struct Spelled {
@@ -35,6 +36,8 @@ pub struct Spelled {
     closed: Option<Cause>,
     bytes: Option<Text>,
     address: Option<Ip4>,
+    blocks: Vec<u8>,
+    answer: Option<DriveAnswer>,
     stuck: bool,
     lost: bool,
 }
@@ -50,6 +53,8 @@ impl Model for Spelled {
       closed = s.closed;
       bytes = s.bytes;
       address = s.address;
+      blocks = s.blocks.items;
+      answer = s.answer;
       is_stuck = s.stuck;
       is_lost = s.lost || s.text.is_short;
     } };
@@ -64,6 +69,8 @@ impl Spelled {
             closed: None,
             bytes: None,
             address: None,
+            blocks: Vec::new(alloc),
+            answer: None,
             stuck: false,
             lost: false,
         })
@@ -82,6 +89,8 @@ impl Spelled {
         self.closed = None;
         self.bytes = None;
         self.address = None;
+        self.blocks.clear();
+        self.answer = None;
         self.stuck = false;
         self.lost = false;
     }
@@ -118,6 +127,20 @@ impl Spelled {
         ensures { result ≡ self.now.address }
     {
         self.address
+    }
+
+    /// All bytes that were delivered, in order.
+    pub fn blocks(&self) -> &[u8]
+        ensures { result.now ≡ self.now.blocks }
+    {
+        self.blocks.as_slice()
+    }
+
+    /// What a drive answered first.
+    pub fn answer(&self) -> Option<DriveAnswer>
+        ensures { result ≡ self.now.answer }
+    {
+        self.answer
     }
 
     /// Whether some message found no route: it has no record.
@@ -176,6 +199,8 @@ impl Spelled {
         ensures closed { self.new.closed ≡ self.old.closed }
         ensures address { self.new.address ≡ self.old.address }
         ensures found { self.new.is_lost ≡ false → self.new.bytes ≡ first_there self.old.bytes (Some bytes.now) }
+        ensures blocks { self.new.is_lost ≡ false → self.new.blocks ≡ self.old.blocks ++ bytes.now }
+        ensures answer { self.new.answer ≡ self.old.answer }
         ensures stuck { self.new.is_stuck ≡ self.old.is_stuck }
         ensures more { SpellsMore self.old self.new [] }
     {
@@ -185,12 +210,32 @@ impl Spelled {
                 Err(NoMemory) => self.lost = true,
             }
         }
+        if self.blocks.extend_from_slice(bytes).is_err() {
+            self.lost = true;
+        }
+    }
+
+    /// A drive answers this.
+    pub fn put_answer(&mut self, answer: DriveAnswer)
+        ensures closed { self.new.closed ≡ self.old.closed }
+        ensures bytes { self.new.bytes ≡ self.old.bytes }
+        ensures address { self.new.address ≡ self.old.address }
+        ensures blocks { self.new.blocks ≡ self.old.blocks }
+        ensures found { self.new.answer ≡ first_there self.old.answer (Some answer) }
+        ensures stuck { self.new.is_stuck ≡ self.old.is_stuck }
+        ensures more { SpellsMore self.old self.new [] }
+    {
+        if self.answer.is_none() {
+            self.answer = Some(answer);
+        }
     }
 
     /// This address is delivered.
     pub fn put_address(&mut self, address: Ip4)
         ensures closed { self.new.closed ≡ self.old.closed }
         ensures bytes { self.new.bytes ≡ self.old.bytes }
+        ensures blocks { self.new.blocks ≡ self.old.blocks }
+        ensures answer { self.new.answer ≡ self.old.answer }
         ensures found { self.new.address ≡ first_there self.old.address (Some address) }
         ensures stuck { self.new.is_stuck ≡ self.old.is_stuck }
         ensures more { SpellsMore self.old self.new [] }

@@ -5,7 +5,7 @@ ghost use Rattle.nb_stack.specs.Client.{Client};
 ghost use Rattle.nb_teller.specs.declared.speaker.Speaker.{Speaker as TheSpeaker};
 ghost use Rattle.nb_machine.specs.Sendings.{has_route, send_records};
 ghost use Rattle.nb_teller.specs.Spelling.{heard_by, IsBlank, IsWholeSpelling, SpellsMessage};
-ghost use Rattle.nb_teller.specs.Tellings.{message_lacks_route, message_records, try_by};
+ghost use Rattle.nb_teller.specs.Tellings.{is_delivery, message_lacks_route, message_records, try_by};
 ghost use Rattle.nb_conns.specs.StreamTags.{stream_tag_number};
 ghost use Rattle.nb_conns.specs.declared.stream_tag.StreamTag.TheVariants as stream_tag;
 ghost use Rattle.nb_teller.specs.Speakers.{datagram_of};
@@ -15,6 +15,7 @@ use crate::put::can_carry;
 use crate::speaker::Speaker;
 use crate::spelled::Spelled;
 use nb_conns::StreamTag;
+use nb_drivechains::DriveAnswer;
 use nb_graph::{Msg, Outside, Port};
 use nb_nodes::Tag;
 use nb_record::{Event, NoMemory};
@@ -109,7 +110,7 @@ fn send_datagram(
         ≡ send_records net.now who.now.number tried (datagram_of who.now b bytes) }
     requires lacks { (b : ℕ) (bytes : List ℕ) → message_lacks_route net.now who.now msg.now.tag b bytes
         ≡ not (has_route net.now (datagram_of who.now b bytes)) }
-    requires tag { ((msg.now.tag == tag_number tag.Bytes) ≡ false) × ((msg.now.tag == tag_number tag.Address) ≡ false) }
+    requires tag { is_delivery msg.now.tag ≡ false }
     ensures { SpellsMessage net.now who.now told.old told.new msg.now.tag msg.now.a msg.now.b
         (msg.now.first.now ++ msg.now.second.now) }
 {
@@ -127,7 +128,7 @@ fn send_try(told: &mut Spelled, net: &Stack, who: &Speaker, room: &mut Room, msg
         ≡ send_records net.now who.now.number (Some msg.now.a) (datagram_of who.now b bytes) }
     requires lacks { (b : ℕ) (bytes : List ℕ) → message_lacks_route net.now who.now msg.now.tag b bytes
         ≡ not (has_route net.now (datagram_of who.now b bytes)) }
-    requires tag { ((msg.now.tag == tag_number tag.Bytes) ≡ false) × ((msg.now.tag == tag_number tag.Address) ≡ false) }
+    requires tag { is_delivery msg.now.tag ≡ false }
     ensures { SpellsMessage net.now who.now told.old told.new msg.now.tag msg.now.a msg.now.b
         (msg.now.first.now ++ msg.now.second.now) }
 {
@@ -174,6 +175,17 @@ fn send_bytes(told: &mut Spelled, msg: &Msg<'_>)
     }
 }
 
+/// A drive answers, if the message says so.
+fn send_answer(told: &mut Spelled, msg: &Msg<'_>)
+    ensures { (net : Client) (who : TheSpeaker) → SpellsMessage net who told.old told.new msg.now.tag msg.now.a msg.now.b
+        (msg.now.first.now ++ msg.now.second.now) }
+{
+    match DriveAnswer::read(msg) {
+        Some(answer) => told.put_answer(answer),
+        None => told.lose(),
+    }
+}
+
 impl<'a> Outside for Teller<'a> {
     ghost events = { λ t. heard_by t.net.now t.who.now t.told.value };
 
@@ -193,7 +205,8 @@ impl<'a> Outside for Teller<'a> {
             Err(_) if msg.tag == u8::from(StreamTag::TwoSegments) => {
                 send_two(&mut self.told, net, who, self.room, msg)
             }
-            _ => self.told.lose(),
+            Err(_) => send_answer(&mut self.told, msg),
+            Ok(Tag::Begin) => self.told.lose(),
         }
     }
 }

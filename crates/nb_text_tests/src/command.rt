@@ -1,6 +1,7 @@
 //! Commands one after another, their words expanded, on a table with the `mac` of `net0`; and files of URIs.
 
 use nb_command::{Job, Outcome, PlanError, State, apply, plan, put_address, refuses_address};
+use nb_drivecmd::{DriveOutcome, Drives};
 use nb_expand::expand;
 use nb_image::Images;
 use nb_imagecmd::{Asking, ImageOutcome};
@@ -46,6 +47,13 @@ imgstat|prints 0\n\
 imgfree|images\n\
 imgfree k|fails 12\n\
 boot|fails 12\n\
+sanhook iscsi:10.0.0.1::::iqn.x:t|hooks 128 true 3260 iqn.x:t\n\
+sanhook --drive 200 --no-describe iscsi:h::3261:1:iqn.y|hooks 200 false 3261 iqn.y\n\
+sanhook --drive 127 iscsi:10.0.0.1::::iqn.x:t|usage\n\
+sanhook http://10.0.0.1/d|fails 16\n\
+sanhook|usage\n\
+sanunhook|fails 28\n\
+sanboot iscsi:10.0.0.1::::iqn.x:t|unknown\n\
 set a one two|done\n\
 show a|text a = one two$\n\
 set a |done\n\
@@ -128,6 +136,7 @@ fn shown(alloc: Global, answer: &Result<Outcome, Cause>) -> Result<Vec<u8>, Fail
         Ok(Outcome::Down) => joined(alloc, &[b"down"]),
         Ok(Outcome::Wait(job)) => shown_job(alloc, job),
         Ok(Outcome::Images(outcome)) => shown_images(alloc, outcome),
+        Ok(Outcome::Drives(outcome)) => shown_drives(alloc, outcome),
         Err(cause) => failure(alloc, *cause),
     }
 }
@@ -160,6 +169,20 @@ fn shown_images(alloc: Global, outcome: &ImageOutcome) -> Result<Vec<u8>, Fail> 
     }
 }
 
+/// No drive is hooked, so none is let go.
+fn shown_drives(alloc: Global, outcome: &DriveOutcome) -> Result<Vec<u8>, Fail> {
+    match outcome {
+        DriveOutcome::Hook(hooking) => {
+            let number = hooking.number;
+            let described = hooking.described;
+            let port = hooking.disk.port;
+            let text = format!(in alloc; "hooks {number} {described} {port}")?;
+            joined(alloc, &[text.as_bytes(), hooking.disk.name.as_slice()])
+        }
+        DriveOutcome::Boot { .. } | DriveOutcome::Unhook(_) => Err(Fail::new("no drive is there")),
+    }
+}
+
 /// What a line comes to. Its words have one space between each two, and each is expanded.
 fn outcome(alloc: Global, state: &mut State, line: &str) -> Result<Vec<u8>, Fail> {
     let mut words: Vec<Word> = Vec::new(alloc);
@@ -186,6 +209,7 @@ fn blank(alloc: Global, up: bool) -> State {
     State {
         table: Table::new(alloc),
         images: Images::new(alloc),
+        drives: Drives::new(),
         up,
     }
 }

@@ -44,11 +44,11 @@ CallsOpen o by records s t = IsCallOn o.number (own_serials o) (lowest_of (own_s
 abbrev pub ShutsOpen : Kin → List GraphObject → List Out → GraphState → GraphState → Type 0
 ShutsOpen o waits records s t = IsCallOn o.number (own_serials o ++ serials waits) (lowest_of (own_serials o)) None records s t
 
--- What waits on where an open of this kind begins: nothing; or, beside the look-up of a name (4), one object that has a server, a Fetch (1) or a
--- Ping (7).
+-- What waits on where an open of this kind begins: nothing; or, beside the look-up of a name (4), one object that has a server, a Fetch (1), a
+-- Ping (7) or a logical unit (9).
 abbrev pub MayWaitOn : ℕ → List GraphObject → Type 0
 MayWaitOn kind [] = Unit {0}
-MayWaitOn kind (p ∷ []) = (kind ≡ 4) × ((p.kind ≡ 1) ⊎ (p.kind ≡ 7))
+MayWaitOn kind (p ∷ []) = (kind ≡ 4) × ((p.kind ≡ 1) ⊎ ((p.kind ≡ 7) ⊎ (p.kind ≡ 9)))
 MayWaitOn kind (p ∷ (q ∷ ps)) = ⊥
 
 -- The output has led the graph here, and these came to the opens from outside, each with its way, in this order.

@@ -27,5 +27,5 @@ returns-in-Err-2-clause-after c =
       | inr e ↦
           let old = c.args.state.now in
           let stays = carried_err c.args.plan.now old c.in-Err.cause c.requires e in
-          c.in-Err.ensures.refused ∙ (ap (λ table. state_of table old.images old.up) (sym stays.table_stays) ∙ ap (λ up. state_of (plan_table c.args.plan.now old.table) old.images up) (sym stays.up_stays))
+          c.in-Err.ensures.refused ∙ (ap (λ table. state_of table old.images old.drives old.up) (sym stays.table_stays) ∙ ap (λ up. state_of (plan_table c.args.plan.now old.table) old.images old.drives up) (sym stays.up_stays))
     ]

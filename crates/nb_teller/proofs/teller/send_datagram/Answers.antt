@@ -5,6 +5,7 @@ use Rattle.nb_machine.specs.Sendings.{has_route, send_records}
 use Rattle.nb_teller.specs.Speakers.{datagram_of}
 use Rattle.nb_teller.specs.Spelling.{SpellsMore}
 use Rattle.nb_teller.specs.Tellings.{message_lacks_route, message_records}
+use Rattle.nb_teller.proofs.SpellingLemmas.{no_delivery, or_none_there}
 use Rattle.nb_teller.proofs.teller.send_datagram.Goals as goal
 
 no_bytes : (xs : List ℕ) → (length xs == 0) ≡ true → xs ≡ []
@@ -26,6 +27,6 @@ returns-in-Ok c =
     let lacks : not (has_route net (datagram_of who c.in-Ok.port msg.first.now)) ≡ message_lacks_route net who msg.tag msg.b bytes = ap (λ (m : SendTo). not (has_route net m)) is ∙ sym (c.requires.lacks msg.b bytes) in (
       put.closed,
       subst (SpellsMore old c.put_datagram.new.self) says put.more,
-      λ kept. (rw (c.requires.tag.0) put.found.0, rw (c.requires.tag.1) put.found.1),
+      λ kept. (let no = no_delivery msg.tag c.requires.tag in (rw (no.0) put.found.0, rw (no.1) put.found.1, rw (no.0) put.found.2, rw (no.2) (put.found.3 ∙ sym (or_none_there old.answer)))),
       λ kept. put.stuck ∙ ap (λ z. old.is_stuck || z) lacks,
     )

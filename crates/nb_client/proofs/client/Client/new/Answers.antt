@@ -2,7 +2,7 @@ use Rattle.std.proofs.Common.{◌≡◌, [], refl, sym, ◌∙◌, ap, arith}
 use Rattle.std.specs.Prelude.{map}
 use Rattle.nb_ledger.specs.Ledger.{Ledger, holds, object_lives, port, run_state}
 use Rattle.nb_traced.specs.Holdings.{no_state}
-use Rattle.nb_open.specs.Open.{kin_of}
+use Rattle.nb_network.specs.Many.{kin_of}
 use Rattle.nb_client.proofs.client.Client.new.Goals as goal
 
 none_run : (l : Ledger) → l.made ≡ 0 → l.objects ≡ [] → no_state ≡ run_state l []

@@ -10,12 +10,13 @@ pub returns-clause-concludes : goal.returns-clause-concludes
 returns-clause-concludes c =
     let g = c.in_ok-put_gathered.ensures in
     let same = same_snapshot _ _ c.put_gathered.ensures.used c.put_gathered.ensures.world c.put_gathered.ensures.opens refl in
-    let l = rw (c.into_inner.ensures, c.into_inner-2.ensures) at c.in_ok-stage.ensures in
-    subst (λ (x : Snapshot). Concludes c.args.pending c.args.ended c.args.script c.args.self.now x c.args.log.now c.put_gathered.new.log) (sym same)
+    let l = rw c.into_inner.ensures at c.in_ok-stage.ensures in
+    subst (λ (x : Snapshot). Concludes c.args.pending c.args.answer c.args.script c.args.self.now x c.args.log.now c.put_gathered.new.log) (sym same)
     (record {
       rest = l.rest;
       puts = gathered_puts (out_texts l.rest) c.in_ok-out.ensures g.whole l.puts g.puts;
       comes = l.comes;
+      plain = l.plain;
       traces = l.traces;
       sound = l.sound;
       under_way = l.under_way;

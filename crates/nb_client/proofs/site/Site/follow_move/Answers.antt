@@ -14,4 +14,5 @@ returns-in_ok-next-in-Next c = λ p e asks none moves.
     let now = c.args.self.now in
     let follows = sym (rw c.in-Next.is at c.in_ok-cause.ensures.value) in
     let can = rw c.in-Next.is at c.in_ok-cause.ensures.can in
-    rw c.in_ok-next-in-Next.ensures (next_concludes now c.args.script c.args.wanted c.args.text.now p e asks none moves _ _ follows refl can.1 c.requires.sound)
+    let hooks = rw c.in-Next.is at c.in_ok-cause.ensures.plain in
+    rw c.in_ok-next-in-Next.ensures (next_concludes now c.args.script c.args.wanted c.args.text.now p e asks none moves _ _ follows refl can.1 hooks c.requires.sound)

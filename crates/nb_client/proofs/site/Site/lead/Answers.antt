@@ -35,7 +35,7 @@ returns-in-Boots c =
     let e = c.begin_handing.ensures in
     let kernel = c.in-Boots.kernel in
     let well = boots_well c.args.conclusion kernel c.args.script.depth c.requires.well.0 now.world.state.images c.in-Boots.is c.requires.well.1 in
-    rw c.in-Boots.is (if_all c.begin_handing.result (λ st is used shuts. rw is (boots_leads now c.begin_handing.new.self c.args.script kernel c.requires.sound well.0 well.1 used shuts)) e.stage e.used e.shuts)
+    rw c.in-Boots.is (if_all c.begin_handing.result (λ st is used shuts. rw is.1 (boots_leads now c.begin_handing.new.self c.args.script kernel is.0 is.2 c.requires.sound well.0 well.1 used shuts)) e.stage e.used e.shuts)
 
 pub returns-in-Runs : goal.returns-in-Runs
 returns-in-Runs c =

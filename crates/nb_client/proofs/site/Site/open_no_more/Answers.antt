@@ -11,7 +11,7 @@ use Rattle.nb_client.proofs.site.Site.open_no_more.Goals as goal
 pub let_go-requires-clause-waits : goal.let_go-requires-clause-waits
 let_go-requires-clause-waits c = λ x e.
     subst (λ k. WaitsBeside k x c.args.self.now.opens) (sym (c.kind_onward.ensures ∙ ap onward_kind c.onward.ensures))
-    (c.requires.sound.well.1.waiting.beside x (sym c.waits.ensures ∙ e))
+    (c.requires.sound.well.2.waiting.beside x (sym c.waits.ensures ∙ e))
 
 pub returns-clause-lets : goal.returns-clause-lets
 returns-clause-lets c =

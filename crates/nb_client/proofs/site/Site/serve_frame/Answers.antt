@@ -6,11 +6,13 @@ returns-clause-serves c =
     let w = c.args.self.now.world in
     let sound = c.requires.sound.1 in
     let e = c.in_ok-ended.ensures in
-    record {
+    let f = c.forget_ended.ensures in
+    rw (f.used, f.opens, f.world) (record {
       takes = λ s is. e.takes w.w w.opens sound.opens s is;
+      hooked = sound.hooked;
       used = refl;
       world = refl;
       time = omega (arith, sound.time);
       opens = e.sound w.w w.opens sound.opens;
       linked = record { address = e.address ∙ sound.linked.address; up = e.up ∙ sound.linked.up };
-    }
+    })

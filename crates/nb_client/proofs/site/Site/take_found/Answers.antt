@@ -7,7 +7,7 @@ returns-in-Some c =
     let now = c.args.self.now in
     let finds = rw c.in-Some.is at c.found_host.ensures in
     if_ok c.reach.result (λ st reaches p asks same.
-    rw c.reach.ensures.same (found_goes now c.args.script c.args.ended p c.args.waits c.args.query c.args.kind c.in-Some.server st _ asks same c.requires.kind finds reaches c.requires.backed c.requires.waiting c.requires.sound))
+    rw c.reach.ensures.same (found_goes now c.args.script c.args.ended p c.args.waits c.args.query c.args.kind c.in-Some.server st _ asks same c.requires.kind finds reaches c.requires.backed c.requires.waiting c.requires.room c.requires.sound))
     c.reach.ensures.reaches
 
 pub returns-in-None : goal.returns-in-None

@@ -1,4 +1,4 @@
-use Rattle.std.proofs.Common.{◌≡◌, ◌≤◌, length, ap, arith}
+use Rattle.std.proofs.Common.{◌≡◌, ap, arith}
 use Rattle.nb_record.specs.declared.log.LogPlace.{LogPlace}
 use Rattle.nb_client.specs.declared.pending.Pending.{Pending}
 use Rattle.nb_client.proofs.Puts.{at_most, moved_puts}
@@ -10,13 +10,15 @@ pub answer-requires : goal.answer-requires
 answer-requires c =
     let number : c.get.result.now.number ≡ c.args.pending.number = ap (λ (p : Pending). p.number) c.get.ensures in
     let v = rw number at c.in_ok-ended.ensures.serves in
-    sound_after c.args.script c.args.pending c.in_ok-ended.ended c.requires.sound v
+    let by = rw c.get-2.ensures at c.answer_by-answer.ensures in
+    sound_after c.args.script c.args.pending c.in_ok-ended.ended c.answer_by-answer.result c.requires.sound v by
 
 pub returns-in-Ok-clause-goes : goal.returns-in-Ok-clause-goes
 returns-in-Ok-clause-goes c =
     let number : c.get.result.now.number ≡ c.args.pending.number = ap (λ (p : Pending). p.number) c.get.ensures in
     let v = rw number at c.in_ok-ended.ensures.serves in
-    waited_goes c.args.script c.args.pending c.in_ok-ended.ended _ c.requires.valid c.requires.served c.requires.sound v c.in-Ok.ensures.answers
+    let by = rw c.get-2.ensures at c.answer_by-answer.ensures in
+    waited_goes c.args.script c.args.pending c.in_ok-ended.ended c.answer_by-answer.result _ c.requires.valid c.requires.served c.requires.sound v by c.in-Ok.ensures.answers
 
 -- what was put stands after the place
 pub go_back-requires : goal.go_back-requires

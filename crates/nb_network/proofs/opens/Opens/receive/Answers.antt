@@ -7,9 +7,11 @@ use Rattle.nb_nodes.specs.Objects.{rank_of_obj}
 use Rattle.nb_nodes.specs.declared.obj.Obj.{Obj}
 use Rattle.nb_open.specs.declared.open.Open.{Open}
 use Rattle.nb_open.specs.Exchanges.{Exchanges, IsInput}
-use Rattle.nb_open.specs.Open.{IsOpenOf}
-use Rattle.nb_network.specs.Many.{Many}
-use Rattle.nb_network.specs.Steps.{IsOpenAt}
+use Rattle.nb_teller.specs.Spelling.{Spelling}
+use Rattle.nb_open.specs.Open.{IsOpenOf as IsBareOf}
+use Rattle.nb_network.specs.Many.{Many, bare_open}
+use Rattle.nb_network.proofs.Hearing.{bare_is, heard_input}
+use Rattle.nb_network.specs.Steps.{IsOpenAt, EndIsSettled}
 use Rattle.nb_network.proofs.Places.{open_at}
 use Rattle.nb_network.proofs.opens.Opens.receive.Goals as goal
 
@@ -22,15 +24,17 @@ returns-clause-receives c = λ o at. (
       let s = c.in_ok-ended.desk.told.value in
       let e = c.in_ok-ended.ended in
       let v : c.self.inside.list.items ≡ list = ap (λ (m : Many). m.list) c.self.view_is in
-      let same : x ≡ o = c.index.ensures ∙ ap (λ os. get_or os c.args.place x) v ∙ open_at list c.args.place x o at in
+      let same : c.bare-open.result ≡ bare_open o = c.bare-open.ensures ∙ ap bare_open (c.index.ensures ∙ ap (λ os. get_or os c.args.place x) v ∙ open_at list c.args.place x o at) in
       let there : IsOpenAt c.self.inside.list.items c.args.place o = record { before = at.before; behind = at.behind; all = v ∙ at.all; place_is = at.place_is } in
       record {
         told = s;
-        does = subst (λ (h : Objects Obj). (l : Live) → IsOpenOf c.args.self.now.graph o l → IsInput o l c.args.rec c.args.arrival.now c.args.now came → Exchanges o l came c.args.net.now (Some Up) c.args.self.now.graph h s e) (sym c.settle.ensures.graph)
-            (subst (λ (m : Many). (l : Live) → IsOpenOf m.graph o l → IsInput o l c.args.rec c.args.arrival.now c.args.now came → Exchanges o l came c.args.net.now (Some Up) m.graph c.receive.new.graph s e) c.self.view_is
-            (subst (λ (y : Open). (l : Live) → IsOpenOf c.self.inside.graph y l → IsInput y l c.args.rec c.args.arrival.now c.args.now came → Exchanges y l came c.args.net.now (Some Up) c.self.inside.graph c.receive.new.graph s e) same
-            (λ l i u. c.in_ok-ended.ensures l came i u)));
-        settles = c.in_ok-found.ensures.settles o there;
+        does = λ l i fit. (subst (λ (h : Objects Obj). (l : Live) → IsBareOf c.args.self.now.graph (bare_open o) l → IsInput (bare_open o) l c.args.rec c.args.arrival.now c.args.now came → Exchanges (bare_open o) l came c.args.net.now (Some Up) c.args.self.now.graph h s e) (sym c.settle.ensures.graph)
+            (subst (λ (m : Many). (l : Live) → IsBareOf m.graph (bare_open o) l → IsInput (bare_open o) l c.args.rec c.args.arrival.now c.args.now came → Exchanges (bare_open o) l came c.args.net.now (Some Up) m.graph c.receive.new.graph s e) c.self.view_is
+            (subst (λ (y : Open). (l : Live) → IsBareOf c.self.inside.graph y l → IsInput y l c.args.rec c.args.arrival.now c.args.now came → Exchanges y l came c.args.net.now (Some Up) c.self.inside.graph c.receive.new.graph s e) same
+            (λ l i u. c.in_ok-ended.ensures l came i u)))) l (bare_is i) fit;
+        heard = s.answer;
+        heard_is = λ l fit. heard_input (bare_open o) l c.args.rec c.args.arrival.now c.args.now came s fit;
+        settles = subst (λ h. EndIsSettled e at.before o at.behind c.args.net.now (Some c.args.rec) c.args.awaited h s c.settle.new.self.list c.settle.new.net c.in_ok-found.found c.args.log.now c.settle.new.log) (c.answer-heard.ensures ∙ ap (λ (z : Spelling). z.answer) c.deref.ensures) (c.in_ok-found.ensures.settles o there);
         noded = subst (λ (h : Objects Obj). AreNoded rank_of_obj h) (sym c.settle.ensures.graph) c.has_nodes.ensures;
       },
 )

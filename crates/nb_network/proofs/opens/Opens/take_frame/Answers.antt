@@ -4,7 +4,7 @@ use Rattle.nb_machine.specs.CommandRecords.{reply_records}
 use Rattle.nb_machine.specs.States.{State}
 use Rattle.nb_record.specs.Logged.{Puts}
 use Rattle.nb_stack.specs.Takes.{outcome}
-use Rattle.nb_open.specs.declared.open.Open.{Open}
+use Rattle.nb_network.specs.declared.living.Living.{Living}
 use Rattle.nb_network.specs.Many.{AreSound, IsStateOf}
 use Rattle.nb_network.specs.Receiving.{ReceivesAt}
 use Rattle.nb_network.specs.Steps.{IsOpenAt}
@@ -26,7 +26,7 @@ returns-in-Some-clause-takes c =
     let goes = c.in-Some.ensures.found in
     let m = c.args.self.now in
     ok_map
-    (λ r. (o : Open) (at : IsOpenAt m.list c.in-Some.place o) → ReceivesAt m c.take-taken.new.self at.before o at.behind c.args.rec c.in-Some.arrival c.args.now c.args.awaited r.0 c.receive.new.self c.receive.new.net c.args.log.now c.receive.new.log)
+    (λ r. (o : Living) (at : IsOpenAt m.list c.in-Some.place o) → ReceivesAt m c.take-taken.new.self at.before o at.behind c.args.rec c.in-Some.arrival c.args.now c.args.awaited r.0 c.receive.new.self c.receive.new.net c.args.log.now c.receive.new.log)
     (λ r. (w opens : ℕ) → AreSound w opens c.args.net.now m → (s : State) → IsStateOf m c.args.net.now c.args.now s →
     TakesRecord m c.args.net.now c.args.now opens c.args.rec (frame c.args.bytes.now) c.receive.new.self c.receive.new.net c.args.now c.args.awaited r.0 c.args.log.now c.receive.new.log s)
     c.receive.result
@@ -39,7 +39,7 @@ returns-in-Some-clause-sound c =
     let goes = c.in-Some.ensures.found in
     let m = c.args.self.now in
     ok_on
-    (λ r. (o : Open) (at : IsOpenAt m.list c.in-Some.place o) → ReceivesAt m c.take-taken.new.self at.before o at.behind c.args.rec c.in-Some.arrival c.args.now c.args.awaited r.0 c.receive.new.self c.receive.new.net c.args.log.now c.receive.new.log)
+    (λ r. (o : Living) (at : IsOpenAt m.list c.in-Some.place o) → ReceivesAt m c.take-taken.new.self at.before o at.behind c.args.rec c.in-Some.arrival c.args.now c.args.awaited r.0 c.receive.new.self c.receive.new.net c.args.log.now c.receive.new.log)
     ((w opens : ℕ) → AreSound w opens c.args.net.now m → AreSound w opens c.receive.new.net c.receive.new.self)
     c.receive.result
     (λ r h w opens sound. received_sound m c.args.net.now c.args.now w opens c.args.rec c.args.bytes.now c.requires.valid.most c.in-Some.place c.in-Some.arrival (outcome c.take-taken.result) goes sound c.receive.new.self c.receive.new.net c.args.awaited r.0 c.args.log.now c.receive.new.log

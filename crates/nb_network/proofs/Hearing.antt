@@ -1,0 +1,176 @@
+-- What is kept of a drive is its login, and what it has answered.
+use Rattle.std.proofs.Common.{◌≡◌, inl, inr, ℕ, true, false, List, Option, Some, None, option_map, refl, sym, ap, ◌∙◌}
+use Rattle.std.specs.Prelude.{option_and_then}
+use Rattle.std.specs.Option.{is_some}
+use Rattle.std.proofs.lemmas.Bool.{false≢true}
+use Rattle.nb_chains.specs.declared.arrival.Arrival.{Arrival}
+use Rattle.nb_defs.specs.Records.{Out}
+use Rattle.nb_drivechains.specs.declared.drive_answer.DriveAnswer.{DriveAnswer as Told}
+use Rattle.nb_drivechains.specs.declared.drive_chain.DriveChain.{DriveChain}
+use Rattle.nb_graph.specs.Whole.{Objects}
+use Rattle.nb_login.specs.declared.info.LoginInfo.{LoginInfo}
+use Rattle.nb_nodes.specs.declared.obj.Obj.{Obj}
+use Rattle.nb_stack.specs.Client.{Client}
+use Rattle.nb_webchains.specs.declared.web_chain.WebChain.{WebChain}
+use Rattle.nb_wire.specs.declared.address.Ip4.{Ip4}
+use Rattle.nb_machine.specs.BootTables.{login_of_kind}
+use Rattle.nb_machine.specs.Drives.{DriveAnswer}
+use Rattle.nb_machine.specs.Kinds.{answered, answered_by, is_connection}
+use Rattle.nb_machine.specs.Lives.{OpenInput, message, tcp_segment, time, task, close, OpenKind, tftp, http, iscsi, dns, dhcp, ping, Live}
+use Rattle.nb_teller.specs.Spelling.{Spelling}
+use Rattle.nb_open.specs.declared.objects.OpenObjects.{OpenObjects}
+use Rattle.nb_open.specs.declared.objects.OpenObjects.TheVariants as objects
+use Rattle.nb_open.specs.declared.open.Open.{Open}
+use Rattle.nb_open.specs.DriveAnswers.{AnswersAfter, AnswersAtEnd, AnswersFor, AnswersLast, AnswersLastTo, AnswersTo, IsRefused}
+use Rattle.nb_open.specs.Exchanges.{IsInput, by_message, by_segment, with_exchange}
+use Rattle.nb_open.specs.Open.{AreOfKind, AreUnderWay, IsDriveUnderWay, IsOpenOf as IsBareOf, IsTalkingDrive, IsWebUnderWay}
+use Rattle.nb_network.specs.declared.living.KeptDrive.{KeptDrive}
+use Rattle.nb_network.specs.declared.living.Living.{Living}
+use Rattle.nb_network.specs.Drives.{drive_noted, drive_of, has_answered, heard_by, kept_of, noted}
+use Rattle.nb_network.specs.Many.{IsOpenOf, bare_open}
+use Rattle.nb_network.proofs.TaskAnswers.{chap_in, task_chap}
+
+-- THE OPEN ALONE
+
+pub bare_is : {g : Objects Obj} {o : Living} {l : Live} → IsOpenOf g o l → IsBareOf g (bare_open o) l
+bare_is i = record { chained = i.chained; called = i.called; under_way = i.under_way }
+
+-- one on a graph, with what is kept of it
+pub living_is : {g : Objects Obj} {o : Living} {l : Live} → IsBareOf g (bare_open o) l → o.drive ≡ drive_of l → IsOpenOf g o l
+living_is i drive = record { chained = i.chained; called = i.called; under_way = i.under_way; drive = drive }
+
+-- what a message is known to answer
+pub heard_input : (o : Open) (l : Live) (rec : ℕ) (a : Arrival) (now : ℕ) (came : OpenInput) (s : Spelling) → IsInput o l rec a now came → s.answer ≡ heard_by came s
+heard_input o l rec a now came s (by_message none suits short) = refl
+heard_input o l rec a now came s (by_segment x joined suits laid) = refl
+
+-- OTHERS ANSWER NOTHING
+
+pub no_login : (k : OpenKind) → is_connection k ≡ false → login_of_kind k ≡ None
+no_login tftp c = refl
+no_login (http isn) c = absurd (false≢true (sym c))
+no_login (iscsi isn i) c = absurd (false≢true (sym c))
+no_login (dns id) c = refl
+no_login (dhcp a) c = refl
+no_login ping c = refl
+
+pub web_login : (k : OpenKind) (own : Ip4) (c : WebChain) (g : Objects Obj) (l : Live) → IsWebUnderWay k own c g l → login_of_kind k ≡ None
+web_login tftp own c g l u = absurd u
+web_login (http isn) own c g l u = refl
+web_login (iscsi isn i) own c g l u = absurd u
+web_login (dns id) own c g l u = absurd u
+web_login (dhcp a) own c g l u = absurd u
+web_login ping own c g l u = absurd u
+
+pub no_answer : (k : OpenKind) (l : Live) → login_of_kind k ≡ None → answered_by k l ≡ None
+no_answer tftp l e = refl
+no_answer (http isn) l e = refl
+no_answer (iscsi isn i) l e = absurd (cc)
+no_answer (dns id) l e = refl
+no_answer (dhcp a) l e = refl
+no_answer ping l e = refl
+
+none_noted : (heard : Option Told) → drive_noted heard None ≡ None
+none_noted None = refl
+none_noted (Some a) = refl
+
+pub some_chap : (a : Option DriveAnswer) → is_some (chap_in a) ≡ is_some a
+some_chap None = refl
+some_chap (Some a) = refl
+
+not_read_some : (a : Option DriveAnswer) → IsRefused a → is_some a ≡ true
+not_read_some None r = absurd r
+not_read_some (Some a) r = refl
+
+pub drive_kind : (k : OpenKind) (own : Ip4) (c : DriveChain) (g : Objects Obj) (l : Live) → IsDriveUnderWay k own c g l → (isn : ℕ) × (i : LoginInfo) × (k ≡ iscsi isn i) × IsTalkingDrive isn i own c g l
+drive_kind tftp own c g l u = absurd u
+drive_kind (http isn) own c g l u = absurd u
+drive_kind (iscsi isn i) own c g l u = (isn, i, refl, u)
+drive_kind (dns id) own c g l u = absurd u
+drive_kind (dhcp a) own c g l u = absurd u
+drive_kind ping own c g l u = absurd u
+
+-- WHAT IT IS HEARD TO ANSWER
+
+-- of one of the machine's, as something comes to it
+module _ (g : Objects Obj) (l : Live) (came : OpenInput) (link : Client) (put : List Out) (s : Spelling) where
+  abbrev after : Live
+  after = with_exchange l came link put
+
+  -- it is none of a drive
+  module _ (none : login_of_kind l.kind ≡ None) where
+    none_kept : drive_of l ≡ None
+    none_kept = ap (option_map (kept_of l)) none
+
+    still_none : (heard : Option Told) → drive_noted heard (drive_of l) ≡ drive_of after
+    still_none heard = ap (drive_noted heard) none_kept ∙ (none_noted heard ∙ sym (ap (option_map (kept_of after)) none))
+
+    none_answered : (heard : Option Told) → is_some (answered after) ≡ is_some (option_and_then (λ (d : KeptDrive). d.chap) (drive_noted heard (drive_of l)))
+    none_answered heard = ap is_some (no_answer l.kind after none) ∙ ap (λ z. is_some (option_and_then (λ (d : KeptDrive). d.chap) z)) (sym (ap (drive_noted heard) none_kept ∙ none_noted heard))
+
+  -- it is a drive
+  module _ (own : Ip4) (c : DriveChain) (isn : ℕ) (i : LoginInfo) (e : l.kind ≡ iscsi isn i) (t : IsTalkingDrive isn i own c g l) where
+    abbrev with_answer : Option ℕ → Option KeptDrive
+    with_answer chap = Some (record { login = i; chap = chap })
+
+    is_kept : drive_of l ≡ with_answer (chap_in (answered l))
+    is_kept = ap (λ k. option_map (kept_of l) (login_of_kind k)) e
+
+    kept_then : drive_of after ≡ with_answer (chap_in (answered after))
+    kept_then = ap (λ k. option_map (kept_of after) (login_of_kind k)) e
+
+    noted_after : (answer : Option Told) (blocks : List ℕ) → AnswersAfter l after answer blocks → drive_noted answer (with_answer (chap_in (answered l))) ≡ with_answer (chap_in (answered after))
+    noted_after None blocks h = ap (λ a. with_answer (chap_in a)) (sym h.0)
+    noted_after (Some a) blocks h = ap (λ a. with_answer (chap_in a)) (sym h.0)
+
+    noted_last : (answer : Option Told) (blocks : List ℕ) → AnswersAtEnd l after answer blocks → is_some (answered after) ≡ is_some (option_and_then (λ (d : KeptDrive). d.chap) (drive_noted answer (with_answer (chap_in (answered l)))))
+    noted_last None blocks (inl h) = ap is_some h ∙ sym (some_chap (answered l))
+    noted_last None blocks (inr h) = not_read_some (answered after) h.1 ∙ sym (some_chap (answered l) ∙ h.0)
+    noted_last (Some a) blocks h = ap is_some h.0
+
+    heard_after : (input : OpenInput) → came ≡ input → AnswersTo input l after s.answer s.blocks → drive_noted (heard_by input s) (with_answer (chap_in (answered l))) ≡ with_answer (chap_in (answered after))
+    heard_after (message rec port body now) is h = noted_after s.answer s.blocks h
+    heard_after (tcp_segment rec x now) is h = noted_after s.answer s.blocks h
+    heard_after (time now) is h = noted_after s.answer s.blocks h
+    heard_after (task blocks now) is h =
+        ap with_answer (sym (ap (λ z. chap_in (answered (with_exchange l z link put))) is ∙ task_chap l isn i e blocks now link put t.stands.asked))
+    heard_after (close cause) is h = noted_after s.answer s.blocks h
+
+    heard_last : (input : OpenInput) → came ≡ input → AnswersLastTo input l after s.answer s.blocks → is_some (answered after) ≡ is_some (option_and_then (λ (d : KeptDrive). d.chap) (drive_noted (heard_by input s) (with_answer (chap_in (answered l)))))
+    heard_last (message rec port body now) is h = noted_last s.answer s.blocks h
+    heard_last (tcp_segment rec x now) is h = noted_last s.answer s.blocks h
+    heard_last (time now) is h = noted_last s.answer s.blocks h
+    heard_last (task blocks now) is h =
+        sym (some_chap (answered after)) ∙ ap is_some (ap (λ z. chap_in (answered (with_exchange l z link put))) is ∙ task_chap l isn i e blocks now link put t.stands.asked)
+    heard_last (close cause) is h = noted_last s.answer s.blocks h
+
+  goes_on_by : (os : OpenObjects) → AreOfKind os l → AreUnderWay os g l → AnswersFor os came l after s.answer s.blocks → drive_noted (heard_by came s) (drive_of l) ≡ drive_of after
+  goes_on_by (objects.Chain kind chain) called u h = still_none (no_login l.kind called.0) (heard_by came s)
+  goes_on_by (objects.Web port own chain) called u h = still_none (web_login l.kind own chain g l u) (heard_by came s)
+  goes_on_by (objects.Drive port own chain) called u h =
+      let d = drive_kind l.kind own chain g l u in
+      ap (drive_noted (heard_by came s)) (is_kept own chain d.0 d.1 d.2 d.3) ∙ (heard_after own chain d.0 d.1 d.2 d.3 came refl h ∙ sym (kept_then own chain d.0 d.1 d.2 d.3))
+
+  ends_by : (os : OpenObjects) → AreOfKind os l → AreUnderWay os g l → AnswersLast os came l after s.answer s.blocks → is_some (answered after) ≡ is_some (option_and_then (λ (d : KeptDrive). d.chap) (drive_noted (heard_by came s) (drive_of l)))
+  ends_by (objects.Chain kind chain) called u h = none_answered (no_login l.kind called.0) (heard_by came s)
+  ends_by (objects.Web port own chain) called u h = none_answered (web_login l.kind own chain g l u) (heard_by came s)
+  ends_by (objects.Drive port own chain) called u h =
+      let d = drive_kind l.kind own chain g l u in
+      heard_last own chain d.0 d.1 d.2 d.3 came refl h
+      ∙ ap (λ z. is_some (option_and_then (λ (k : KeptDrive). k.chap) (drive_noted (heard_by came s) z))) (sym (is_kept own chain d.0 d.1 d.2 d.3))
+
+  module _ (o : Living) (is : IsOpenOf g o l) where
+    -- it goes on, with what it was known to answer
+    pub noted_is : (h : Objects Obj) → IsBareOf h (bare_open o) after → AnswersFor o.objects came l after s.answer s.blocks → IsOpenOf h (noted (heard_by came s) o) after
+    noted_is h bare answers = record {
+      chained = bare.chained;
+      called = bare.called;
+      under_way = bare.under_way;
+      drive = ap (drive_noted (heard_by came s)) is.drive ∙ goes_on_by o.objects is.called.kind is.under_way answers;
+    }
+
+    -- it ends, and it is known whether it has answered
+    pub answered_last : AnswersLast o.objects came l after s.answer s.blocks → is_some (answered after) ≡ has_answered (noted (heard_by came s) o)
+    answered_last answers =
+        ends_by o.objects is.called.kind is.under_way answers
+        ∙ ap (λ z. is_some (option_and_then (λ (d : KeptDrive). d.chap) (drive_noted (heard_by came s) z))) (sym is.drive)
