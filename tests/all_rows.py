@@ -2,13 +2,13 @@
 
 from __future__ import annotations
 
-from tests import test_device, test_lease, test_lookup, test_names, test_nested, test_ping, test_replay
+from tests import test_device, test_drives, test_lease, test_lookup, test_names, test_nested, test_ping, test_replay
 from tests import test_scripts, test_settings, test_sleep, test_uris, test_web
 from tests.script_rows import Row
 from tests.test_program import INPUTS
 
 WITH_ROWS = (
-    test_device, test_lease, test_lookup, test_names, test_nested, test_ping, test_replay, test_scripts, test_sleep,
+    test_device, test_drives, test_lease, test_lookup, test_names, test_nested, test_ping, test_replay, test_scripts, test_sleep,
     test_uris, test_web,
 )  # fmt: skip
 

@@ -11,8 +11,9 @@ from typing import Iterable, NamedTuple
 
 from shared.causes import OK
 from shared.kinds import GraphEvent, OpenKind, Way
-from shared.records import Advance, Ended, Graph, Open, Received, Record, Result, Sent, Start, Step, Tick, Try
-from tests.graph_entries import ICMP, IPV4, TCP, UDP, UNSET, Client, brings, lease_in
+from shared.records import Advance, Command, Ended, Graph, Open, Received, Record, Result, Sent, Start, Step, Tick, Try
+from tests.graph_entries import ICMP, IPV4, TCP, UDP, UNSET, Client, address_after, brings, lease_in
+from tests.graph_records import STREAM_KINDS
 
 ARP = 0x0806
 ARP_REQUEST, ARP_REPLY = 1, 2
@@ -71,38 +72,43 @@ class Seen:
 
 @dataclass
 class Network:
-    """The client, the open that lives, and what came to each open, by the input records."""
+    """The client, the opens that live, and what came to each open, by the input records."""
 
     inputs: list[Record]
     client: Client
     is_leased: bool = False
+    words: tuple[bytes, ...] = ()
     arrivals: dict[int, list[Arrival]] = field(default_factory=dict)
 
     def take(self, record: Record) -> None:
         match record:
-            case Step() if self.client.opened:
-                self._used(record.number, self.client.opened)
+            case Step() if self.client.live:
+                self._used(record.number)
+            case Command():
+                self.words = record.words
             case Open():
-                self.client.opened = record
+                self.client.live[record.number] = record
             case Ended():
-                self.is_leased = self.client.opened is not None and self.client.opened.kind is OpenKind.DHCP
-                self.client.opened = None
+                opened = self.client.live.pop(record.number, None)
+                self.is_leased = opened is not None and opened.kind is OpenKind.DHCP
             case Result():
                 self._has_result(record)
 
-    def _used(self, number: int, opened: Open) -> None:
-        """A record is used while this open lives."""
+    def _used(self, number: int) -> None:
+        """A record is used while opens live."""
         self.last = record = self.inputs[number - 1]
-        if isinstance(record, Tick):
-            self.arrivals.setdefault(opened.number, []).append(Arrival(number, Way.TIME))
-        elif isinstance(record, Received) and brings(record.frame, self.client, opened):
-            self.arrivals.setdefault(opened.number, []).append(Arrival(number, Way.UP))
+        for opened in self.client.live.values():
+            if isinstance(record, Tick):
+                self.arrivals.setdefault(opened.number, []).append(Arrival(number, Way.TIME))
+            elif isinstance(record, Received) and brings(record.frame, self.client, opened):
+                self.arrivals.setdefault(opened.number, []).append(Arrival(number, Way.UP))
 
     def _has_result(self, result: Result) -> None:
         """A lease that is taken gives the address, unless START has given one."""
         start = self.inputs[0]
         if self.is_leased and result.cause == OK and isinstance(start, Start) and start.ip == UNSET:
             self.client.ip = lease_in(self.last)
+        self.client.ip = address_after(self.words, result, self.client.ip)
         self.is_leased = False
 
 
@@ -116,7 +122,7 @@ def may_send(frame: bytes, opened: Open) -> bool:
     if opened.kind is OpenKind.PING:
         is_request = (kind, packet[9]) == (IPV4, ICMP) and body[0] != ECHO_REPLY
         return is_request and int.from_bytes(body[4:6], "big") == opened.own
-    carrier = TCP if opened.kind is OpenKind.HTTP else UDP
+    carrier = TCP if opened.kind in STREAM_KINDS else UDP
     return (kind, packet[9]) == (IPV4, carrier) and int.from_bytes(body[:2], "big") == opened.own
 
 
@@ -129,7 +135,7 @@ def is_reply(frame: bytes) -> bool:
     return packet[9] == TCP or (packet[9] == ICMP and body[0] == ECHO_REPLY)
 
 
-def place_fault(record: Record, before: Record | None, seen: Seen, opened: Open | None) -> str | None:
+def place_fault(record: Record, before: Record | None, seen: Seen, live: dict[int, Open]) -> str | None:
     """What is wrong with where a FRAME, a TRY or an ADVANCE stands."""
     within = seen.within()
     if isinstance(record, (Try, Advance)):
@@ -137,7 +143,8 @@ def place_fault(record: Record, before: Record | None, seen: Seen, opened: Open 
     if not isinstance(record, Sent):
         return None
     if seen.running:
-        is_its_own = opened is not None and within == [opened.number] and may_send(record.frame, opened)
+        opened = live.get(within[0]) if len(within) == 1 else None
+        is_its_own = opened is not None and may_send(record.frame, opened)
         return None if is_its_own else f"within {within} stands {record}"
     is_first = isinstance(before, Step) and is_reply(record.frame)
     return None if is_first else f"outside of all entries stands {record}"
@@ -149,7 +156,7 @@ def contents_fault(inputs: list[Record], outputs: Iterable[Record]) -> str | Non
     network = Network(inputs, Client(start.mac, start.ip) if start else Client(b"", UNSET))
     seen, before = Seen(), None
     for record in outputs:
-        fault = place_fault(record, before, seen, network.client.opened)
+        fault = place_fault(record, before, seen, network.client.live)
         if fault:
             return f"step {seen.step}: {fault}"
         network.take(record)

@@ -5,14 +5,14 @@ What a frame brings is read here anew, from RFC 791, 768, 792, 826 and 9293, wit
 
 from __future__ import annotations
 
-from dataclasses import dataclass
+from dataclasses import dataclass, field
 from ipaddress import IPv4Address
 from typing import Iterable
 
 from shared.causes import OK
 from shared.kinds import GraphEvent, ObjectKind, OpenKind, Way
-from shared.records import Ended, Graph, Open, Received, Record, Result, Start, Step, Tick
-from tests.graph_records import BELOW, SOLE_KINDS, TIMER, entered
+from shared.records import Command, Ended, Graph, Open, Received, Record, Result, Start, Step, Tick
+from tests.graph_records import BELOW, SOLE_KINDS, STREAM_KINDS, TIMER, entered
 
 UNSET = IPv4Address(0)
 EVERYONE, ALL_HOSTS = b"\xff" * 6, b"\xff" * 4
@@ -23,19 +23,19 @@ LEAST_HEAD = 20
 ECHO_REPLY = b"\0\0"
 DNS_PORT, DHCP_PORT = 53, 67
 # the object of an open that uses the network
-LOWEST = {**SOLE_KINDS, OpenKind.TFTP: ObjectKind.TFTP, OpenKind.HTTP: ObjectKind.TCP}
+LOWEST = {**SOLE_KINDS, OpenKind.TFTP: ObjectKind.TFTP, **dict.fromkeys(STREAM_KINDS, ObjectKind.TCP)}
 # where a DHCP message has the address that it gives, after the heads of frame, packet and datagram
 GIVEN = slice(58, 62)
 
 
 @dataclass
 class Client:
-    """The addresses of the client, and the open that lives, with the object that messages and times enter."""
+    """The addresses of the client, and the opens that live; of each open the object that messages and times enter."""
 
     mac: bytes
     ip: IPv4Address
-    opened: Open | None = None
-    lowest: int = 0
+    live: dict[int, Open] = field(default_factory=dict)
+    lowest: dict[int, int] = field(default_factory=dict)
 
 
 def ones(data: bytes) -> int:
@@ -62,7 +62,7 @@ def brings(frame: bytes, client: Client, opened: Open) -> bool:
         return False
     if opened.kind is OpenKind.PING:
         return packet[9] == ICMP and target == client.ip.packed and is_reply(body, opened)
-    if opened.kind is OpenKind.HTTP:
+    if opened.kind in STREAM_KINDS:
         return packet[9] == TCP and target == client.ip.packed and is_segment(source, target, body, opened)
     return packet[9] == UDP and is_datagram(source, target, body, client, opened)
 
@@ -94,15 +94,14 @@ def is_datagram(source: bytes, target: bytes, body: bytes, client: Client, opene
     return body[6:8] == b"\0\0" or ones(pseudo + body[:length]) == 0xFFFF
 
 
-def entry_of(record: Record, client: Client) -> Graph | None:
-    """The entry that an input record is of the open that lives, if any."""
-    if client.opened is None:
-        return None
+def entries_of(record: Record, client: Client) -> list[Graph]:
+    """The entries that an input record is of the opens that live, by their numbers."""
     if isinstance(record, Tick):
-        return entered(client.lowest, TIMER, Way.TIME)
-    if isinstance(record, Received) and brings(record.frame, client, client.opened):
-        return entered(client.lowest, BELOW, Way.UP)
-    return None
+        return [entered(client.lowest[number], TIMER, Way.TIME) for number in client.live]
+    if not isinstance(record, Received):
+        return []
+    come = (number for number, opened in client.live.items() if brings(record.frame, client, opened))
+    return [entered(client.lowest[number], BELOW, Way.UP) for number in come]
 
 
 def lease_in(record: Record) -> IPv4Address:
@@ -111,34 +110,75 @@ def lease_in(record: Record) -> IPv4Address:
     return IPv4Address(record.frame[GIVEN])
 
 
+@dataclass
+class Entries:
+    """Goes over an output: the client, the commands that run, and the entries that are due in this step."""
+
+    inputs: list[Record]
+    client: Client
+    step: int = 0
+    due: list[Graph] = field(default_factory=list)
+    is_first: bool = False
+    is_leased: bool = False
+    made: dict[int, int] = field(default_factory=dict)
+    words: tuple[bytes, ...] = ()
+
+    def fault(self, record: Record) -> str | None:
+        """What is wrong with a record where it stands, if anything."""
+        is_first, self.is_first = self.is_first, False
+        if isinstance(record, Graph) and record.event is GraphEvent.ENTERED:
+            is_outer = record.slot == TIMER or (record.object in self.client.lowest.values() and record.slot == BELOW)
+            if is_outer and record not in self.due[:1]:
+                return f"step {self.step} has {record}, and its record is {self.inputs[self.step - 1]}"
+            if is_outer:
+                del self.due[0]
+                return None
+        if self.due and (is_first or isinstance(record, (Step, Command, Result))):
+            return f"step {self.step} begins with {record}, not with {self.due[0]}"
+        return None
+
+    def take(self, record: Record) -> None:
+        match record:
+            case Step():
+                self.step, self.is_first = record.number, True
+                self.due = entries_of(self.inputs[self.step - 1], self.client) if self.step > 1 else []
+            case Command():
+                self.words = record.words
+            case Graph() if record.event is GraphEvent.MADE:
+                self.made[record.other] = record.object
+            case Open():
+                self.client.live[record.number] = record
+                self.client.lowest[record.number] = self.made[LOWEST[record.kind]]
+            case Ended():
+                opened = self.client.live.pop(record.number, None)
+                self.is_leased = opened is not None and opened.kind is OpenKind.DHCP
+            case Result():
+                self._has_result(record)
+
+    def _has_result(self, result: Result) -> None:
+        start = self.inputs[0]
+        # what START gives goes before a lease
+        if self.is_leased and result.cause == OK and isinstance(start, Start) and start.ip == UNSET:
+            self.client.ip = lease_in(self.inputs[self.step - 1])
+        self.client.ip = address_after(self.words, result, self.client.ip)
+        self.is_leased = False
+
+
 def entries_fault(inputs: list[Record], outputs: Iterable[Record]) -> str | None:
     """The first step that doesn't begin with the entry of its input record, or has one that isn't its own."""
     start = next((record for record in inputs[:1] if isinstance(record, Start)), None)
-    client = Client(start.mac, start.ip) if start else Client(b"", UNSET)
-    step, wanted, is_leased = 0, None, False
-    made: dict[int, int] = {}
+    entries = Entries(inputs, Client(start.mac, start.ip) if start else Client(b"", UNSET))
     for record in outputs:
-        if isinstance(record, Graph) and record.event is GraphEvent.ENTERED:
-            is_outer = record.slot == TIMER or (record.object == client.lowest and record.slot == BELOW)
-            if record != wanted and is_outer:
-                return f"step {step} has {record}, and its record is {inputs[step - 1]}"
-        elif wanted:
-            return f"step {step} begins with {record}, not with {wanted}"
-        wanted = None
-        match record:
-            case Step():
-                step = record.number
-                wanted = entry_of(inputs[step - 1], client) if step > 1 else None
-            case Graph() if record.event is GraphEvent.MADE:
-                made[record.other] = record.object
-            case Open():
-                client.opened, client.lowest = record, made[LOWEST[record.kind]]
-            case Ended():
-                is_leased = client.opened is not None and client.opened.kind is OpenKind.DHCP
-                client.opened = None
-            case Result():
-                # what START gives goes before a lease
-                if is_leased and record.cause == OK and start and start.ip == UNSET:
-                    client.ip = lease_in(inputs[step - 1])
-                is_leased = False
+        fault = entries.fault(record)
+        if fault:
+            return fault
+        entries.take(record)
     return None
+
+
+def address_after(words: tuple[bytes, ...], result: Result, ip: IPv4Address) -> IPv4Address:
+    """The client's address after a command that sets it, or clears it."""
+    if result.cause != OK or words[1:2] != (b"net0/ip",) or words[0] not in (b"set", b"clear"):
+        return ip
+    value = b" ".join(words[2:])
+    return IPv4Address(value.decode()) if value else UNSET

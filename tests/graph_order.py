@@ -2,7 +2,7 @@
 
 `Order` has the events of each kind of open in their order, with what is sent among them, as docs/RECORDS.md has them: no
 clause says that order. It asks more than `Traced` (crates/nb_traced/specs/Outputs.antt), which names no kind and allows any
-number of opens: here one lives at a time. `Ends` is a second reading of `OpensHavePieces` and `EndsAreTheirs`
+number of opens: here one lives at a time, beside the drives that are hooked. `Ends` is a second reading of `OpensHavePieces` and `EndsAreTheirs`
 (Openings.antt beside it), and asks more too: that an open's objects are made directly before its OPEN, or were made before
 its look-up, and are freed directly before its ENDED.
 """
@@ -14,15 +14,17 @@ from dataclasses import dataclass, field
 
 from shared.causes import OK, Cause
 from shared.kinds import GraphEvent, ObjectKind, OpenKind, Way
-from shared.records import Advance, Command, Done, Ended, Graph, Open, Record, Sent, Try
+from shared.records import Advance, Command, Done, Ended, Graph, Open, Record, Result, Sent, Try
 from tests import graph_records
 from tests.graph_records import ABOVE, BELOW, SOLE_KINDS, TIMER, TOO_LARGE, Cast, Pair, Sole, Trio, Waiter
 
 # a COMMAND, and the eight events that make the objects of an open by HTTP
 LOOKED_BACK = 9
 MOST_AT_TOO_LARGE = 40
+# what is below the first object of an open by a connection
+BY_MADE = {ObjectKind.HTTP: OpenKind.HTTP, ObjectKind.ISCSI: OpenKind.ISCSI}
 # what waits while its open's server is looked up
-WAITING = (ObjectKind.FETCH, ObjectKind.PING)
+WAITING = (ObjectKind.FETCH, ObjectKind.PING, ObjectKind.DISK)
 
 
 class NotLegal(Exception):
@@ -49,8 +51,9 @@ class Ends:
     made: int = 0
     live: dict[int, Live] = field(default_factory=dict)
     waiter: Waiter | None = None
-    # the open by HTTP that has ended well last: it may have been moved
+    # the open by HTTP that has ended well last: it may have been moved; and the drive's that has ended last
     moved: int | None = None
+    dropped: Ended | None = None
 
     def take(self, record: Record) -> None:
         match record:
@@ -78,7 +81,8 @@ class Ends:
         self.waiter = None if is_next else self._waiting(opened, before)
         if self.waiter:
             del before[-2:]
-        if not (isinstance(before[-1], Ended if is_next else Command) or before[-1] == Ended(self.moved or 0, OK)):
+        is_after = isinstance(before[-1], Ended if is_next else Command) or before[-1] == self.dropped
+        if not (is_after or before[-1] == Ended(self.moved or 0, OK)):
             after = "the end of a look-up" if is_next else "a COMMAND"
             raise NotLegal(f"the objects of open {opened.number} aren't made directly after {after}")
         self.live[opened.number] = Live(cast)
@@ -109,6 +113,11 @@ class Ends:
         if live.first != ended.cause:
             raise NotLegal(f"open {ended.number} ended with {ended.cause}, and the first close is {live.first}")
         self.moved = ended.number if isinstance(live.cast, Trio) and ended.cause == OK else None
+        self.dropped = ended if is_drive(live.cast) else None
+
+
+def is_drive(cast: Cast) -> bool:
+    return isinstance(cast, Trio) and cast.is_drive
 
 
 class Order:
@@ -121,6 +130,9 @@ class Order:
         self.last: Cast | None = None
         # its TCP has closed its port below when its response was decided
         self.is_cut = True
+        # the drives that are hooked, by the numbers of their opens
+        self.drives: dict[int, Trio] = {}
+        self.is_dropped = False
 
     def check(self) -> None:
         try:
@@ -140,10 +152,31 @@ class Order:
                 raise NotLegal(f"in place of {record} there is {self._next()}")
             self.place += 1
 
-    def _asides(self) -> None:
+    def _asides(self, is_drive: bool = False) -> None:
         """Records that the graph doesn't concern; what an open asks for stands in its entries alone."""
-        while not isinstance(self._next(), (Graph, Open, Ended, Done, Advance, Try)):
+        ends = (Result,) if is_drive else ()
+        while not isinstance(self._next(), (Graph, Open, Ended, Done, Advance, Try, *ends)):
             self.place += 1
+
+    def _of_drive(self) -> bool:
+        """What comes next, if it is of a drive that is hooked: a message or a time, or its end."""
+        record = self._next()
+        drive = next((one for one in self.drives.values() if isinstance(record, Graph) and record.object in one.objects()), None)
+        if drive is None:
+            return False
+        if not self._is_close():
+            if self._call(drive):
+                del self.drives[drive.number]
+            return True
+        cause = record.cause
+        self._closes(drive, graph_records.closed_above(drive, cause))
+        if self._is_close():
+            self._expect(*graph_records.shut(drive, cause=cause)[len(graph_records.closed_above(drive, cause)) :])
+        else:
+            self._expect(*graph_records.freed(drive), Ended(drive.number, cause))
+        del self.drives[drive.number]
+        self.is_dropped = True
+        return True
 
     def _sends(self) -> None:
         """What an open puts within an entry."""
@@ -151,13 +184,17 @@ class Order:
             self.place += 1
 
     def _bare(self) -> None:
-        """No open lives."""
+        """No open lives but those of drives."""
         opens = 0
         while True:
             record = self._next()
             before = self.records[self.place - 1] if self.place else None
             is_moved = isinstance(before, Ended) and isinstance(self.last, Trio) and before == Ended(self.last.number, OK)
+            is_moved = is_moved or (isinstance(before, Ended) and self.is_dropped)
+            if self._of_drive():
+                continue
             if isinstance(record, Graph) and (isinstance(before, Command) or is_moved):
+                self.is_dropped = False
                 opens += self._command(opens, record)
             elif isinstance(record, (Graph, Open, Ended, Advance, Try)):
                 raise NotLegal(f"no open lives at {record}")
@@ -187,10 +224,10 @@ class Order:
         if self._next() == given_up[0]:
             self._expect(*given_up)
             return 0
-        # a fetch gets a TFTP, or an HTTP and a TCP
+        # a fetch gets a TFTP, or an HTTP and a TCP, and a disk an iSCSI and a TCP
         made = self._next()
-        is_http = isinstance(made, Graph) and (made.event, made.other) == (GraphEvent.MADE, ObjectKind.HTTP)
-        cast = waiter.opens(k, self.made, OpenKind.HTTP if is_http else OpenKind.TFTP)
+        kind = BY_MADE.get(made.other, OpenKind.TFTP) if isinstance(made, Graph) and made.event is GraphEvent.MADE else OpenKind.TFTP
+        cast = waiter.opens(k, self.made, kind)
         self._made(*graph_records.completed(cast))
         self._open(cast)
         return 1
@@ -206,6 +243,8 @@ class Order:
         """The objects of open k, whose first is made by this event."""
         if first.other in SOLE_KINDS.values():
             return Sole(k, self.made + 1, ObjectKind(first.other))
+        if first.other == ObjectKind.DISK:
+            return Trio(k, self.made + 1, None, True)
         second = self.records[self.place + 2 : self.place + 3]
         is_http = [isinstance(one, Graph) and one.other == ObjectKind.HTTP for one in second] == [True]
         return Trio(k, self.made + 1) if is_http else Pair(k, self.made + 1)
@@ -250,9 +289,15 @@ class Order:
         return False
 
     def _holding(self, cast: Cast, waiter: Waiter | None) -> bool:
-        """The open lives."""
+        """The open lives; a drive's lives on once its command is Ok."""
         while True:
-            self._asides()
+            self._asides(is_drive(cast))
+            if isinstance(self._next(), Result):
+                assert isinstance(cast, Trio)
+                self.drives[cast.number] = cast
+                return False
+            if self._of_drive():
+                continue
             if self._is_close():
                 cause = self._next().cause
                 shut = graph_records.shut_both(waiter, cast, cause) if waiter else graph_records.shut(cast, cause=cause)
@@ -271,7 +316,9 @@ class Order:
         self._sends()
         if isinstance(cast, Pair) and self._gives(cast, record.slot):
             return True
-        decided = self._rises(cast) if isinstance(cast, Trio) else None
+        decided = None
+        if isinstance(cast, Trio):
+            decided = self._session_rises(cast) if cast.is_drive else self._rises(cast)
         over = decided or (self._next().cause if self._is_close() else None)
         if over and decided is None:
             self._expect(*graph_records.closed_below(cast, over))
@@ -329,6 +376,61 @@ class Order:
             if self._next() == Graph(GraphEvent.DROPPED, trio.http, BELOW):
                 self.place += 1
         self._expect(graph_records.left(trio.http, BELOW))
+        return cause
+
+    def _session_rises(self, trio: Trio) -> Cause | None:
+        """What goes up from a drive's TCP; the cause with which its session ends, if it does."""
+        cause = None
+        while True:
+            record = self._next()
+            if record == Graph(GraphEvent.DROPPED, trio.tcp, ABOVE):
+                self.place += 1
+            elif record == graph_records.entered(trio.http, BELOW, Way.UP) and cause is None:
+                self.place += 1
+                cause = self._session_reads(trio)
+            else:
+                return cause
+
+    def _session_reads(self, trio: Trio) -> Cause | None:
+        """An entry of the iSCSI: PDU after PDU, of which each is answered or not, or ends the session."""
+        cause = None
+        while cause is None and self._next() != graph_records.left(trio.http, BELOW):
+            record = self._next()
+            if record == graph_records.entered(trio.tcp, ABOVE, Way.DOWN):
+                self._sends_down(trio)
+            elif record == graph_records.entered(trio.fetch, BELOW, Way.UP):
+                cause = self._unit(trio)
+            elif self._is_close():
+                cause = record.cause
+                self._expect(*trio.fetch_closed(cause))
+                self._cut(trio, cause)
+            else:
+                break
+        if self._next() == Graph(GraphEvent.DROPPED, trio.http, BELOW) and cause is not None:
+            self.place += 1
+        self._expect(graph_records.left(trio.http, BELOW))
+        return cause
+
+    def _sends_down(self, trio: Trio) -> None:
+        self._expect(graph_records.entered(trio.tcp, ABOVE, Way.DOWN))
+        self._sends()
+        self._expect(graph_records.left(trio.tcp, ABOVE))
+
+    def _unit(self, trio: Trio) -> Cause | None:
+        """An entry of the disk: it asks for something, or ends, or neither."""
+        cause = None
+        self._expect(graph_records.entered(trio.fetch, BELOW, Way.UP))
+        if self._next() == graph_records.entered(trio.http, ABOVE, Way.DOWN):
+            self.place += 1
+            self._sends_down(trio)
+            self._expect(graph_records.left(trio.http, ABOVE))
+        elif self._is_close():
+            cause = self._next().cause
+            whole = trio.closed_above(cause)
+            self._expect(*whole[:4])
+            self._cut(trio, cause)
+            self._expect(*whole[-2:])
+        self._expect(graph_records.left(trio.fetch, BELOW))
         return cause
 
     def _cut(self, trio: Trio, cause: Cause) -> None:

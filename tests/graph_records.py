@@ -1,9 +1,9 @@
 """The GRAPH records of an open, written by hand from docs/RECORDS.md.
 
 An open by TFTP has a pair of objects: a fetch and, plugged to it, a TFTP. One by HTTP has three, a fetch, an HTTP and a
-TCP (web_records.py has what happens to them). One that asks and is answered (by DNS,
-DHCP or a ping) has one object alone. Where the server of a fetch or a ping is a name, its first object waits beside the
-resolver of the look-up. Where all opens before it are by TFTP, the objects of open k by TFTP are 2k + 1
+TCP (web_records.py has what happens to them), and so has a drive's, a disk, an iSCSI and a TCP (drive_records.py). One that
+asks and is answered (by DNS, DHCP or a ping) has one object alone. Where the server of a fetch, a ping or a drive is a name,
+its first object waits beside the resolver of the look-up. Where all opens before it are by TFTP, the objects of open k by TFTP are 2k + 1
 and 2k + 2, and it is named by k; any other is named by its objects. Each function answers a list of records in their
 order. What a message or a time makes the open send stands within its entry, and is given here as `put`. Nothing of
 this file is taken from what the program writes.
@@ -27,6 +27,8 @@ SOLE_KINDS = {
     OpenKind.DHCP: ObjectKind.DHCP,
     OpenKind.PING: ObjectKind.PING,
 }
+# opens by a connection
+STREAM_KINDS = (OpenKind.HTTP, OpenKind.ISCSI)
 
 
 class Pair(NamedTuple):
@@ -73,11 +75,15 @@ class Pair(NamedTuple):
 
 
 class Trio(NamedTuple):
-    """An open by HTTP, and the number of its fetch; the others have the next ones, unless the fetch has waited."""
+    """An open by HTTP, and the number of its fetch; the others have the next ones, unless the fetch has waited.
+
+    A drive's open has a disk in the place of the fetch, and an iSCSI in that of the HTTP.
+    """
 
     number: int
     fetch: int
     lower: int | None = None
+    is_drive: bool = False
 
     @property
     def http(self) -> int:
@@ -88,7 +94,8 @@ class Trio(NamedTuple):
         return self.http + 1
 
     def objects(self) -> dict[int, ObjectKind]:
-        return {self.fetch: ObjectKind.FETCH, self.http: ObjectKind.HTTP, self.tcp: ObjectKind.TCP}
+        kinds = (ObjectKind.DISK, ObjectKind.ISCSI) if self.is_drive else (ObjectKind.FETCH, ObjectKind.HTTP)
+        return {self.fetch: kinds[0], self.http: kinds[1], self.tcp: ObjectKind.TCP}
 
     def links(self) -> list[Record]:
         return [
@@ -96,14 +103,14 @@ class Trio(NamedTuple):
             Graph(GraphEvent.PLUGGED, self.http, BELOW, self.tcp, ABOVE),
         ]
 
-    def closed_above(self, cause: Cause, *put: Record) -> list[Record]:
+    def closed_above(self, cause: Cause, *put: Record, has_ended: bool = False) -> list[Record]:
         """The user closes both ports of the fetch; the others pass that on, and the TCP says so to the server."""
         return [
             closed(self.fetch, ABOVE, cause),
             closed(self.fetch, BELOW, cause),
             closed(self.http, ABOVE, cause),
             entered(self.http, ABOVE, Way.CLOSE),
-            *self.tcp_closed(cause, *put),
+            *self.tcp_closed(cause, *put, has_ended=has_ended),
             left(self.http, ABOVE),
             unplugged(self.fetch, BELOW, self.http, ABOVE),
         ]
@@ -167,15 +174,15 @@ Cast = Pair | Trio | Sole
 
 
 class Waiter(NamedTuple):
-    """What waits while the server of its open is looked up: the fetch, or the object of a ping."""
+    """What waits while the server of its open is looked up: the fetch, the disk, or the object of a ping."""
 
     object: int
     kind: ObjectKind
 
     def opens(self, number: int, last: int, kind: OpenKind = OpenKind.TFTP) -> Cast:
         """It with all objects of its open, where `last` was made last before that."""
-        if kind is OpenKind.HTTP:
-            return Trio(number, self.object, last + 1)
+        if kind in STREAM_KINDS:
+            return Trio(number, self.object, last + 1, kind is OpenKind.ISCSI)
         if self.kind is ObjectKind.FETCH:
             return Pair(number, self.object, last + 1)
         return Sole(number, self.object, self.kind)
@@ -190,7 +197,9 @@ def cast_for(opened: Open, first: int) -> Cast:
     """The objects of an open, the first of which has this number."""
     if opened.kind in SOLE_KINDS:
         return Sole(opened.number, first, SOLE_KINDS[opened.kind])
-    return Trio(opened.number, first) if opened.kind is OpenKind.HTTP else Pair(opened.number, first)
+    if opened.kind in STREAM_KINDS:
+        return Trio(opened.number, first, None, opened.kind is OpenKind.ISCSI)
+    return Pair(opened.number, first)
 
 
 def lowest(k: int | Cast) -> int:
@@ -273,9 +282,14 @@ def closed_above(k: int | Cast, cause: Cause, *put: Record) -> list[Record]:
     return cast.closed_above(cause, *put) if isinstance(cast, Trio) else cast.closed_above(cause)
 
 
+def ended_above(cast: Cast, cause: Cause, *put: Record) -> list[Record]:
+    """The user closes the open, and it has ended."""
+    return [*closed_above(cast, cause, *put), *freed(cast), Ended(cast.number, cause)]
+
+
 def no_way(cast: Cast, cause: Cause) -> list[Record]:
     """There is no way to its server: nothing was sent, and the open ends at once."""
-    return [*closed_above(cast, cause), *freed(cast), Ended(cast.number, cause)]
+    return ended_above(cast, cause)
 
 
 def turned_back(opened: Open, cause: Cause, cast: Cast | None = None) -> list[Record]:

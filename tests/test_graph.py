@@ -12,7 +12,8 @@ from shared.kinds import GraphEvent, ObjectKind, Way
 from shared.recordings import read_input
 from shared.records import Advance, Done, Ended, Graph, Record, Sent, Step
 from shared.wire import tftp_ack
-from tests import graph_records, made, test_lease, test_lookup, test_names, test_ping, test_replay, transfer_rows
+from tests import graph_records, made, test_drives, test_lease, test_lookup, test_names, test_ping, test_replay
+from tests import transfer_rows
 from tests.all_rows import all_inputs, expected
 from tests.graph_entries import entries_fault
 from tests.graph_run import NotLegal, Run, fault_of
@@ -35,6 +36,8 @@ CAUSES = {
     "no_name": Cause(Code.REFUSED, 4, 3),
     "unreached": Cause(Code.NO_ROUTE, 0x0B000001),
     "lost": Cause(Code.NO_ROUTE, 0x0B000009),
+    "login": Cause(Code.REFUSED, 5, 513),
+    "lost_drive": Cause(Code.BROKEN, 9),
 }
 
 MADE = "made 1 fetch, held 1, made 2 tftp, held 2, plugged 1.1 2.0"
@@ -152,6 +155,45 @@ EVENTS_OF_NAMES: dict[str, list[str]] = {
 }  # fmt: skip
 
 
+# those of a drive, by the cases of test_drives.py: a disk, an iSCSI and a TCP
+DRIVE_MADE = "made 1 disk, held 1, made 2 iscsi, held 2, plugged 1.1 2.0, made 3 tcp, held 3, plugged 2.1 3.0"
+DRIVE_ASKED = (
+    "entered 1.0 down, entered 2.0 down, entered 3.0 down, left 3.0, entered 3.0 down, left 3.0, left 2.0, left 1.0, "
+    "entered 3.4 time, left 3.4, entered 3.1 up, left 3.1"
+)
+DRIVE_LOGS_IN = "entered 3.1 up, entered 2.1 up, entered 3.0 down, left 3.0, left 2.1, left 3.1"
+DRIVE_COMMANDS = (
+    "entered 3.1 up, entered 2.1 up, entered 1.1 up, entered 2.0 down, entered 3.0 down, left 3.0, left 2.0, left 1.1, left 2.1, "
+    "left 3.1"
+)
+DRIVE_SIZED = "entered 3.1 up, entered 2.1 up, entered 1.1 up, left 1.1, left 2.1, left 3.1"
+DRIVE_CLOSED = (
+    "closed 1.0 stopped, closed 1.1 stopped, closed 2.0 stopped, entered 2.0 close, closed 2.1 stopped, closed 3.0 stopped, "
+    "entered 3.0 close, closed 3.1 stopped, left 3.0, unplugged 2.1 3.0, left 2.0, unplugged 1.1 2.0"
+)
+DRIVE_SHUT = ", ".join(f"closed {number}.{slot} stopped" for number in (1, 2, 3) for slot in (2, 3))
+DRIVE_FREED = "letgo 1, freed 1, letgo 2, freed 2, letgo 3, freed 3"
+# the login fails, in the entry by which its answer came; and the stream of an open session ends
+DRIVE_REFUSED = (
+    "entered 3.1 up, entered 2.1 up, closed 2.0 login, closed 1.1 login, entered 1.1 close, closed 1.0 login, left 1.1, "
+    "unplugged 2.0 1.1, closed 2.1 login, closed 3.0 login, entered 3.0 close, closed 3.1 login, left 3.0, unplugged 2.1 3.0, "
+    "left 2.1, left 3.1"
+)
+DRIVE_LOST = (
+    "entered 3.1 up, entered 2.1 up, entered 1.1 up, closed 1.0 lost_drive, closed 1.1 lost_drive, closed 2.0 lost_drive, "
+    "entered 2.0 close, closed 2.1 lost_drive, closed 3.0 lost_drive, entered 3.0 close, closed 3.1 lost_drive, left 3.0, "
+    "unplugged 2.1 3.0, left 2.0, unplugged 1.1 2.0, left 1.1, left 2.1, left 3.1"
+)
+DRIVE_HOOKED = [DRIVE_MADE, DRIVE_ASKED, DRIVE_LOGS_IN, DRIVE_COMMANDS, DRIVE_COMMANDS, DRIVE_SIZED]
+EVENTS_OF_DRIVES: dict[str, list[str]] = {
+    "plain": [*DRIVE_HOOKED, DRIVE_CLOSED, DRIVE_SHUT, DRIVE_FREED],
+    "refused": [DRIVE_MADE, DRIVE_ASKED, DRIVE_REFUSED, DRIVE_FREED],
+    "ends_asleep_by_fin": [*DRIVE_HOOKED, DRIVE_LOST, DRIVE_FREED],
+    "pinged": [*DRIVE_HOOKED, DRIVE_COMMANDS.replace("left 1.1, left 2.1", "left 1.1, entered 1.1 up, left 1.1, left 2.1"),
+               "entered 3.1 up, left 3.1", DRIVE_COMMANDS, "entered 3.4 time, left 3.4", DRIVE_CLOSED, DRIVE_SHUT, DRIVE_FREED],
+}  # fmt: skip
+
+
 def row_of(case: str) -> Row:
     """The row of a case of an open with one object, or of a server that is a name."""
     module, _, name = case.partition("_")
@@ -210,6 +252,9 @@ class WrittenOut(unittest.TestCase):
         for case, wanted in {**EVENTS_OF_ONE, **EVENTS_OF_NAMES}.items():
             with self.subTest(case):
                 self.assertEqual(graph_of(row_of(case).outputs), events(*wanted))
+        for name, wanted in EVENTS_OF_DRIVES.items():
+            with self.subTest(name):
+                self.assertEqual(graph_of(test_drives.ROWS[name].outputs), events(*wanted))
 
     def test_a_second_open_has_the_next_numbers(self) -> None:
         made_by = [record for record in graph_of(test_replay.ROWS["two_files"].outputs)
@@ -301,6 +346,7 @@ class Refusals(unittest.TestCase):
     SHORT = {
         **{name: test_replay.ROWS[name].outputs
            for name in ("a_boot", "two_files", "no_route", "power_off", "a_foreign_port", "refused_later")},
+        **{name: test_drives.ROWS[name].outputs for name in ("plain", "refused", "ends_asleep_by_fin", "pinged", "anew")},
         **{case: row_of(case).outputs
            for case in (*EVENTS_OF_ONE, *EVENTS_OF_NAMES, "lease_a_boot", "lease_power_off_in_the_transfer")},
     }  # fmt: skip

@@ -19,13 +19,13 @@ from shared.kinds import Status
 from shared.records import Advance, Command, Done, Ended, Received, Record, Result, Sent, Step, Text, Try
 from shared.why import reasons
 from shared.wire import tftp_error, tftp_oack
-from tests import TOP, made, test_why
+from tests import TOP, drive_life_rows, drive_rows, drive_state_rows, made, test_why
 from tests.case import Case
 from tests.web_fetches import LENGTH, WIRE
 from tests.web_records import ACK, FIN, SYN
 from tests.web_rows import ROWS
 
-SOURCES = (TOP / "tests/machine/sees.c", *(TOP / "tools/machine" / name for name in ("console.c", "sentences.c")))
+SOURCES = (TOP / "tests/machine/sees.c", *(TOP / "tools/machine" / name for name in ("console.c", "drives.c", "sentences.c")))
 COMPILE = ("gcc", "-O1", "-g", "-Wall", "-Wextra", "-Wconversion", "-Werror", "-fsanitize=address,undefined",
            f"-I{TOP / 'tools/machine'}")
 MOST_LINES = 400
@@ -40,6 +40,9 @@ OF_RESPONSES = re.compile(
     r" has moved\n[^\n]*  failed: (?:NoScheme|BadUri|BadName|NoServer) 0 0: (.*)"
 )
 LEAST_RESPONSES = 30
+# one of a drive's session
+OF_DRIVES = re.compile(r"  failed: (?:Refused|TimedOut|Broken|NoSecret) \d+ \d+: (.*)")
+LEAST_DRIVES = 25
 SPAN = re.compile(r" in [\d.]+ s\b")
 Run = tuple[bytes, bytes]
 
@@ -120,6 +123,29 @@ class Console(Case):
                 is_said = any(all(part in wanted for part in parts_of(one, wanted)) for one in said)
                 self.assertTrue(is_said, f"{name}: {said}\n{wanted}")
         self.assertGreaterEqual(compared, LEAST_RESPONSES)
+
+    def test_the_sentences_on_drives(self) -> None:
+        """The same on each row of a drive that isn't hooked for what its target did."""
+        compared = 0
+        for name, row in {**drive_rows.ROWS, **drive_life_rows.ROWS, **drive_state_rows.ROWS}.items():
+            inputs, outputs = made.spelled(row.inputs), made.spelled(row.outputs)
+            shown, wanted = self.shown(inputs, outputs), self.sentence(inputs, outputs)
+            for said in OF_DRIVES.findall(shown):
+                compared += 1
+                self.assertTrue(all(part in (wanted or "") for part in parts_of(said, wanted or "")), f"{name}: {said}\n{wanted}")
+        self.assertGreaterEqual(compared, LEAST_DRIVES)
+
+    def test_a_drive(self) -> None:
+        """Its line ends once it is hooked, and what comes meanwhile begins a line."""
+        row = drive_rows.ROWS["a_unit"]
+        shown = self.shown(made.spelled(row.inputs), made.spelled(row.outputs))
+        self.assertIn("  unit 1-ff02 of iqn.x:t at 10.0.0.1... is hooked\n", shown)
+        self.assertNotIn("has ended", shown)
+
+    def test_a_drive_that_ends(self) -> None:
+        row = drive_life_rows.ROWS["let_go_after_its_target_s_end"]
+        shown = self.shown(made.spelled(row.inputs), made.spelled(row.outputs))
+        self.assertEqual(shown.count("the session with unit 0 of iqn.2026-11.lan.boot:disk has ended\n"), 1)
 
     def test_size(self) -> None:
         for source in (TOP / "tools/machine").glob("*.[ch]"):

@@ -13,12 +13,14 @@
 #include <time.h>
 #include "causes.h"
 #include "console.h"
+#include "drives.h"
 #include "opens.h"
 #include "packets.h"
 
 enum { REPORT_MS = 2000, TICKS = 16, USUAL_BLOCK = 512 };
 enum { ACK = 4, ERROR = 5, OACK = 6 };                                 /* of TFTP (RFC 1350, RFC 2347) */
 enum { ADDRESS = 50, KIND = 53, SERVER = 54, MESSAGE = 56, NAK = 6 };  /* of DHCP (RFC 2132) */
+enum { DOWN = 25, STOPPED };                                           /* causes of a close from above */
 enum { ICMP = 1, DHCP_SERVER = 67, FIN = 1, SYN = 2, TCP_HEAD = 20 };
 
 struct open_seen current;
@@ -135,6 +137,7 @@ static void note_segment(uint32_t number, const uint8_t *f, size_t size) {
     head = (size_t)(segment[12] >> 4) * 4;
     if (head < TCP_HEAD || head > length) return;
     if (segment[13] & FIN) current.last_segment = number;
+    if (current.kind == ISCSI) { note_pdus(number, segment + head, length - head); return; }
     if (segment[13] & SYN) current.sequence = get32(segment + 4) + 1;
     else note_response(get32(segment + 4) - current.sequence, segment + head, length - head);
 }
@@ -146,7 +149,7 @@ static void note_frame(uint32_t number, const uint8_t *f, size_t size) {
     if (!current.lives) return;
     if (icmp && length >= 28 && icmp[0] == 3 && icmp[1] == 3 && !memcmp(f + 26, current.server, 4))
         current.is_unreachable |= !memcmp(icmp + 24, current.server, 4);
-    if (current.kind == HTTP) note_segment(number, f, size);
+    if (current.kind == HTTP || current.kind == ISCSI) note_segment(number, f, size);
     if (!read_datagram(f, size, &came)) return;
     if (current.kind == TFTP) note_tftp(number, &came);
     if (current.kind == DHCP) note_lease(number, &came);
@@ -177,6 +180,7 @@ static void name_open(void) {
     else if (current.kind == HTTP) printf("  %s...", target);
     else if (current.kind == DHCP) printf("  a lease...");
     else if (current.kind == PING) printf("  %s...", current.has_name ? current.name.bytes : ip.bytes);
+    else if (current.kind == ISCSI) printf("  %s at %s...", drive_text().bytes, ip.bytes);
     else printf("  %s of %s...", target, ip.bytes);
 }
 /* The line on the open, once more at its place where nothing else was said since. */
@@ -192,7 +196,9 @@ static uint64_t bytes_now(void) {
 }
 static uint64_t rate(uint64_t bytes, uint64_t ms) { return bytes / (ms ? ms : 1); }
 static void begin_open(const uint8_t *body) {
-    struct text target = word(body + 13, get16(body + 11)), name = current.target;
+    size_t size = get16(body + 11), after = body[2] == ISCSI && size > UNIT_LENGTH ? UNIT_LENGTH + 1 : 0;
+    struct text target = word(body + 13, size - after), name = current.target;
+    if (after) name_unit(body + 13 + size - UNIT_LENGTH);
     bool has_name = current.is_there && current.kind == DNS && !current.lives && get16(body) == current.number + 1;
     struct text first = body[2] == HTTP ? target : (struct text){""};
     if (current.is_there && current.first.bytes[0]) first = current.first;
@@ -218,6 +224,8 @@ static void advance(const uint8_t *body) {
     fflush(stdout), is_in_line = is_at_open = true, current.when = now, current.bytes = bytes;
 }
 static void end_open(const uint8_t *body) {
+    const char *drive = drive_of(get16(body));
+    if (drive && body[2] != DOWN && body[2] != STOPPED) say("the session with %s has ended", drive);
     if (get16(body) != current.number || !current.lives) return;
     current.lives = false, current.ended = run_ms();
     if (body[2]) return;
@@ -226,6 +234,12 @@ static void end_open(const uint8_t *body) {
     if (current.size && !(current.kind == HTTP && is_move(current.response)))
         printf(", %u bytes, %llu kB/s", current.size, (unsigned long long)rate(current.size, now_ms() - current.begun));
     end_line();
+}
+
+/* A drive that is hooked: its open lives on. */
+static void say_hooked(void) {
+    if (!current.is_there || !current.lives || current.kind != ISCSI) return;
+    begin_again(), printf(" is hooked"), end_line(), keep_drive();
 }
 
 /* ---- records ---- */
@@ -265,6 +279,7 @@ void see_output(enum type type, const uint8_t *body, size_t size, const char *de
     if (type == TEXT && is_at_open) end_line();
     if (type == TEXT) show(body, size, true), fflush(stdout);
     if (type == COMMAND) say_command(body, size);
+    if (type == RESULT && !body[0]) say_hooked();
     if (type == RESULT && body[0])
         say("  failed: %s %u %u: %s", name_of_cause(body), get32(body + 1), get32(body + 5), sentence_on(body));
     if (type == OPEN) begin_open(body);

@@ -3,12 +3,13 @@
 #include <stdio.h>
 #include <string.h>
 #include "causes.h"
+#include "drives.h"
 #include "opens.h"
 #include "records.h"
 
 enum { MOST_SENTENCE = 8192, RESET = 65535 };
-enum { REFUSED = 1, TIMED_OUT, BROKEN, TOO_LONG = 5, TOO_LARGE, TOO_MANY, NO_SERVER = 10, BAD_URI = 15, NO_SCHEME, BAD_NAME,
-       UNKNOWN = 22 }; /* causes */
+enum { REFUSED = 1, TIMED_OUT, BROKEN, TOO_LONG = 5, TOO_LARGE, TOO_MANY, NO_SERVER = 10, NO_SECRET, BAD_URI = 15, NO_SCHEME,
+       BAD_NAME, UNKNOWN = 22 }; /* causes */
 
 static char sentence[MOST_SENTENCE];
 
@@ -81,9 +82,11 @@ static void add_refusal(uint32_t number, uint32_t code) {
 /* Of a connection: its SYN, its request, or nothing that waits to be acknowledged, and then probes. */
 static void add_silent_connection(bool is_answered) {
     const char *url = current.target.bytes;
-    if (is_answered && !tries.is_syn) add("it was asked on %s", url);
+    if (is_answered && !tries.is_syn && current.kind == ISCSI) add("it was asked ");
+    else if (is_answered && !tries.is_syn) add("it was asked on %s", url);
     else if (!is_answered) add("%s %s ", server_name().bytes, tries.is_syn ? "never answered:" : "stopped answering");
     if (tries.is_syn) add("a connection to its port %u was asked for", current.port);
+    else if (current.kind == ISCSI) add("in the session with %s", url);
     else if (!is_answered && current.place) add("after %u bytes of its response for %s", current.place, url);
     else if (!is_answered) add("when asked for %s", url);
 }
@@ -103,7 +106,7 @@ static void add_silent(bool is_answered) {
     else if (current.kind == DHCP)
         add("the DHCP server %s offered %s, and never answered the request for it, which was sent",
             dotted(current.offerer).bytes, dotted(current.offered).bytes);
-    else if (current.kind == HTTP) add_silent_connection(is_answered);
+    else if (current.kind == HTTP || current.kind == ISCSI) add_silent_connection(is_answered);
     else if (current.kind == PING) add(is_answered ? "%s was pinged" : "%s never answered: it was pinged", server.bytes);
     else if (current.kind == DNS && is_answered) add("it was asked for %s", path);
     else if (current.kind == DNS) add("%s never answered: it was asked for %s", server.bytes, path);
@@ -140,6 +143,7 @@ static const char *of_silence(void) {
         [DNS] = "see that a name server runs there, or give another by `set dns ADDRESS`",
         [DHCP] = "see that a DHCP server serves this net and this client",
         [PING] = "see that it is switched on, and answers pings",
+        [ISCSI] = "see that a target listens there, and that no firewall stops it",
     };
     return tries.asks_hop ? "see that it is switched on, and in the client's net" : by_kind[current.kind];
 }
@@ -154,7 +158,7 @@ static const char *of_refusal(unsigned cause, uint32_t code) {
 }
 static void add_advice(unsigned cause, uint32_t code) {
     bool is_silent = cause == TIMED_OUT;
-    const char *to_do = is_silent ? of_silence() : of_refusal(cause, code);
+    const char *to_do = is_silent ? of_silence() : current.kind == ISCSI ? advice_on_drive(cause, code) : of_refusal(cause, code);
     if (is_silent && current.is_unreachable) add(". To do: start a server for %s there", open_kinds[current.kind]);
     else if (to_do) add(". To do: %s", to_do);
 }
@@ -184,9 +188,12 @@ const char *name_of_cause(const uint8_t *cause) { return causes[code_of(cause)].
 const char *sentence_on(const uint8_t *cause) {
     unsigned code = code_of(cause);
     uint32_t a = get32(cause + 1), b = get32(cause + 5);
+    bool is_of_drive = current.is_there && !current.lives && current.kind == ISCSI;
     bool is_of_open = current.is_there && !current.lives && code >= REFUSED && code <= BROKEN;
-    sentence[0] = 0;
-    if (is_of_open && code == REFUSED) add_refusal(a, b);
+    const char *on_drive = is_of_drive ? sentence_on_drive(server_name().bytes, code, a, b) : 0;
+    sentence[0] = 0, is_of_open |= on_drive != 0;
+    if (on_drive) add("%s", on_drive);
+    else if (is_of_open && code == REFUSED) add_refusal(a, b);
     else if (is_of_open && code == TIMED_OUT) add_silence();
     else if (is_of_open) add_break(a);
     else if (!add_limit(code, a)) add("%s", causes[code].meaning);

@@ -3,6 +3,8 @@
 from __future__ import annotations
 
 from shared.causes import Cause, Code
+from shared.drive_sentences import drive_advice
+from shared.drives import is_about_drives
 from shared.frames import asked_address
 from shared.ipxe import is_ipxe, option_of
 from shared.kinds import OpenKind
@@ -25,6 +27,7 @@ OF_SILENCE = {
     OpenKind.DHCP: "see that a DHCP server serves this net and this client",
     OpenKind.DNS: "see that a name server runs there, or give another by `set dns ADDRESS`",
     OpenKind.PING: "see that it is switched on, and answers pings",
+    OpenKind.ISCSI: "see that a target listens there, and that no firewall stops it",
 }
 OF_TFTP_ERROR = {1: "put the file there, or mend its name", 2: "let the server read the file"}
 SEE_LOG = "see the server's log"
@@ -33,6 +36,11 @@ SEE_LOG = "see the server's log"
 def of_failure(failure: Failure, answer: str | None) -> str:
     """What to do about a failure, where something is known; an answer came meanwhile that didn't count, or none."""
     opens = failure.opens()
+    command = failure.story.words if failure.story else None
+    if opens[-1].is_drive() if opens else command and is_about_drives(command):
+        advice = drive_advice(failure.cause, opens[-1] if opens else None, command)
+        if advice:
+            return said(advice)
     if opens and failure.cause.code is Code.TIMED_OUT:
         return said(of_silence(opens[-1], answer))
     if opens and failure.cause.code in (Code.REFUSED, Code.BROKEN):

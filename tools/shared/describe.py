@@ -4,6 +4,7 @@ from __future__ import annotations
 
 from typing import Any, Callable
 
+from shared.drives import is_whole, target_name, unit_of
 from shared.frames import Summaries
 from shared.kinds import GraphEvent, OpenKind, PartKind, ScriptMove, Way
 from shared.objects import Names, title
@@ -59,8 +60,15 @@ def server_of(opened: Open) -> str:
     return str(opened.server) if opened.kind is OpenKind.PING else f"{opened.server} port {opened.port}"
 
 
+def target_text(opened: Open) -> str:
+    """What an open asks for; a drive's target by its name, and with the unit."""
+    if opened.kind is OpenKind.ISCSI and is_whole(opened):
+        return f"{word(target_name(opened))}, unit {unit_of(opened)}"
+    return word(opened.target)
+
+
 def _open(opened: Open) -> str:
-    target = f", target {word(opened.target)}" if opened.target else ""
+    target = f", target {target_text(opened)}" if opened.target else ""
     own = "identifier" if opened.kind is OpenKind.PING else "own port"
     return f"OPEN {opened.number} {opened.kind.name}, server {server_of(opened)}, {own} {opened.own}{target}"
 

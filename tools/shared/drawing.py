@@ -5,14 +5,14 @@ from __future__ import annotations
 from typing import Iterable, Iterator
 
 from shared.command_line import Refused
-from shared.describe import server_of
+from shared.describe import server_of, target_text
 from shared.kinds import Way
 from shared.objects import Family, Objects, Slot, Thing, When, ending
 from shared.open_sentences import meaning
 from shared.recordings import Timed
 from shared.records import Graph, Record, Step
 from shared.sentences import times
-from shared.texts import count, word
+from shared.texts import count
 
 ABOVE = 0
 BELOW = (1, 2, 3)
@@ -101,7 +101,7 @@ class Picture:
         opened = self.family.opened
         if opened is None:
             return "objects of no open"
-        target = f", target {word(opened.target)}" if opened.target else ""
+        target = f", target {target_text(opened)}" if opened.target else ""
         return f"open {opened.number}: {opened.kind.name} with {server_of(opened)}{target}"
 
     def _has_upper(self, thing: Thing) -> bool:

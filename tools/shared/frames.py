@@ -6,6 +6,7 @@ from dataclasses import dataclass
 from ipaddress import IPv4Address
 
 from shared import messages
+from shared.iscsi import USUAL_PORT, pdu_text, pdus_in
 from shared.texts import mac, quoted
 from shared.wire import (
     ARP,
@@ -146,7 +147,7 @@ class Summaries:
         parts.append(f"window {int.from_bytes(segment[14:16], 'big')}")
         if not _is_sum_right(packet):
             parts.append("wrong checksum")
-        return ", ".join(parts) + _http_line(segment[head:])
+        return ", ".join(parts) + (_pdu_names(ends, segment[head:]) or _http_line(segment[head:]))
 
     def _remember(self, ends: Ends, number: int) -> None:
         while len(self._first_numbers) >= MOST_STREAMS:
@@ -202,6 +203,13 @@ def datagram_in(frame: bytes) -> bytes | None:
     packet = packet_of(frame)
     is_udp = packet is not None and packet.protocol == PROTOCOL_UDP and ends_of(packet).target_port != 0
     return datagram_of(packet) if packet and is_udp else None
+
+
+def segment_data(packet: Packet) -> bytes:
+    """The bytes of its stream that a TCP segment has."""
+    segment = packet.body
+    head = (segment[12] >> 4) * 4 if packet.protocol == PROTOCOL_TCP and len(segment) >= 20 else len(segment)
+    return segment[head:]
 
 
 def is_syn(packet: Packet) -> bool:
@@ -272,6 +280,13 @@ def _icmp(body: bytes) -> str:
     identifier = int.from_bytes(body[4:6], "big")
     sequence = int.from_bytes(body[6:8], "big")
     return f"ICMP {name}, identifier {identifier}, number {sequence}{warning}"
+
+
+def _pdu_names(ends: Ends, data: bytes) -> str:
+    """The PDUs of iSCSI that begin in a segment of a target's port, where the first begins with it."""
+    if USUAL_PORT not in (ends.source_port, ends.target_port):
+        return ""
+    return "".join(f", iSCSI {pdu_text(pdu)}" for pdu in pdus_in(data))
 
 
 def _http_line(data: bytes) -> str:

@@ -263,6 +263,7 @@ JUDGES: dict[OpenKind, type[Judge]] = {
     OpenKind.DNS: OfLookUp,
     OpenKind.PING: OfPing,
     OpenKind.HTTP: OfConnection,
+    OpenKind.ISCSI: OfConnection,
 }
 
 

@@ -19,7 +19,7 @@ from shared.program import TOP
 
 SOURCES = TOP / "tools" / "machine"
 # each program's sources
-PROGRAMS = {"bridge": ("bridge.c", "console.c", "sentences.c"), "card": ("card.c",), "kexec": ("kexec.c",)}
+PROGRAMS = {"bridge": ("bridge.c", "console.c", "drives.c", "sentences.c"), "card": ("card.c",), "kexec": ("kexec.c",)}
 HEADERS = ("/usr/include", "/usr/include/x86_64-linux-gnu")
 BUSYBOX = "/bin/busybox"
 LOADER = b"/lib64/ld-linux"

@@ -9,6 +9,8 @@ from typing import NamedTuple
 
 from shared.answers import TFTP_ERRORS
 from shared.causes import MEANING, OK, Cause, Code
+from shared.describe import target_text
+from shared.drive_sentences import drive_meaning, of_drive_break, of_drive_refusal
 from shared.frames import asked_address, datagram_in, is_fin, is_syn, packet_of
 from shared.kinds import OpenKind
 from shared.leases import Offer, offer_taken, refusal_text
@@ -45,6 +47,8 @@ def meaning(opened: Open, cause: Cause) -> str:
             return "the server refused the lease (NAK)"
         case Code.REFUSED, OpenKind.TFTP:
             return f"the server answered: {TFTP_ERRORS.get(cause.b, f'error {cause.b}')}"
+        case _, OpenKind.ISCSI:
+            return drive_meaning(cause)
         case Code.REFUSED, OpenKind.HTTP:
             return "the server reset the connection" if cause.b == RESET else f"the server answered: {status_text(cause.b)}"
     return MEANING[cause.code]
@@ -67,6 +71,8 @@ def of_refusal(cause: Cause, story: OpenStory, frame: bytes | None) -> str:
             return _of_rcode(cause.b, opened)
         case OpenKind.HTTP:
             return _of_status(cause.b, story)
+        case OpenKind.ISCSI:
+            return of_drive_refusal(cause, story, server)
     named = TFTP_ERRORS.get(cause.b)
     if named is None:
         text = error_text(frame) if frame else None
@@ -79,6 +85,8 @@ def of_break(story: OpenStory, frame: bytes | None, shown: str) -> str:
     """On an open whose server sent what isn't allowed in its place, by a frame where it is known."""
     if story.open.kind is OpenKind.HTTP:
         return _of_broken_response(story, frame, shown)
+    if story.is_drive():
+        return of_drive_break(story, named_server(story), frame, shown)
     body = _of_tftp(frame, Opcode.OACK) if frame else None
     texts = (body or b"")[2:].lower().split(b"\0")
     granted = next((value for name, value in zip(texts[::2], texts[1::2]) if name == b"blksize"), b"")
@@ -197,7 +205,7 @@ def _silent(story: OpenStory, asked: list[bytes], how: str) -> Silent:
             return Silent(f"{server} {how}: it was asked for {path}", f"it was asked for {path}")
         case OpenKind.PING:
             return Silent(f"{server} {how}: it was pinged", f"{server} was pinged")
-        case OpenKind.HTTP:
+        case OpenKind.HTTP | OpenKind.ISCSI:
             return _silent_connection(story, asked, how)
     if story.block or is_acknowledgement(asked):
         last = f"block {story.block} of {path}" if story.block else f"its OACK for {path}"
@@ -208,11 +216,13 @@ def _silent(story: OpenStory, asked: list[bytes], how: str) -> Silent:
 
 def _silent_connection(story: OpenStory, asked: list[bytes], how: str) -> Silent:
     """On a connection: its SYN, its request, or nothing that waits to be acknowledged, and then probes."""
-    server, url = named_server(story), word(story.open.target)
+    server, url = named_server(story), target_text(story.open)
     packet = packet_of(asked[-1]) if asked else None
     if packet and is_syn(packet):
         port = f"a connection to its port {story.open.port} was asked for"
         return Silent(f"{server} {how}: {port}", port)
+    if story.is_drive():
+        return Silent(f"{server} stopped answering in the session with {url}", f"it was asked in the session with {url}")
     after = f"after {story.block} bytes of its response for {url}" if story.block else f"when asked for {url}"
     return Silent(f"{server} stopped answering {after}", f"it was asked on {url}")
 
@@ -242,7 +252,7 @@ def of_wait(story: OpenStory, known: set[IPv4Address] | None) -> str:
         return f"the hardware address of {_hop(story, hop)}"
     if hop:
         is_ping = opened.kind is OpenKind.PING
-        then = f"{server} is pinged" if is_ping else f"{word(opened.target)} is asked for"
+        then = f"{server} is pinged" if is_ping else f"{target_text(opened)} is asked for"
         return f"the next try, as {_hop(story, hop)} had only said its hardware address: {then} then"
     match opened.kind:
         case OpenKind.DHCP:
@@ -251,7 +261,7 @@ def of_wait(story: OpenStory, known: set[IPv4Address] | None) -> str:
             return f"the answer of {server} on {word(opened.target)}"
         case OpenKind.PING:
             return f"the echo reply of {server}"
-        case OpenKind.HTTP:
+        case OpenKind.HTTP | OpenKind.ISCSI:
             return _of_awaited_response(story, asked)
     path = word(opened.target)
     if story.block or is_acknowledgement(asked):
@@ -264,6 +274,8 @@ def _of_awaited_response(story: OpenStory, asked: list[bytes]) -> str:
     packet = packet_of(asked[-1]) if asked else None
     if packet and is_syn(packet):
         return f"the connection to port {story.open.port} of {server}"
+    if story.is_drive():
+        return f"what {server} says next in the session with {target_text(story.open)}"
     if story.block:
         return f"more of the response of {server} for {url}, of which {story.block} bytes have come"
     return f"the first bytes of the response of {server} for {url}"

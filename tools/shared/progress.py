@@ -1,4 +1,4 @@
-"""Shows a live run while it goes: what commands print, and a line for each fetch, lease, look-up and ping."""
+"""Shows a live run while it goes: what commands print, and a line for each fetch, lease, look-up, ping and drive."""
 
 from __future__ import annotations
 
@@ -8,6 +8,8 @@ from dataclasses import dataclass, field
 from typing import TextIO
 
 from shared.causes import MEANING, OK, Cause, Code
+from shared.describe import server_of
+from shared.drives import HOOK, drive_text
 from shared.kinds import OpenKind
 from shared.open_sentences import meaning
 from shared.records import Advance, Command, Ended, Open, Record, Result, Text
@@ -98,14 +100,22 @@ class Progress:
         self._say(words if time is None else f"{words}: goes on after {time} s")
 
     def _result(self, cause: Cause) -> None:
-        """A failure, as what the last open means by it, where it had that cause."""
+        """A failure, as what the last open means by it, where it had that cause; or a drive that is hooked."""
         command = self.running.pop() if self.running else None
+        if command and command.words[0] == HOOK and cause == OK and not self._is_too_many():
+            self._say_hooked()
         if command is None or cause.code in (Code.OK, Code.FALSE) or self._is_too_many():
             return
         opened = self.last_end[0] if self.last_end and self.last_end[1] == cause else None
         why = meaning(opened, cause) if opened else MEANING[cause.code]
         name = word(command.words[0]) if command.words else "it"
         self._say(f"line {command.line}: {name} failed: {cause}: {why}")
+
+    def _say_hooked(self) -> None:
+        """The drive whose open began last, if it lives."""
+        drives = [fetch.opened for fetch in self.fetches.values() if fetch.opened.kind is OpenKind.ISCSI]
+        if drives:
+            self._say(f"{drive_text(drives[-1])} at {server_of(drives[-1])} is hooked")
 
     def _is_too_many(self) -> bool:
         """Whether this second had its lines; how many were left out is said in the next."""
@@ -129,7 +139,7 @@ class Progress:
 
     def _advance(self, advance: Advance, packet_length: int) -> None:
         fetch = self.fetches.get(advance.number)
-        if fetch is None:
+        if fetch is None or fetch.opened.kind is OpenKind.ISCSI:
             return
         fetch.place = advance.place
         if fetch.opened.kind is OpenKind.TFTP:
@@ -145,7 +155,9 @@ class Progress:
     def _ended(self, ended: Ended) -> None:
         fetch = self.fetches.pop(ended.number, None)
         self.last_end = (fetch.opened, ended.cause) if fetch else None
-        if fetch and fetch.opened.kind in ANSWERS:
+        if fetch and fetch.opened.kind is OpenKind.ISCSI:
+            self._say(f"the session with {drive_text(fetch.opened)} has ended: {meaning(fetch.opened, ended.cause)}")
+        elif fetch and fetch.opened.kind in ANSWERS:
             self._say(answered(fetch.opened, ended.cause, time.monotonic() - fetch.begun))
         elif fetch:
             how = "" if ended.cause == OK else f": {meaning(fetch.opened, ended.cause)}"

@@ -7,6 +7,8 @@ from ipaddress import IPv4Address
 from typing import NamedTuple
 
 from shared.causes import MEANING, WHAT, Cause, Code
+from shared.drive_words import Lost, of_drive_words
+from shared.drives import host_in, is_about_drives
 from shared.host_names import host_fault
 from shared.ipxe import EXECUTES, FETCHES, is_ipxe, option_of, target_of, unset_in
 from shared.leases import Lease
@@ -58,6 +60,8 @@ USAGES = {
     b"ping": "ping HOST",
     b"nslookup": "nslookup NAME HOST",
     b"sleep": "sleep SECONDS, from 0 to 4000000",
+    b"sanhook": "sanhook [--drive N] [--no-describe] URI, N from 128 to 255",
+    b"sanunhook": "sanunhook [--drive N], N from 128 to 255",
 }
 
 # causes by which words are refused that may be options of iPXE
@@ -87,6 +91,8 @@ class Met(NamedTuple):
     looked_up: bytes | None = None
     link: Link = Link()
     lease: Lease | None = None
+    # the drive's open that ended last by itself
+    lost: Lost | None = None
 
 
 def of_local(cause: Cause, command: Command | None, start: Start | None, met: Met = Met()) -> str:
@@ -100,7 +106,7 @@ def of_local(cause: Cause, command: Command | None, start: Start | None, met: Me
     name, option = command.words[0], option_of(command)
     if option and cause.code in BY_OPTION:
         return f"the option `{shown(option)}` of `{shown(name)}` isn't built yet"
-    said = _of_file(cause, command) or _of_images(cause, command) or _of_setting(cause, command, start)
+    said = of_drive_words(cause, command, met.lost) or _of_file(cause, command) or _of_images(cause, command) or _of_setting(cause, command, start)
     said = said or _of_name(cause, command, met)
     return said or _of_command(cause, command, start) or f"{word(name)}: {MEANING[cause.code]}"
 
@@ -243,6 +249,8 @@ def _bad_name_of(host: bytes) -> str:
 
 def _host_in(command: Command) -> bytes:
     """The host that a command names: in its URI, or as its last word."""
+    if is_about_drives(command):
+        return host_in(command.words[-1])
     found = HOST_OF.search(target_of(command)) if command.words[0] in OF_FILES else None
     return found.group(1) if found else command.words[-1]
 

@@ -35,6 +35,9 @@ MOST_OPENS = 16
 MOST_TRIES = 16
 MOST_NESTED = 64
 MOST_TEXT = 256
+# causes that the drives show which are hooked, where a command has no open, and those of a close from above
+OF_DRIVES = (Code.FULL, Code.NO_DRIVE, Code.REFUSED, Code.BROKEN, Code.TIMED_OUT)
+FROM_ABOVE = (Code.STOPPED, Code.DOWN)
 
 
 @dataclass(slots=True)
@@ -63,6 +66,8 @@ class OpenStory:
     tries: deque[Evidence] = field(default_factory=lambda: deque(maxlen=MOST_TRIES))
     block: int = 0
     ended: Evidence | None = None
+    # of a drive: its command was Ok
+    is_hooked: bool = False
 
     def is_drive(self) -> bool:
         return self.open.kind is OpenKind.ISCSI
@@ -133,7 +138,9 @@ class Failure:
             return []
         if self.cause.code is Code.TOO_MANY:
             return list(self.story.opens)
-        return self.story.opens[-1].parts() if self.story.opens else self.story.drives
+        if self.story.opens:
+            return self.story.opens[-1].parts()
+        return self.story.drives if self.cause.code in OF_DRIVES else []
 
     def evidence(self) -> list[Evidence]:
         """The records that show the cause, in their order."""
@@ -173,6 +180,8 @@ class Trace:
         self.is_replaced = False
         self.last: Command | None = None
         self.link = Link()
+        # the drive whose session ended last by itself, after its command
+        self.lost: OpenStory | None = None
         self._last_cause: Cause | None = None
         self._last_try: Evidence | None = None
 
@@ -235,6 +244,8 @@ class Trace:
             self._fail(Failure(here, cause, story, link=self.link))
             return
         last = story.opens[-1] if story.opens else None
+        if last and last.is_drive():
+            last.is_hooked, self.lost = True, last if last.ended else self.lost
         is_leased = last is not None and last.open.kind is OpenKind.DHCP
         self.link = self.link.leased(here.step) if is_leased else self.link.after(story.words)
 
@@ -287,6 +298,8 @@ class Trace:
         story.ended = here
         if ended.cause == OK and story.is_fetch():
             self._note_source(story)
+        if story.is_hooked and ended.cause.code not in FROM_ABOVE:
+            self.lost = story
         del self.live[ended.number]
 
     def _note_source(self, story: OpenStory) -> None:

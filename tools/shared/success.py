@@ -27,7 +27,8 @@ def of_success(trace: Trace, milliseconds: int | None) -> str:
         return f"The boot succeeded: a disk{when}"
     more = f" and {count(trace.initrds, 'more image')}" if trace.initrds else ""
     kernel = f"kernel {word(trace.kernel)} ({size(sizes.get(PartKind.KERNEL, 0))})"
-    return f"The boot succeeded: {kernel}{more}{_from(trace.sources)}{when}"
+    table = ", with the boot table of its drives" if PartKind.TABLE in sizes else ""
+    return f"The boot succeeded: {kernel}{more}{_from(trace.sources)}{table}{when}"
 
 
 def _span(milliseconds: int) -> str:

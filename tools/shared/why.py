@@ -9,13 +9,16 @@ from shared.advice import of_failure, said
 from shared.advice import of_silence as of_silence_advice
 from shared.causes import MEANING, Cause, Code
 from shared.command_line import Refused, read_stream
-from shared.describe import Lines, server_of
+from shared.describe import Lines, server_of, target_text
+from shared.drive_sentences import of_no_secret
+from shared.drive_words import Lost
+from shared.drives import target_name
 from shared.fields import CutOff
 from shared.full_steps import MOST_COMMANDS
 from shared.kinds import OpenKind, Status
 from shared.leases import Lease, lease_given, names_file, of_unnamed
 from shared.objects import ending
-from shared.open_sentences import Came, named_server, of_break, of_refusal, of_response, of_silence, of_wait
+from shared.open_sentences import Came, meaning, named_server, of_break, of_refusal, of_response, of_silence, of_wait
 from shared.places import command_at, line_of, place_of, words_in
 from shared.recordings import read_output
 from shared.records import (
@@ -32,7 +35,7 @@ from shared.records import (
 from shared.sentences import Met, of_local, of_sleep, seconds, seconds_of_sleep
 from shared.success import of_success
 from shared.stories import CommandStory, Evidence, Failure, OpenStory, Trace
-from shared.texts import count, word
+from shared.texts import word
 from shared.why_inputs import Inputs
 
 # Causes that name the input record whose message decided.
@@ -124,9 +127,9 @@ class Account:
             return self._cut_off()
         match done.status:
             case Status.HANDED_OFF:
-                return of_success(self.trace, self.inputs.times.get(self.trace.step))
+                return of_success(self.trace, self.inputs.times.get(self.trace.step)) + self._of_lost()
             case Status.ENDED:
-                return self._passed_over("ended well", "the script ended well") + self._of_file_name()
+                return self._passed_over("ended well", "the script ended well") + self._of_file_name() + self._of_lost()
             case Status.SCRIPT_FAILED:
                 how = self._failure_sentence()
                 return self._passed_over(f"failed: {how}", how) + self._of_file_name()
@@ -160,6 +163,11 @@ class Account:
         placed = sentence if sentence.startswith(place) else place + sentence
         again = then.endswith(f": {sentence}")
         return f"{placed}; the script went on, and {'failed so again' if again else then}"
+
+    def _of_lost(self) -> str:
+        """On a drive whose session has ended by itself meanwhile."""
+        lost = self._lost()
+        return f"; the session with {word(lost.target)} had ended in step {lost.step}: {lost.why}" if lost else ""
 
     def _of_file_name(self) -> str:
         """On a lease that names no file, where the script would boot what a lease names."""
@@ -203,6 +211,8 @@ class Account:
         if opens and failure.cause.code is Code.BROKEN:
             shown = self.inputs.lines.get(failure.cause.a, f"record {failure.cause.a}")
             return of_break(opens[-1], frame, shown)
+        if opens and failure.cause.code is Code.NO_SECRET:
+            return of_no_secret(opens[-1], named_server(opens[-1]))
         said = of_response(failure.cause, opens) if opens else ""
         if said:
             return said
@@ -217,7 +227,15 @@ class Account:
         """What the command of a failure met."""
         last = failure.opens()[-1] if failure.opens() else None
         looked_up = last.open.target if last and last.is_look_up() else None
-        return Met(named_server(last) if last else None, looked_up, failure.link, self._lease(failure))
+        server = named_server(last) if last else None
+        return Met(server, looked_up, failure.link, self._lease(failure), self._lost())
+
+    def _lost(self) -> Lost | None:
+        """The drive whose session has ended last by itself."""
+        lost = self.trace.lost
+        if lost is None or lost.ended is None or not isinstance(lost.ended.record, Ended):
+            return None
+        return Lost(target_name(lost.open), lost.ended.step, meaning(lost.open, lost.ended.record.cause))
 
     def _lease(self, failure: Failure) -> Lease | None:
         """The lease that the client held at a failure which that may show, where it is known."""
@@ -367,7 +385,7 @@ class Account:
                 as_written = "" if command.expanded else " (as written, since they can't be expanded)"
                 return f"{place_of(command)} begins: {words_in(command)}{as_written}"
             case Open() as opened:
-                target = f"{word(opened.target)} is asked for: " if opened.target else ""
+                target = f"{target_text(opened)} is asked for: " if opened.target else ""
                 own = "with our identifier" if opened.kind is OpenKind.PING else "from our port"
                 return f"{target}{opened.kind.name} with {server_of(opened)}, {own} {opened.own}"
             case Try() as tried:
