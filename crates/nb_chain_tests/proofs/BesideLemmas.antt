@@ -9,7 +9,7 @@ use Rattle.nb_nodes.specs.declared.obj.Obj.{Obj}
 use Rattle.nb_nodes.specs.Objects.{rank_of_obj}
 use Rattle.nb_opens.specs.Pairs.{AreMade}
 use Rattle.nb_chains.specs.declared.chain.Chain.{Chain}
-use Rattle.nb_chains.specs.declared.kind.ChainKind.TheVariants.{File, Name, Lease, Echo}
+use Rattle.nb_chains.specs.declared.kind.ChainKind.TheVariants.{File, Name, Lease, Echo, Drive}
 use Rattle.nb_chains.specs.declared.kind.ChainKind.{ChainKind}
 use Rattle.nb_chains.specs.Kinds.{count_below, top_mark, top_rank}
 use Rattle.nb_frames.specs.Frames.{is_one_of, KeepsObject}
@@ -53,6 +53,7 @@ few_below File = omega arith
 few_below Name = omega arith
 few_below Lease = omega arith
 few_below Echo = omega arith
+few_below Drive = omega arith
 
 sole_above : (lo x : ℕ) (b : Option ObjId) → b ≡ None → lo < x → (y : ℕ) → is_one_of (x ∷ below_ids b) y ≡ true → lo < y
 sole_above lo x b e i = subst (λ (z : Option ObjId). (y : ℕ) → is_one_of (x ∷ below_ids z) y ≡ true → lo < y) (sym e) (λ y o. let s = sole_is x y o in omega (arith, s, i))
@@ -65,6 +66,7 @@ ids_above File d h lo r e =
 ids_above Name d h lo r e = sole_above lo d.top.0 d.below r.0 (omega (arith, e))
 ids_above Lease d h lo r e = sole_above lo d.top.0 d.below r.0 (omega (arith, e))
 ids_above Echo d h lo r e = sole_above lo d.top.0 d.below r.0 (omega (arith, e))
+ids_above Drive d h lo r e = sole_above lo d.top.0 d.below r.0 (omega (arith, e))
 
 -- two that were made one after the other
 pub made_beside : (one two : ChainKind) (c d : Chain) (g a h : Objects Obj) → AreNoded rank_of_obj h → GrowsBy (1 + count_below one) c g a → GrowsBy (1 + count_below two) d a h → IsReadyChain two d h → d.top.0 ≡ a.book.made + 1 → AreBeside h c d
