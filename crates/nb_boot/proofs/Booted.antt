@@ -1,5 +1,5 @@
--- Where no drive is hooked as a command boots, nothing is closed then, and no FRAME stands after its RESULT.
-use Rattle.std.proofs.Common.{◌≡◌, inl, inr, ℕ, ◌||◌, Bool, true, false, cond, List, [], ◌∷◌, ◌++◌, Option, Some, None, option_and_then, refl, sym, ◌∙◌, ap, subst}
+-- Where no drive is hooked as a command boots, and its disk's open has ended, nothing is closed then, and no FRAME stands after its RESULT.
+use Rattle.std.proofs.Common.{◌≡◌, inl, inr, ℕ, ◌+◌, ◌||◌, Bool, true, false, cond, List, [], ◌∷◌, ◌++◌, Option, Some, None, option_and_then, refl, sym, ◌∙◌, ap, subst, arith}
 use Rattle.std.specs.List.{AllByRecursion, list_any}
 use Rattle.std.proofs.lemmas.Option.{none-some}
 use Rattle.nb_terms.specs.declared.cause.Cause.{Cause}
@@ -11,11 +11,11 @@ use Rattle.nb_machine.specs.Conclusions.{Conclusion, boots}
 use Rattle.nb_machine.specs.Effects.{ShownWords, hooks_disk}
 use Rattle.nb_laws.specs.CommandOpens.{command_open, over_of}
 use Rattle.nb_laws.specs.CommandsSoFar.{so_far, comes_by, concluded_in, conclusion_so_far}
-use Rattle.nb_laws.specs.Endings.{MayStandBehind, ClosesToBoot}
+use Rattle.nb_laws.specs.Endings.{MayStandBehind, ClosesToBoot, ClosesToBootDisk}
 use Rattle.nb_laws.specs.Events.{Event, hears, puts, EachEvent}
 use Rattle.nb_laws.specs.Frames.{IsPut, HoldsResult, HoldsOf}
 use Rattle.nb_laws.specs.Frames as frames
-use Rattle.nb_laws.specs.Hookings.{is_on_open, hooked_drives, serves_drive, HooksDisk}
+use Rattle.nb_laws.specs.Hookings.{is_on_open, hooked_drives, serves_drive, HooksDisk, BootsBy, boots_hooking, boots_hooked}
 use Rattle.nb_laws.specs.Lists.{Opening, opening_at, openings, is_end_of, open_has_ended, live, last_end, made}
 use Rattle.nb_laws.specs.Moves.{moves}
 use Rattle.nb_laws.specs.Silence.{IsSilent, AreSilent}
@@ -24,8 +24,8 @@ use Rattle.nb_laws.proofs.Tellings.{told, openings_more, over_more, no_more}
 use Rattle.nb_lawful.proofs.Awaited.{its}
 use Rattle.nb_lawful.proofs.HookWords.{serves}
 use Rattle.nb_lawful.proofs.Alone.{solitude_first}
-use Rattle.nb_lawful.proofs.Solitude.{IsSettled, Solitude, over_by}
-use Rattle.nb_boot.specs.Booting.{BootsSilently}
+use Rattle.nb_lawful.proofs.Solitude.{IsLastMade, IsSettled, Solitude, over_by}
+use Rattle.nb_boot.specs.Booting.{BootsSilently, BootsDiskSilently}
 use Rattle.nb_boot.proofs.EntryAlone.{Known, alone_after}
 use Rattle.nb_boot.proofs.EntryHistories.{each_first, each_last}
 use Rattle.nb_boot.proofs.EntryPlaces.{same_last}
@@ -48,13 +48,14 @@ boots_no_hook es list kernel end booted h =
     let comes : comes_by (made es) (so_far es) shown ≡ hooks_disk h.hooking = after_by_words (made es) (so_far es) shown (moves es) (hooks_disk h.hooking) (λ no. no) is in
     none-some (boots list kernel) (sym (ap concluded_in comes) ∙ sym (ap (by_its_words es) said) ∙ words)
 
+-- where no drive is hooked, no open is one's
+unserved : (es : List Event) (k : ℕ) → hooked_drives es ≡ [] → serves_drive k es ≡ true → ⊥
+unserved es k none is = let no : false ≡ true = sym (ap (λ (z : List Drive). list_any (is_on_open k) z) none) ∙ is in cc no
+
 -- an open that lives there would be a hooked drive's
 none_before : (es : List Event) (b : ClosesToBoot es) → hooked_drives b.before ≡ [] → Solitude b.before → Known b.before (puts (result ok)) → NoneLives b.before
 none_before es b none a known k o lives = by (so_far b.before).left refl
   where
-    unserved : serves_drive k b.before ≡ true → ⊥
-    unserved is = let no : false ≡ true = sym (ap (λ (z : List Drive). list_any (is_on_open k) z) none) ∙ is in absurd (cc no)
-
     on_its : HoldsResult b.before ok → command_open b.before ≡ its k None → ⊥
     on_its holds own = elim (over_by b.before ok holds) [
       | inl settled ↦ subst IsSettled own settled
@@ -64,9 +65,27 @@ none_before es b none a known k o lives = by (so_far b.before).left refl
     by : (left : Option Cause) → (so_far b.before).left ≡ left → ⊥
     by None at = elim ((a.running known.written.is_open at).own k o lives) [
       | inl own ↦ on_its (subst (λ z. HoldsOf z b.before ok) at known.written.holds) own
-      | inr hooked ↦ unserved (serves k b.before o lives hooked)
+      | inr hooked ↦ unserved b.before k none (serves k b.before o lives hooked)
     ]
-    by (Some given) at = unserved (serves k b.before o lives (a.handed given at k o lives))
+    by (Some given) at = unserved b.before k none (serves k b.before o lives (a.handed given at k o lives))
+
+-- or that of the disk that is booted
+not_its_own : (es : List Event) (number k : ℕ) (o : Opening) → BootsBy number es → live number es ≡ [] → live k es ≡ o ∷ [] → Solitude es → command_open es ≡ its k None → ⊥
+not_its_own es number k o (boots_hooked drive first booted is) gone lives a own = none-some _ (sym first ∙ own)
+not_its_own es number k o (boots_hooking disk has at) gone lives a own =
+    let last : k + 1 ≡ made es = subst (λ z. IsLastMade z (made es)) own a.last in
+    let same : number ≡ k = omega (arith, at, last) in
+    let no : [] ≡ o ∷ [] = sym (subst (λ z. live z es ≡ []) same gone) ∙ lives in cc no
+
+none_before_disk : (es : List Event) (b : ClosesToBootDisk es) → hooked_drives b.before ≡ [] → live b.number b.before ≡ [] → Solitude b.before → Known b.before (puts (result ok)) → NoneLives b.before
+none_before_disk es b none gone a known k o lives = by (so_far b.before).left refl
+  where
+    by : (left : Option Cause) → (so_far b.before).left ≡ left → ⊥
+    by None at = elim ((a.running known.written.is_open at).own k o lives) [
+      | inl own ↦ not_its_own b.before b.number k o b.boots gone lives a own
+      | inr hooked ↦ unserved b.before k none (serves k b.before o lives hooked)
+    ]
+    by (Some given) at = unserved b.before k none (serves k b.before o lives (a.handed given at k o lives))
 
 -- BEHIND IT
 
@@ -121,9 +140,16 @@ all_silent q o (x ∷ outs) none h known = (
 )
 
 -- so it is of each history of a course
+behind_silent : (es before : List Event) (since : List Out) → EachEvent Known [] es → es ≡ before ++ puts (result ok) ∷ told since → AllByRecursion MayStandBehind since →
+    (Solitude before → Known before (puts (result ok)) → NoneLives before) → AreSilent since
+behind_silent es before since known ends stand none =
+    let all = subst (EachEvent Known []) ends known in
+    let a = alone_after [] before (each_first Known [] before (puts (result ok) ∷ told since) all) solitude_first in
+    let behind = each_last Known [] before (puts (result ok) ∷ told since) all in
+    all_silent before (result ok) since (none_then before (result ok) (λ k. refl) (none a behind.0)) stand behind.1
+
 pub boots_silently : (es : List Event) → EachEvent Known [] es → BootsSilently es
-boots_silently es known b none =
-    let all = subst (EachEvent Known []) b.ends known in
-    let a = alone_after [] b.before (each_first Known [] b.before (puts (result ok) ∷ told b.since) all) solitude_first in
-    let behind = each_last Known [] b.before (puts (result ok) ∷ told b.since) all in
-    all_silent b.before (result ok) b.since (none_then b.before (result ok) (λ k. refl) (none_before es b none a behind.0)) b.behind behind.1
+boots_silently es known b none = behind_silent es b.before b.since known b.ends b.behind (none_before es b none)
+
+pub boots_disk_silently : (es : List Event) → EachEvent Known [] es → BootsDiskSilently es
+boots_disk_silently es known b none gone = behind_silent es b.before b.since known b.ends b.behind (none_before_disk es b none gone)

@@ -8,10 +8,11 @@ use Rattle.nb_machine.specs.Conclusions.{Conclusion, keeps, tells, fails, boots,
 use Rattle.nb_machine.specs.FirstText.{text_refusal, lines_of}
 use Rattle.nb_machine.specs.Running.{Running, anew, entered, script_within, script_in_place}
 use Rattle.nb_machine.specs.States.{State, with_images}
-use Rattle.nb_machine.specs.Scripts.{Upshot, concludes, settles, hooks_drive, goes_onward, concluded_by}
+use Rattle.nb_machine.specs.Scripts.{Upshot, concludes, settles, hooks_drive, reads_drive, boots_drive_by, goes_onward, concluded_by}
+use Rattle.nb_drivecmd.specs.declared.drive.Drive.{Drive}
 use Rattle.nb_machine.specs.Takings.{Over}
 use Rattle.nb_machine.specs.Network.{on_net0, Network, passes_by, brings, brings_reply, brings_segment, passes_time}
-use Rattle.nb_machine.specs.Courses.{Standing, ready, running, waiting, reaching, yielded, handing, left, handed_off, stopped, Progress, text_standing, ScriptLeads, ConclusionLeads, LeadsTo, StepBegins, runs, refuses, waits_on, is_answered, switches_off, resumes, goes_off, Proceeds, passes, is_left, hands_back, yields, does, closes_device, goes_to_hook, hooks_none, unhooks, concludes_there, leaves, jumps, finds_no_label, falls_asleep, opens_one, finds_no_route, opens_onward, finds_no_way, opens_no_more, hands, has_handed, Course, begins, uses, goes_on}
+use Rattle.nb_machine.specs.Courses.{Standing, ready, running, waiting, reaching, yielded, handing, left, handed_off, stopped, Progress, text_standing, ScriptLeads, ConclusionLeads, block_standing, ReadsBlock, LeadsTo, StepBegins, runs, refuses, waits_on, is_answered, switches_off, resumes, goes_off, Proceeds, passes, is_left, hands_back, yields, does, closes_device, goes_to_hook, hooks_none, unhooks, boots_hooked, concludes_there, leaves, jumps, finds_no_label, falls_asleep, opens_one, finds_no_route, opens_onward, finds_no_way, opens_no_more, hands, has_handed, Course, begins, uses, goes_on}
 use Rattle.nb_onecourse.proofs.Nexts.{what_next}
 use Rattle.nb_onecourse.proofs.OneNext.{still_proceeds}
 use Rattle.nb_onecourse.proofs.Ends.{snoc_same, snoc_some}
@@ -48,10 +49,19 @@ concluded_starts s inner outer (fails cause) put p h = subst HasStarted (sym h.1
 concluded_starts s inner outer (boots list kernel) put p h = subst HasStarted (sym h.2) tt
 concluded_starts s inner outer (runs_script list image replaces) put p h = script_starts (with_images s list) inner outer image replaces put p h
 
+block_starts : (s : State) (inner : Running) (outer : List Running) (number : ℕ) (d : Option Drive) (over : List Over) → HasStarted (block_standing s inner outer number d over)
+block_starts s inner outer number d [] = tt
+block_starts s inner outer number d (o ∷ over) = tt
+
+read_starts : (s : State) (inner : Running) (outer : List Running) (number : ℕ) (d : Option Drive) (put : List Out) (p : Standing) → ReadsBlock s inner outer number d put p → HasStarted p
+read_starts s inner outer number d put p h = subst HasStarted (sym h.stands_so) (block_starts h.next inner outer number d h.over)
+
 leads_started : (s : State) (inner : Running) (outer : List Running) (x : Upshot) (put : List Out) (p : Standing) → LeadsTo s inner outer x put p → HasStarted p
 leads_started s inner outer (concludes c) put p h = concluded_starts s inner outer c put p h
 leads_started s inner outer (settles x) put p h = subst HasStarted (sym h.1) tt
 leads_started s inner outer (hooks_drive d) put p h = subst HasStarted (sym h.1) tt
+leads_started s inner outer (reads_drive d) put p h = read_starts s inner outer d.open_number (Some d) put p h
+leads_started s inner outer (boots_drive_by d bytes) put p h = subst HasStarted (sym h.2) tt
 leads_started s inner outer (goes_onward next) put p h = subst HasStarted (sym h.1) tt
 
 -- a record that begins a step has a spelling, and is counted
@@ -81,6 +91,7 @@ proceeds_counted m a m' (closes_device n s s' inner outer c cs put over h early 
 proceeds_counted m a m' (goes_to_hook n s s' inner outer c cs hooking put next h early e drops asks) = (refl, tt)
 proceeds_counted m a m' (hooks_none n s s' inner outer c cs hooking put cause h early e drops none) = (refl, tt)
 proceeds_counted m a m' (unhooks n s s' inner outer c cs number put cause h early e drops) = (refl, tt)
+proceeds_counted m a m' (boots_hooked n s inner outer c cs number d put p h early e there reads) = (refl, read_starts s (entered inner) outer d.open_number None put p reads)
 proceeds_counted m a m' (concludes_there n s inner outer c cs x put p h early e leads) = (refl, concluded_starts s (entered inner) outer x put p leads)
 proceeds_counted m a m' (leaves n s s' inner outer c cs o h early e k) = (refl, tt)
 proceeds_counted m a m' (jumps n s inner outer c cs name line h early e k) = (refl, tt)

@@ -15,6 +15,7 @@ use Rattle.nb_machine.specs.Courses.{
   goes_to_hook,
   hooks_none,
   unhooks,
+  boots_hooked,
   concludes_there,
   leaves,
   jumps,
@@ -79,6 +80,7 @@ first_moved p q put more h (closes_device n s s' inner outer c cs put1 over at f
 first_moved p q put more h (goes_to_hook n s s' inner outer c cs hooking put1 next at few is drops asks) then = tt
 first_moved p q put more h (hooks_none n s s' inner outer c cs hooking put1 cause at few is drops asks) then = tt
 first_moved p q put more h (unhooks n s s' inner outer c cs number put1 cause at few is drops) then = tt
+first_moved p q put more h (boots_hooked n s inner outer c cs number d put1 p1 at few is there reads) then = tt
 first_moved p q put more h (concludes_there n s inner outer c cs x put1 p1 at few is leads) then = tt
 first_moved p q put more h (leaves n s s' inner outer c cs o at few is over) then = tt
 first_moved p q put more h (jumps n s inner outer c cs name line at few is there) then = tt

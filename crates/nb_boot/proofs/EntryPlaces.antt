@@ -11,7 +11,7 @@ use Rattle.nb_traced.specs.Plain.{is_graph, without_graph}
 use Rattle.nb_laws.specs.Events.{Event, starts, hears, waits, stops, puts, outputs, EachEvent, EachThen}
 use Rattle.nb_laws.specs.Histories.{client}
 use Rattle.nb_laws.specs.Lists.{Opening, live, call_at, time}
-use Rattle.nb_laws.specs.Frames.{IsSent, IsFollowed, TriesSo, IsPut, IsDue, by_call, by_stream, by_opening, stays_due}
+use Rattle.nb_laws.specs.Frames.{IsSent, IsFollowed, TriesSo, IsPut, IsDue, by_call, by_stream, by_opening, by_asking, stays_due}
 use Rattle.nb_laws.specs.Webs.{takes_segment, segment_in, came_at, ComesToNone}
 use Rattle.nb_machine.specs.Connections.{arrived_segment}
 use Rattle.nb_streams.specs.Segments.{Arrival}
@@ -140,6 +140,7 @@ due_at k es before e used (by_stream b x c is) at =
     let l = same_last b before x e at in by_some_stream k before e c (subst (λ z. came_at k z e ≡ c ∷ []) l.front (subst (λ z. came_at k b z ≡ c ∷ []) l.last is))
 due_at k es before e used (by_opening b kind server port own target) at =
     let l = same_last b before (puts (opened k kind server port own target)) e at in absurd (subst IsUsed (sym l.last) used)
+due_at k es before e used (by_asking b o c is) at = let l = same_last b before (puts o) e at in absurd (subst IsUsed (sym l.last) used)
 due_at k es before e used (stays_due b o due) at = let l = same_last b before (puts o) e at in absurd (subst IsUsed (sym l.last) used)
 
 -- WHERE A RECORD STANDS

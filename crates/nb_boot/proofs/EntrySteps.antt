@@ -1,7 +1,7 @@
 -- What a run used and wrote agrees with its history: how each step begins, what entered the opens, and where what they sent stands.
 use Rattle.std.specs.List.{list_any}
 use Rattle.std.proofs.lemmas.Option.{none-some, same_Some}
-use Rattle.std.proofs.Common.{◌≡◌, ◌⊎◌, inl, inr, ℕ, ◌+◌, ◌==◌, true, false, cond, List, [], ◌∷◌, ◌++◌, map, filter, Option, Some, None, add-zero, refl, sym, ◌∙◌, ap, subst, append_assoc, append-nil}
+use Rattle.std.proofs.Common.{◌≡◌, ◌⊎◌, inl, inr, ℕ, ◌+◌, ◌==◌, true, false, cond, List, [], ◌∷◌, ◌++◌, map, filter, Option, Some, None, IsSome, option_and_then, add-zero, refl, sym, ◌∙◌, ap, subst, append_assoc, append-nil}
 use Rattle.nb_defs.specs.Records.{In, Out, step, sent, tried, result, graph}
 use Rattle.nb_ledger.specs.Flat.{way_number}
 use Rattle.nb_stack.specs.Brings.{Brought}
@@ -11,17 +11,19 @@ use Rattle.nb_machine.specs.Courses.{Progress, Course}
 use Rattle.nb_laws.specs.Events.{Event, starts, hears, waits, stops, puts, outputs, EachEvent, EachThen}
 use Rattle.nb_laws.specs.Histories.{IsHistory, client}
 use Rattle.nb_laws.specs.Lists.{Opening, gathered, live, made}
-use Rattle.nb_laws.specs.Endings.{off_by, is_off, closes_off, closes_down, closes_booted}
-use Rattle.nb_laws.specs.CommandsSoFar.{CommandsSoFar, so_far, comes_after, ComesTo}
+use Rattle.nb_laws.specs.Endings.{off_by, is_off, closes_off, closes_down, closes_booted, closes_booted_disk}
+use Rattle.nb_laws.specs.CommandsSoFar.{CommandsSoFar, so_far, comes_by, comes_after, booted_in, booted_drive, ComesTo}
 use Rattle.nb_laws.specs.Frames.{TriesSo}
-use Rattle.nb_laws.specs.Hookings.{is_on_open, OnlyDrivesLive, NamesDrive, by_unhook, by_hooking, LetsGo}
+use Rattle.nb_laws.specs.Hookings.{is_on_open, OnlyDrivesLive, boots_hooking, boots_hooked, NamesDrive, by_unhook, by_hooking, LetsGo}
 use Rattle.nb_laws.specs.Moves.{moves}
-use Rattle.nb_laws.specs.Progress.{IsResumed, by_live, by_count, by_sleep, StepsSo}
+use Rattle.nb_laws.specs.Progress.{IsResumed, by_live, by_reading, by_count, by_sleep, StepsSo}
 use Rattle.nb_machine.specs.Effects.{Effect, ShownWords, sleeps, shuts_device, hooks_disk, unhooks_drive}
 use Rattle.nb_terms.specs.declared.cause.Cause.{Cause}
 use Rattle.nb_defs.specs.Causes.{ok}
-use Rattle.nb_drivecmd.specs.HookedDrives.{is_drive}
+use Rattle.nb_drivecmd.specs.declared.drive.Drive.{Drive}
+use Rattle.nb_drivecmd.specs.HookedDrives.{is_drive, drive_numbered}
 use Rattle.nb_laws.specs.Webs.{ComesToNone}
+use Rattle.nb_laws.proofs.Bootings.{after_unbooted}
 use Rattle.nb_laws.proofs.Histories.{each_append, one_history}
 use Rattle.nb_laws.proofs.Tellings.{told, made_more}
 use Rattle.std.proofs.lemmas.List.Sums.{fold-append}
@@ -105,6 +107,13 @@ comes_once : (es : List Event) (n : ℕ) (d e : Effect) → ComesTo es n d → C
 comes_once es n d e (shown, said, is) (words, told_so, at) =
     sym is ∙ ap (λ (x : ShownWords). comes_after n (so_far es) x (moves es)) (same_Some shown words (sym said ∙ told_so)) ∙ at
 
+-- nor do those that boot a hooked drive come to anything else
+boots_only : (es : List Event) (n : ℕ) (drive : Drive) (e : Effect) → booted_drive (so_far es) ≡ Some drive → booted_in e ≡ None → ComesTo es n e → ⊥
+boots_only es n drive e booted none (shown, said, is) =
+    let words : option_and_then (λ x. booted_in (comes_by 0 (so_far es) x)) (so_far es).shown ≡ None =
+    ap (option_and_then (λ x. booted_in (comes_by 0 (so_far es) x))) said ∙ after_unbooted n (so_far es) shown (moves es) e none is in
+    none-some drive (sym (ap (option_and_then (λ number. drive_numbered number (so_far es).drives)) words) ∙ booted)
+
 none_left : (es : List Event) (n : ℕ) (e : Effect) → Solitude es → ComesTo es n e → (so_far es).left ≡ None
 none_left es n e a (shown, said, is) = by (so_far es).left refl
   where
@@ -115,6 +124,9 @@ none_left es n e a (shown, said, is) = by (so_far es).left refl
 -- where a record may be used, no command closes an open
 not_shutting : (es : List Event) → Solitude es → IsResumed es → (so_far es).is_open ≡ true → ComesTo es (made es) shuts_device → ⊥
 not_shutting es a (by_live k o lives still own) on comes = not_shut es k a own still (none_left es (made es) shuts_device a comes) comes
+not_shutting es a (by_reading k o lives still (boots_hooking disk has is)) on comes =
+    let no : hooks_disk disk.hooking ≡ shuts_device = comes_once es (made es) (hooks_disk disk.hooking) shuts_device disk.names comes in cc no
+not_shutting es a (by_reading k o lives still (boots_hooked drive none booted is)) on comes = boots_only es (made es) drive shuts_device booted refl comes
 not_shutting es a (by_count full over) on comes = let no : false ≡ true = sym over ∙ on in cc no
 not_shutting es a (by_sleep seconds still asleep) on comes = let no : sleeps seconds ≡ shuts_device = comes_once es (made es) (sleeps seconds) shuts_device asleep comes in cc no
 
@@ -122,8 +134,14 @@ not_named : (es : List Event) (seconds number : ℕ) → ComesTo es (made es) (s
 not_named es seconds number asleep (by_unhook cause comes) = let no : sleeps seconds ≡ unhooks_drive number cause = comes_once es (made es) (sleeps seconds) (unhooks_drive number cause) asleep comes in cc no
 not_named es seconds number asleep (by_hooking hooking comes is) = let no : sleeps seconds ≡ hooks_disk hooking = comes_once es (made es) (sleeps seconds) (hooks_disk hooking) asleep comes in cc no
 
+not_named_booting : (es : List Event) (drive : Drive) (number : ℕ) → booted_drive (so_far es) ≡ Some drive → NamesDrive es number → ⊥
+not_named_booting es drive number booted (by_unhook cause comes) = boots_only es (made es) drive (unhooks_drive number cause) booted refl comes
+not_named_booting es drive number booted (by_hooking hooking comes is) = boots_only es (made es) drive (hooks_disk hooking) booted refl comes
+
 not_letting : (es : List Event) (k : ℕ) → IsResumed es → LetsGo k es → ⊥
 not_letting es k (by_live j o lives still own) lets = none-some _ (sym lets.first ∙ own)
+not_letting es k (by_reading j o lives still (boots_hooking disk has is)) lets = let no : false ≡ true = subst IsSome lets.first has in cc no
+not_letting es k (by_reading j o lives still (boots_hooked drive none booted is)) lets = not_named_booting es drive lets.number booted lets.names
 not_letting es k (by_count full over) lets = let no : false ≡ true = sym over ∙ lets.still in cc no
 not_letting es k (by_sleep seconds still asleep) lets = not_named es seconds lets.number asleep lets.names
 
@@ -165,6 +183,7 @@ heard_none es n b m k a resumed (inl (closes_down still comes)) =
     not_shutting es a resumed (ap (λ (x : CommandsSoFar). x.is_open) (sym (so_far_more es (hears n b m))) ∙ still)
     (heard_same es n b m (made es) shuts_device (subst (λ z. ComesTo (es ++ hears n b m ∷ []) z shuts_device) (heard_made es n b m) comes))
 heard_none es n b m k a resumed (inl (closes_booted booted)) = let w = boots_written es booted.before (hears n b m) (result ok) booted.since booted.ends in let no : hears n b m ≡ puts w.0 = w.1 in cc no
+heard_none es n b m k a resumed (inl (closes_booted_disk booted)) = let w = boots_written es booted.before (hears n b m) (result ok) booted.since booted.ends in let no : hears n b m ≡ puts w.0 = w.1 in cc no
 heard_none es n b m k a resumed (inr lets) = not_letting es k resumed (heard_letting es n b m k lets)
 
 -- no open is closed directly after a STEP

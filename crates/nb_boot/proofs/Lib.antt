@@ -29,6 +29,7 @@ pub mod EntryOpens
 pub mod EntryPlaces
 pub mod EntrySteps
 pub mod Booted
+pub mod Sectors
 pub mod Showing
 mod PortLemmas
 mod PeerLemmas

@@ -11,8 +11,10 @@ use Rattle.nb_machine.specs.States.{State}
 use Rattle.nb_machine.specs.Courses.{Standing, handed_off, stands, Progress, Course}
 use Rattle.nb_laws.specs.Events.{Event}
 use Rattle.nb_image.specs.Images.{ImageList}
-use Rattle.nb_laws.specs.HandOff.{HandsOff, IsFileOf}
+use Rattle.nb_laws.specs.HandOff.{HandsOff, HandsDiskOff, IsFileOf}
 use Rattle.nb_laws.specs.Histories.{IsHistory}
+use Rattle.nb_laws.specs.Lawful.{HandsAsBrought}
+use Rattle.nb_laws.proofs.FirstBlocks.{hands_their_block}
 use Rattle.nb_laws.proofs.Theirs.{brings_theirs}
 use Rattle.nb_openlaws.specs.Standings.{AgreesStanding}
 use Rattle.nb_lawful.proofs.CourseLaws.{has_one, hands_off, keeps_todays, stands_so}
@@ -24,12 +26,13 @@ use Rattle.nb_traced.proofs.Following.{opens_have_pieces, numbers_rise, leaves_t
 use Rattle.nb_client.specs.Progressing.{ShutsStanding}
 use Rattle.nb_boot.specs.Stepped.{ShutsLive}
 use Rattle.nb_boot.specs.Run.{Run, IsOver, Says, Shows}
-use Rattle.nb_boot.specs.Shown.{EndsWhere, was_left, was_handed, was_stopped, ran_out, was_bad, was_full, SaysOfGraph, LeadsToNone, Shown, RunHasEnded, HandsTrueFiles, IsSaid, ShowsCourse}
-use Rattle.nb_boot.proofs.Booted.{boots_silently}
+use Rattle.nb_boot.specs.Shown.{EndsWhere, was_left, was_handed, was_stopped, ran_out, was_bad, was_full, SaysOfGraph, LeadsToNone, Shown, RunHasEnded, HandsTrueFiles, HandsTrueBlock, IsSaid, ShowsCourse}
+use Rattle.nb_boot.proofs.Booted.{boots_silently, boots_disk_silently}
 use Rattle.nb_boot.proofs.EntryAlone.{course_known}
 use Rattle.nb_boot.proofs.EntryArrivals.{shuts_live}
 use Rattle.nb_boot.proofs.EntrySteps.{run_agrees}
 use Rattle.nb_boot.proofs.Following.{follows_course}
+use Rattle.nb_boot.proofs.Sectors.{sectors_are_booted}
 use Rattle.nb_traced.proofs.WhoseEvents.{events_are_theirs, opens_take_all, puts_follow}
 use Rattle.nb_traced.proofs.WhoseMades.{mades_are_theirs}
 
@@ -66,6 +69,10 @@ pub either_shuts : (es : List Event) (p : Standing) (closing : List Out) → Agr
 either_shuts es p closing a (inl none) = inl none
 either_shuts es p closing a (inr shuts) = inr (shuts_live es p closing a shuts)
 
+-- its PARTs are of a hand-off
+pub handed_so : (ins : List In) (outs : List Out) (p : Progress) (es : List Event) → Course ins outs p → IsHistory ins outs es → HandsAsBrought es outs
+handed_so ins outs p es c h = subst (HandsAsBrought es) (sym h.written) (keeps_todays ins outs p es c h).parts
+
 -- the history of a run
 abbrev pub history_of : (before after : Outside) (r : Run before after) → (es : List Event) × IsHistory r.ins (without_graph r.outs) es × ((other : List Event) → IsHistory r.ins (without_graph r.outs) other → other ≡ es)
 history_of before after r = has_one r.ins (without_graph r.outs) r.progress (follows_course r.ins r.outs r.progress r.came r.follows)
@@ -101,6 +108,9 @@ shown_by before after r =
       shuts = either_shuts es r.progress.standing r.closing (stands_so r.ins (without_graph r.outs) r.progress es course is).0 r.shuts;
       contents = (run_agrees r.ins r.outs r.closing r.progress r.came r.holdings r.at_end es r.follows r.traced r.traced_all is).1;
       silent = boots_silently es (course_known r.ins (without_graph r.outs) r.progress es course is);
+      silent_disk = boots_disk_silently es (course_known r.ins (without_graph r.outs) r.progress es course is);
+      sectors = sectors_are_booted es (without_graph r.outs) (handed_so r.ins (without_graph r.outs) r.progress es course is);
+      blocks = λ rest hands. hands_their_block es (without_graph r.outs) rest hands;
     }
 
 ended_by : (before after : Outside) (r : Run before after) (number : ℕ) → IsOver before after r number → RunHasEnded before after (shown_by before after r) number
@@ -129,15 +139,21 @@ has_handed_off p rest o (was_bad few bad e) = absurd (let no : ◌≡◌ {A = �
 has_handed_off p rest o (was_full full waits more e) = absurd (let no : ◌≡◌ {A = ℕ} 0 11 = e in cc)
 
 -- what is handed off was brought, and is the servers'
-hands_all : (ins : List In) (outs : List Out) (p : Progress) (es : List Event) (s : State) → p.standing ≡ handed_off s → Course ins outs p → IsHistory ins outs es → HandsOff es outs []
+hands_all : (ins : List In) (outs : List Out) (p : Progress) (es : List Event) (s : State) → p.standing ≡ handed_off s → Course ins outs p → IsHistory ins outs es → HandsOff es outs [] ⊎ HandsDiskOff es outs []
 hands_all ins outs p es s at c h = hands_off ins outs p.used s es (subst (λ z. Course ins outs (stands p.used z)) at c) h
 
-theirs : (before after : Outside) (r : Run before after) → EndsWhere r.progress r.rest after 0 → HandsTrueFiles before after (shown_by before after r)
+either_theirs : (before after : Outside) (r : Run before after) → HandsOff (history_of before after r).0 (without_graph r.outs) [] ⊎ HandsDiskOff (history_of before after r).0 (without_graph r.outs) [] →
+    HandsTrueFiles before after (shown_by before after r) ⊎ HandsTrueBlock before after (shown_by before after r)
+either_theirs before after r (inl hands) =
+    let es = (history_of before after r).0 in
+    inl (hands, λ store honest. subst (λ (z : ImageList). AllByRecursion (IsFileOf store es) z.images) (sym hands.list_is) (brings_theirs es store honest))
+either_theirs before after r (inr hands) = inr (hands, hands_their_block (history_of before after r).0 (without_graph r.outs) [] hands)
+
+theirs : (before after : Outside) (r : Run before after) → EndsWhere r.progress r.rest after 0 → HandsTrueFiles before after (shown_by before after r) ⊎ HandsTrueBlock before after (shown_by before after r)
 theirs before after r e =
     let (s, at) = has_handed_off r.progress r.rest after e in
     let t = history_of before after r in
-    let hands = hands_all r.ins (without_graph r.outs) r.progress t.0 s at (follows_course r.ins r.outs r.progress r.came r.follows) t.1 in
-    (hands, λ store honest. subst (λ (z : ImageList). AllByRecursion (IsFileOf store t.0) z.images) (sym hands.list_is) (brings_theirs t.0 store honest))
+    either_theirs before after r (hands_all r.ins (without_graph r.outs) r.progress t.0 s at (follows_course r.ins r.outs r.progress r.came r.follows) t.1)
 
 pub said : (s : Status) (before after : Outside) (r : Run before after) → Says s before after r → IsSaid s before after (shown_by before after r)
 said status.HandedOff before after r h = (ended_by before after r 0 h, theirs before after r h.ends)

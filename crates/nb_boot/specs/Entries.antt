@@ -101,8 +101,8 @@ pub record EntriesAgree (outs closing : List Out) (history : List Event) : Type 
   pub without : plain whole ≡ history
   -- the lowest object of each open is entered from outside once for each datagram, echo reply, segment and time that comes to the open, in that step
   pub entered : (k : ℕ) → entries k outs ≡ arrivals k history
-  -- what it sends stands within those entries, or those of its beginning and its close, and nothing that an open sends stands elsewhere; but beside
-  -- a hooked drive what it sends without a TRY may stand within those of another that lives
+  -- what it sends stands within those entries, or those of its beginning, of a read that it is asked for and of its close, and nothing that an open
+  -- sends stands elsewhere; but beside a hooked drive what it sends without a TRY may stand within those of another that lives
   pub leaves : EachEvent LeavesSo [] whole
   -- no two opens have the same lowest object
   pub own : (j k x : ℕ) → (graph_so_far (outs ++ closing)).lowest j ≡ Some x → (graph_so_far (outs ++ closing)).lowest k ≡ Some x → j ≡ k

@@ -11,7 +11,7 @@ use Rattle.nb_runner.specs.declared.status.Status.TheVariants as status
 use Rattle.nb_machine.specs.Courses.{Standing, ready, running, waiting, reaching, yielded, handing, left, handed_off, stopped, Progress, Course}
 use Rattle.nb_laws.specs.Events.{Event}
 use Rattle.nb_laws.specs.Histories.{IsHistory}
-use Rattle.nb_laws.specs.HandOff.{HandsOff, HandsTheirs, BringTheirs}
+use Rattle.nb_laws.specs.HandOff.{HandsOff, HandsTheirs, BringTheirs, HandsDiskOff, HandsTheirBlock}
 use Rattle.nb_laws.specs.Lawful.{IsLawful}
 use Rattle.nb_machine.specs.States.{State}
 use Rattle.nb_machine.specs.Closings.{Shuts}
@@ -24,7 +24,7 @@ use Rattle.nb_traced.specs.Places.{LowestAreTheirs, LowestAreOwn, FramesStand, T
 use Rattle.nb_boot.specs.InTurn.{MayGoOn, AreInTurn}
 use Rattle.nb_boot.specs.Stepped.{AreStepped, ShutsLive}
 use Rattle.nb_boot.specs.Entries.{EntriesAgree}
-use Rattle.nb_boot.specs.Booting.{BootsSilently}
+use Rattle.nb_boot.specs.Booting.{BootsSilently, BootsDiskSilently, SectorsAreBooted}
 use Rattle.nb_traced.specs.Whose.{EventsAreTheirs, MadesAreTheirs, OpensTakeAll, PutsFollow}
 
 -- a record other than START
@@ -170,6 +170,12 @@ pub record Shown (before after : Outside) : Type 0 where
   pub contents : EntriesAgree outs closing history
   -- where no drive is hooked as a command boots, no FRAME stands after its RESULT
   pub silent : BootsSilently history
+  -- nor where it boots a disk whose open has ended by then
+  pub silent_disk : BootsDiskSilently history
+  -- each PART of a drive's first block is of the hand-off of the disk that a command boots
+  pub sectors : SectorsAreBooted history (without_graph outs)
+  -- and where servers send what they hold, that block is the first one of the disk that the drive's server holds
+  pub blocks : (rest : List Out) (hands : HandsDiskOff history (without_graph outs) rest) → HandsTheirBlock history (without_graph outs) rest hands
 
 -- the run has ended, for a cause of this number, and all was taken, DONE last; no object of the graph lives then
 pub record RunHasEnded (before after : Outside) (r : Shown before after) (number : ℕ) : Type 0 where
@@ -195,13 +201,18 @@ pub record WasUnread (before after : Outside) (r : Shown before after) : Type 0 
 abbrev pub HandsTrueFiles : (before after : Outside) → Shown before after → Type 0
 HandsTrueFiles before after r = (hands : HandsOff r.history (without_graph r.outs) []) × HandsTheirs r.history (without_graph r.outs) [] hands
 
+-- It ends with the hand-off of the first block of the disk that the last command boots; and where servers send what they hold, that is the first
+-- block of the disk which the server of that open holds.
+abbrev pub HandsTrueBlock : (before after : Outside) → Shown before after → Type 0
+HandsTrueBlock before after r = (hands : HandsDiskOff r.history (without_graph r.outs) []) × HandsTheirBlock r.history (without_graph r.outs) [] hands
+
 -- memory ran out: nothing closes the output, or some of it is missing
 abbrev pub LeftUnclosed : (before after : Outside) → Shown before after → Type 0
 LeftUnclosed before after r = (r.closing ≡ []) ⊎ (0 < length r.lost)
 
 -- What a status says of what is shown. The output ends with DONE, and is whole, where `RunHasEnded` stands; for no other.
 abbrev pub IsSaid : Status → (before after : Outside) → Shown before after → Type 0
-IsSaid status.HandedOff before after r = RunHasEnded before after r 0 × HandsTrueFiles before after r
+IsSaid status.HandedOff before after r = RunHasEnded before after r 0 × (HandsTrueFiles before after r ⊎ HandsTrueBlock before after r)
 IsSaid status.Ended before after r = RunHasEnded before after r 3
 IsSaid status.ScriptFailed before after r = RunHasEnded before after r 4
 IsSaid status.Unfinished before after r = RunHasEnded before after r 5

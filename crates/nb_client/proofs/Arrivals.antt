@@ -1,4 +1,4 @@
--- A record that comes to no open ends none.
+-- A record that comes to no open ends none, and all stay as they are.
 use Rattle.std.proofs.Common.{◌≡◌, ℕ, ◌+◌, Bool, true, false, ◌||◌, List, [], ◌∷◌, ◌++◌, Some, refl, sym, ◌∙◌, ap, subst}
 use Rattle.std.specs.Prelude.{map, slice_get}
 use Rattle.std.specs.List.{list_any}
@@ -23,8 +23,8 @@ any_at f (y ∷ xs) ys x is = or_true (f y) (list_any f (xs ++ x ∷ ys)) (any_a
     or_true false b e = e
 
 -- no open is there to take it
-none_take : {devices : List Client} {came : OpenInput} {put : List Out} {after : List Live} {over : List Over} → AllTake devices came [] put after over → over ≡ []
-none_take all_have = refl
+none_take : {devices : List Client} {came : OpenInput} {put : List Out} {after : List Live} {over : List Over} → AllTake devices came [] put after over → (over ≡ []) × (after ≡ [])
+none_take all_have = (refl, refl)
 
 no_live : {A : Type 0} (f : Live → A) (ls : List Live) → map f ls ≡ [] → ls ≡ []
 no_live f [] e = refl
@@ -40,9 +40,13 @@ not_for s device link link' bytes m m' get get' b b' none one =
     let both : is_for_one device m' s.live ≡ false = subst (λ x. is_for_one device x s.live ≡ false) said none in
     let never : true ≡ false = sym one ∙ both in cc
 
+-- nothing ends, and all live on
+abbrev pub NothingMoves : State → State → List Over → Type 0
+NothingMoves s s' overs = (overs ≡ []) × (s'.live ≡ s.live)
+
 by_frame : (s : State) (n : ℕ) (bytes : List ℕ) (link : Client) (m : Brought) (put : List Out) (s' : State) (overs : List Over) → slice_get s.devices 0 ≡ Some link → Brings link.up link.mac link.address bytes m → is_for_one 0 m s.live ≡ false →
-    Network s n (frame bytes) put s' overs → overs ≡ []
-by_frame s n bytes link m put s' overs get b none (passes_by _ device _ link' m' on get' b' free) = refl
+    Network s n (frame bytes) put s' overs → NothingMoves s s' overs
+by_frame s n bytes link m put s' overs get b none (passes_by _ device _ link' m' on get' b' free) = (refl, refl)
 by_frame s n bytes link m put s' overs get b none (brings _ _ _ link' p d before behind after l _ _ (on_net0 _) get' b' live is x y take) =
     absurd (not_for s 0 link link' bytes m (datagram p d) get get' b b' none (subst (λ ls. list_any (is_for 0 p d) ls ≡ true) (sym live) (any_at (is_for 0 p d) before behind l is)))
 by_frame s n bytes link m put s' overs get b none (brings_reply _ _ _ link' p e before behind after l _ _ (on_net0 _) get' b' live is x y take) =
@@ -50,16 +54,18 @@ by_frame s n bytes link m put s' overs get b none (brings_reply _ _ _ link' p e 
 by_frame s n bytes link m put s' overs get b none (brings_segment _ _ _ link' from p g before behind after l _ _ (on_net0 _) get' b' live is x y take) =
     absurd (not_for s 0 link link' bytes m (segment from p g) get get' b b' none (subst (λ ls. list_any (is_segment_for 0 p g) ls ≡ true) (sym live) (any_at (is_segment_for 0 p g) before behind l is)))
 
-by_tick : (s : State) (n ms : ℕ) (put : List Out) (s' : State) (overs : List Over) → s.live ≡ [] → Network s n (tick ms) put s' overs → overs ≡ []
-by_tick s n ms put s' overs none (passes_time _ after _ _ take) = none_take (subst (λ ls. AllTake s.devices (time (s.now + ms)) ls put after overs) none take)
-by_tick s n ms put s' overs none (passes_by _ device _ link m on get b free) = refl
+by_tick : (s : State) (n ms : ℕ) (put : List Out) (s' : State) (overs : List Over) → s.live ≡ [] → Network s n (tick ms) put s' overs → NothingMoves s s' overs
+by_tick s n ms put s' overs none (passes_time _ after _ _ take) =
+    let t = none_take (subst (λ ls. AllTake s.devices (time (s.now + ms)) ls put after overs) none take) in
+    (t.0, t.1 ∙ sym none)
+by_tick s n ms put s' overs none (passes_by _ device _ link m on get b free) = (refl, refl)
 by_tick s n ms put s' overs none (brings _ device _ link p d before behind after l _ _ on get b live is x y take) = elim on [ ]
 by_tick s n ms put s' overs none (brings_reply _ device _ link p e before behind after l _ _ on get b live is x y take) = elim on [ ]
 by_tick s n ms put s' overs none (brings_segment _ device _ link from p g before behind after l _ _ on get b live is x y take) = elim on [ ]
 
-pub none_ends : (s : State) (n : ℕ) (r : In) (put : List Out) (s' : State) (overs : List Over) (came : List Arrived) → ArrivesAt s n r came → came ≡ [] → Network s n r put s' overs → overs ≡ []
-none_ends s n r put s' overs came (at_none _ _ bytes link m (on_net0 _) get b free) none net = by_frame s n bytes link m put s' overs get b free net
-none_ends s n r put s' overs came (at_port _ device bytes link p d before behind l on get b live is front back) none net = absurd (cc)
-none_ends s n r put s' overs came (at_echo _ device bytes link p e before behind l on get b live is front back) none net = absurd (cc)
-none_ends s n r put s' overs came (at_connection _ device bytes link from p g before behind l on get b live is front back) none net = absurd (cc)
-none_ends s n r put s' overs came (at_all ms) none net = by_tick s n ms put s' overs (no_live _ s.live none) net
+pub none_moves : (s : State) (n : ℕ) (r : In) (put : List Out) (s' : State) (overs : List Over) (came : List Arrived) → ArrivesAt s n r came → came ≡ [] → Network s n r put s' overs → NothingMoves s s' overs
+none_moves s n r put s' overs came (at_none _ _ bytes link m (on_net0 _) get b free) none net = by_frame s n bytes link m put s' overs get b free net
+none_moves s n r put s' overs came (at_port _ device bytes link p d before behind l on get b live is front back) none net = absurd (cc)
+none_moves s n r put s' overs came (at_echo _ device bytes link p e before behind l on get b live is front back) none net = absurd (cc)
+none_moves s n r put s' overs came (at_connection _ device bytes link from p g before behind l on get b live is front back) none net = absurd (cc)
+none_moves s n r put s' overs came (at_all ms) none net = by_tick s n ms put s' overs (no_live _ s.live none) net

@@ -24,7 +24,7 @@ use Rattle.nb_client.specs.Progressing.{LeadsToSnapshot, TracesTo, most_moves}
 use Rattle.nb_client.specs.Snapshots.{Snapshot, snapshot, state_of_world}
 use Rattle.nb_client.specs.Turning.{MovesOn, found_by_script, left_by}
 use Rattle.nb_client.specs.declared.asked.Asked.{Asked}
-use Rattle.nb_client.specs.declared.asked.Asked.TheVariants.{File, Query as Exchange, Disk}
+use Rattle.nb_client.specs.declared.asked.Asked.TheVariants.{File, Query as Exchange, Disk, Block}
 use Rattle.nb_runner.specs.declared.query.Query.TheVariants as query
 use Rattle.nb_client.specs.declared.site.Site.{Site}
 use Rattle.nb_client.specs.declared.stage.Stage.TheVariants as stage
@@ -43,6 +43,7 @@ doing_asked w now live (Exchange q) s ws x =
     let vs = x.name ∷ x.args in
     ap (doing_by (state_of_world w live) (table_after w.state.table vs) (up_after w.state.table w.state.up vs)) x.asks_so ∙ ap (λ v. opens_in v live (Exchange q)) (sym x.world_is)
 doing_asked w now live (Disk disk) s ws x = absurd x.no_disk
+doing_asked w now live (Block d) s ws x = absurd x.no_disk
 
 -- its open has the next number, and its end is awaited
 awaited_plain : (t : State) (a : Asked) → IsNoDisk a → awaited_asked a t.opens ≡ answer (live_asked t a).number
@@ -52,6 +53,7 @@ awaited_plain t (Exchange (query.Echo server)) none = refl
 awaited_plain t (Exchange (query.Address setting name by)) none = refl
 awaited_plain t (Exchange (query.Host errand name by)) none = refl
 awaited_plain t (Disk disk) none = absurd none
+awaited_plain t (Block d) none = absurd none
 
 leads_asked : (n : ℕ) (w now : World) (live : List Live) (a : Asked) (s : Running) (ws : List (List ℕ)) (put : List Out) (after : Snapshot) → s.begun < 4096 → AsksFor w a s ws now →
     IsOpenedIn (state_of_world now live) (live_asked (state_of_world now live) a) (answer (live_asked (state_of_world now live) a).number) (job_asked a) (entered s) w.outer n put after →

@@ -1,5 +1,5 @@
 -- The open that is next makes a move, or no more may be made.
-use Rattle.std.proofs.Common.{◌≡◌, ℕ, ◌+◌, ◌*◌, ◌<◌, ◌≤◌, List, [], ◌∷◌, ◌++◌, refl, sym, ◌∙◌, ap, subst, append-nil, append_assoc, arith}
+use Rattle.std.proofs.Common.{◌≡◌, ℕ, ◌+◌, ◌*◌, ◌<◌, ◌≤◌, List, [], ◌∷◌, ◌++◌, None, refl, sym, ◌∙◌, ap, subst, append-nil, append_assoc, arith}
 use Rattle.std.specs.List.{AllByRecursion}
 use Rattle.nb_terms.specs.declared.cause.Cause.{Cause}
 use Rattle.nb_defs.specs.Records.{Out, result}
@@ -10,7 +10,6 @@ use Rattle.nb_machine.specs.Lives.{Live}
 use Rattle.nb_machine.specs.Scripts.{Awaited, awaited_onward, job_onward, live_onward}
 use Rattle.nb_machine.specs.Running.{Running, with_result}
 use Rattle.nb_network.specs.Many.{IsUntied}
-use Rattle.nb_network.specs.declared.living.Living.{Living as Open}
 use Rattle.nb_traced.specs.Plain.{without_graph}
 use Rattle.nb_traced.proofs.Plain.{plain_behind}
 use Rattle.nb_record.specs.Logged.{Logged}
@@ -25,11 +24,12 @@ use Rattle.nb_client.specs.Asked.{asked_onward, awaited_asked, job_asked, live_a
 use Rattle.nb_client.specs.Openings.{IsOpenedIn, OpensNext, opens_it, opens_none, sets_out, turns_back}
 use Rattle.nb_client.specs.Progressing.{LeadsToSnapshot, TracesTo, most_moves}
 use Rattle.nb_client.specs.Snapshots.{Snapshot, at_running, snapshot, state_of_world}
-use Rattle.nb_client.specs.Soundness.{IsSound, kept_drives}
+use Rattle.nb_client.specs.Soundness.{IsSound}
 use Rattle.nb_client.specs.Turning.{MovesOn}
 use Rattle.nb_client.specs.declared.pending.Next.{Next}
 use Rattle.nb_client.specs.declared.site.Site.{Site}
 use Rattle.nb_client.specs.declared.stage.Stage.TheVariants as stage
+use Rattle.nb_client.proofs.HookedDrives.{same_hooked}
 use Rattle.nb_client.proofs.Moves.{one_move}
 use Rattle.nb_client.proofs.Standing.{stands_at}
 
@@ -145,7 +145,7 @@ next_goes {old} {new} s k before after sound (opens_none now full used world is 
           short = sound.short;
           named = sound.named;
           linked = sound.linked;
-          hooked = subst (λ (os : List Open). kept_drives os w.state.drives ≡ w.state.drives) (sym lets.same_list) sound.hooked;
+          hooked = same_hooked None before.opens now.opens w.state.drives lets.same_list (λ live are. (lets.state w.net w.time (state_of_world w live) (record { devices = refl; time = refl; live = are })).live) sound.hooked;
         };
         under_way = tt;
       };

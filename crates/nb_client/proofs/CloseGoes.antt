@@ -1,5 +1,5 @@
 -- A run that is ended, or whose power is switched off: all that lives is closed.
-use Rattle.std.proofs.Common.{map, ◌≡◌, ℕ, ◌+◌, ◌≤◌, List, [], ◌∷◌, ◌++◌, Result, Ok, Err, OnOk, refl, sym, ◌∙◌, ap, subst, append-nil, append_assoc, arith}
+use Rattle.std.proofs.Common.{map, ◌≡◌, ℕ, ◌+◌, ◌≤◌, List, [], ◌∷◌, ◌++◌, Result, Ok, Err, OnOk, refl, sym, ◌∙◌, ap, subst, append-nil, append_assoc, arith, None}
 use Rattle.nb_terms.specs.declared.cause.Cause.{Cause}
 use Rattle.nb_defs.specs.Records.{off, Out, out_texts, step, done}
 use Rattle.nb_record.specs.Logged.{Logged, Puts}
@@ -20,6 +20,7 @@ use Rattle.nb_client.specs.declared.site.Site.{Site}
 use Rattle.nb_client.specs.declared.stage.Stage.{Stage}
 use Rattle.nb_client.specs.declared.stage.Stage.TheVariants as stage
 use Rattle.nb_client.proofs.CloseStanding.{ShutsMany, shuts_at, shuts_first}
+use Rattle.nb_client.proofs.HookedDrives.{none_hooked}
 use Rattle.nb_client.proofs.Served.{state_is}
 use Rattle.nb_client.proofs.Traces.{trace_apart}
 
@@ -35,7 +36,7 @@ closed_sound {order} {cause} {first} {front} {before} {after} {old} {new} {used}
   short = rw k.world sound.short;
   named = rw k.world sound.named;
   linked = rw k.world (record { address = sound.linked.address; up = sound.linked.up });
-  hooked = rw k.world refl;
+  hooked = none_hooked None after.opens after.world.state.drives k.none (ap (λ (w : World). w.state.drives) k.world);
 }
 
 pub shuts_many : {first : List GraphObject} {front : List Out} {before after : Site} {old new : Logged} (k : ShutsAll first front before after old new) → ShutsMany before.world before.opens k.records

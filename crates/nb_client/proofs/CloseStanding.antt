@@ -50,7 +50,7 @@ none_waits w m c none is = let no : Some c ≡ None = sym is ∙ none in cc
 
 -- it waits beside the opens that live
 pub beside_at : (st : Stage) (w : WaitingChain) (world : World) (m : Many) (c : Chain) → IsWaitingAt st w → StandsWell st world m → w.chain ≡ Some c → WaitsBeside w.kind c m
-beside_at (stage.Waiting s (Open p)) w world m c at well is = subst (λ k. WaitsBeside k c m) (sym at.0) (well.0.waiting.beside c (sym at.1 ∙ is))
+beside_at (stage.Waiting s (Open p)) w world m c at well is = subst (λ k. WaitsBeside k c m) (sym at.0) (well.asked.waiting.beside c (sym at.1 ∙ is))
 beside_at (stage.Reaching s k) w world m c at well is = subst (λ x. WaitsBeside x c m) (sym at.0) (well.2.waiting.beside c (sym at.1 ∙ is))
 beside_at stage.Ready w world m c at well is = none_waits w m c at is
 beside_at (stage.Running s) w world m c at well is = none_waits w m c at is

@@ -11,7 +11,9 @@ use Rattle.nb_command.specs.Planning.{planned}
 use Rattle.nb_runner.specs.declared.world.World.{World}
 use Rattle.nb_runner.specs.World.{IsLinkOfState, world_with, world_with_images}
 use Rattle.nb_runner.specs.ImageDeeds.{IsConcludedWell, conclusion_of}
-use Rattle.nb_runner.specs.Intents.{intent_effect}
+use Rattle.nb_drivecmd.specs.declared.drive.Drive.{Drive}
+use Rattle.nb_runner.specs.Drives.{MayIntend}
+use Rattle.nb_runner.specs.Intents.{IsAskable, intent_effect}
 use Rattle.nb_runner.specs.declared.images.Conclusion.{Conclusion}
 use Rattle.nb_runner.specs.declared.intent.Intent.{Intent}
 use Rattle.nb_runner.specs.declared.intent.Intent.TheVariants as intent
@@ -84,6 +86,7 @@ settled_intent x (intent.Asks query) = refl
 settled_intent x (intent.Fetches wanted) = refl
 settled_intent x (intent.Hooks hooking) = refl
 settled_intent x (intent.LetsGo number cause) = refl
+settled_intent x (intent.Boots number) = refl
 
 -- a command whose words are expanded intends this, in the world that it leaves
 pub intends_planned : (s : Running) (w : World) (ws : List (List ℕ)) (p : CommandPlan) (i : Intent) (now : World) → IsLinkOfState w → HasCommand s w.state.table ws → planned ws ≡ Ok p →
@@ -148,3 +151,12 @@ intends_drives s w ws command i linked h is e = record {
   world_is = sym (drives_stay s w ws command h linked is);
   was_linked = linked;
 }
+
+-- what asks for something or is over boots no drive
+pub intends_plain : (opens : ℕ) (drives : List Drive) (i : Intent) → IsAskable opens i → MayIntend opens drives i
+intends_plain opens drives (intent.Over cause) may = may
+intends_plain opens drives (intent.Asks query) may = may
+intends_plain opens drives (intent.Fetches wanted) may = may
+intends_plain opens drives (intent.Hooks hooking) may = may
+intends_plain opens drives (intent.LetsGo number cause) may = may
+intends_plain opens drives (intent.Boots number) may = absurd may

@@ -7,6 +7,7 @@ use Rattle.nb_defs.specs.Records.{Out, result}
 use Rattle.nb_record.specs.Logged.{Logged}
 use Rattle.nb_traced.specs.Plain.{without_graph}
 use Rattle.nb_image.specs.Images.{ImageList}
+use Rattle.nb_drivecmd.specs.declared.drive.Drive.{Drive}
 use Rattle.nb_imagecmd.specs.declared.asking.Asking.{Asking}
 use Rattle.nb_machine.specs.BootTables.{boot_table}
 use Rattle.nb_machine.specs.Conclusions.{conclusion, handoff_records}
@@ -19,24 +20,32 @@ use Rattle.nb_machine.specs.States.{State, with_images, with_live}
 use Rattle.nb_machine.specs.Takings.{Over}
 use Rattle.nb_runner.specs.CommandWords.{wanted_of}
 use Rattle.nb_runner.specs.ImageDeeds.{IsConcludedWell, conclusion_of}
-use Rattle.nb_runner.specs.World.{world_with_images}
+use Rattle.nb_runner.specs.Handings.{FitsBooted, IsShortTable}
+use Rattle.nb_runner.specs.World.{with_net, world_with_drives, world_with_images}
+use Rattle.nb_runner.specs.declared.handing.Booted.{Booted}
+use Rattle.nb_runner.specs.declared.handing.Booted.TheVariants as booted
+use Rattle.nb_runner.specs.declared.handing.Handing.{Handing}
 use Rattle.nb_client.specs.Asked.{job_asked}
 use Rattle.nb_runner.specs.declared.errand.Wanted.{Wanted}
 use Rattle.nb_runner.specs.declared.images.Conclusion.{Conclusion}
 use Rattle.nb_runner.specs.declared.images.Conclusion.TheVariants as concluded
 use Rattle.nb_runner.specs.declared.world.World.{World}
-use Rattle.nb_traced.specs.Outputs.{Traced, apart}
-use Rattle.nb_network.specs.Many.{AreSound}
+use Rattle.nb_traced.specs.Holdings.{Holdings}
+use Rattle.nb_traced.specs.Outputs.{Arrived, Traced, apart}
+use Rattle.nb_network.specs.Many.{AreSound, FitsHoldings, Many}
 use Rattle.nb_network.specs.Takes.{IsEndOf}
 use Rattle.nb_network.specs.declared.over.HasEnded.{HasEnded}
 use Rattle.nb_client.specs.Concluding.{IsBootTable, handing_of, moved_place}
 use Rattle.nb_client.specs.Closings.{ShutsAll}
 use Rattle.nb_client.specs.Leading.{LeadsOnBy}
-use Rattle.nb_runner.proofs.HandingLemmas.{begins_at, handoff_few}
+use Rattle.nb_runner.proofs.HandingLemmas.{begins_at, handoff_few, image_few}
+use Rattle.nb_client.proofs.DriveConcludes.{but_running}
+use Rattle.nb_client.proofs.HookedDrives.{none_hooked}
 use Rattle.nb_client.proofs.Served.{state_is}
 use Rattle.nb_client.specs.Serving.{ConcludesEnd}
 use Rattle.nb_client.specs.Snapshots.{Snapshot, at_handing, state_of_world}
-use Rattle.nb_client.specs.Soundness.{IsSound, snapshot_at}
+use Rattle.nb_client.specs.Progressing.{TracesTo}
+use Rattle.nb_client.specs.Soundness.{IsSound, IsSoundBut, snapshot_at}
 use Rattle.nb_client.specs.declared.asked.Asked.TheVariants.{File}
 use Rattle.nb_client.specs.declared.pending.Pending.{Pending}
 use Rattle.nb_client.specs.declared.site.Site.{Site}
@@ -124,14 +133,44 @@ module _ (before : Site) (s : Running) (wanted : Wanted) (p : Pending) (e : HasE
       let t = state_of_world w live in
       rw asks (ap (upshot_fetched t s.depth (wanted_of wanted) o) (place_same e o is ∙ stays) ∙ ap concludes (concluded_same wanted.asking e o s.depth w.state.images stays is ∙ same)))
 
--- AN IMAGE IS HANDED OFF
+-- WHAT IS HANDED OFF
 
--- all that lives was closed, and the image is handed off
+-- all that lives was closed, after which this is handed off: the client is sound
+pub handing_sound : {old new : Logged} {asked : Option ℕ} (w : World) (m : Many) (drives : List Drive) (mid after : Site) (b : Booted) (table : Option (List ℕ)) → FitsBooted w.state.images.images b → IsShortTable table → IsSoundBut asked mid.used w m →
+    mid.opens ≡ m → mid.world ≡ world_with_drives w drives → after.used ≡ mid.used → ShutsAll [] (result ok ∷ []) mid after old new → IsSound after.used after.world after.opens (stage.HandingOff (handing_of b table))
+handing_sound w m drives mid after b table fits short sound opens world same shut =
+    let there : after.world ≡ world_with_drives (with_net w (record w.net { ports = [] })) [] = shut.world ∙ ap (λ (v : World). world_with_drives (with_net v (record v.net { ports = [] })) []) world in
+    record {
+      time = rw (there, same) sound.time;
+      opens = subst (λ (v : World). AreSound v.w v.opens after.world.net after.opens) (sym shut.world) shut.sound;
+      serials = rw (shut.serials, opens, there) sound.serials;
+      tied = rw shut.none tt;
+      well = (rw there (begins_at w.state.images b table fits sound.short short), shut.none);
+      short = rw there sound.short;
+      named = rw there sound.named;
+      linked = rw there (record { address = sound.linked.address; up = sound.linked.up });
+      hooked = none_hooked None after.opens after.world.state.drives shut.none (ap (λ (v : World). v.state.drives) there);
+    }
+
+-- and the output has come so far
+pub handing_traces : {old new : Logged} (mid after : Site) (h : Handing) → (shut : ShutsAll [] (result ok ∷ []) mid after old new) → (outs : List Out) (hold : Holdings) (so_far : List Arrived) → Traced outs hold so_far → FitsHoldings mid.opens mid.world.opens [] hold →
+    TracesTo (snapshot_at after (stage.HandingOff h)) (outs ++ (result ok ∷ shut.records)) so_far
+handing_traces mid after h shut outs hold so_far traced fits =
+    let t = apart outs (result ok ∷ []) hold so_far traced (tt, tt) in
+    let u = shut.traces (outs ++ (result ok ∷ [])) hold so_far t fits in
+    record {
+      holdings = u.after;
+      traced = subst (λ z. Traced z u.after so_far) (append_assoc outs (result ok ∷ []) shut.records) (subst (λ z. Traced ((outs ++ (result ok ∷ [])) ++ shut.records) u.after z) (append-nil so_far) u.traced);
+      fits = rw shut.world u.fits;
+    }
+
+-- an image is
 pub boots_leads : {old new : Logged} (before after : Site) (s : Running) (kernel : ℕ) (table : Option (List ℕ)) → IsBootTable before table → IsSound before.used before.world before.opens (stage.Running s) → kernel < length before.world.state.images.images → length before.world.state.images.images ≤ 32 →
-    after.used ≡ before.used → ShutsAll [] (result ok ∷ []) before after old new → LeadsOnBy s (concluded.Boots kernel) before (snapshot_at after (stage.HandingOff (handing_of kernel table))) old new
+    after.used ≡ before.used → ShutsAll [] (result ok ∷ []) before after old new → LeadsOnBy s (concluded.Boots kernel) before (snapshot_at after (stage.HandingOff (handing_of (booted.Image kernel) table))) old new
 boots_leads {old} {new} before after s kernel table told sound within few same shut =
     let w = before.world in
     let images = w.state.images in
+    let h = handing_of (booted.Image kernel) table in
     record {
       rest = result ok ∷ shut.records;
       puts = shut.puts;
@@ -143,30 +182,13 @@ boots_leads {old} {new} before after s kernel table told sound within few same s
             to = handing (with_live (with_images st images) []) (handoff_records kernel images.images (boot_table st));
             is_put = refl;
             leads = (z.0, z.1, refl);
-            stands_so = rw (sym same) (at_handing after.used after.world after.opens (handing_of kernel table) (with_live (with_images st images) []) (handoff_records kernel images.images (boot_table st)) refl shut.none
+            stands_so = rw (sym same) (at_handing after.used after.world after.opens h (with_live (with_images st images) []) (handoff_records kernel images.images (boot_table st)) refl shut.none
                 (rw shut.world (ap (handoff_records kernel images.images) (told.of_state live are))));
           };
-      traces = λ outs h so_far traced fits.
-          let t = apart outs (result ok ∷ []) h so_far traced (tt, tt) in
-          let u = shut.traces (outs ++ (result ok ∷ [])) h so_far t fits in
-          record {
-            holdings = u.after;
-            traced = subst (λ z. Traced z u.after so_far) (append_assoc outs (result ok ∷ []) shut.records) (subst (λ z. Traced ((outs ++ (result ok ∷ [])) ++ shut.records) u.after z) (append-nil so_far) u.traced);
-            fits = rw shut.world u.fits;
-          };
-      sound = record {
-        time = rw (shut.world, same) sound.time;
-        opens = subst (λ z. AreSound z.w z.opens after.world.net after.opens) (sym shut.world) shut.sound;
-        serials = rw (shut.serials, shut.world) sound.serials;
-        tied = rw shut.none tt;
-        well = (rw shut.world (begins_at images kernel table within sound.short told.short), shut.none);
-        short = rw shut.world sound.short;
-        named = rw shut.world sound.named;
-        linked = rw shut.world (record { address = sound.linked.address; up = sound.linked.up });
-        hooked = rw shut.world refl;
-      };
+      traces = handing_traces before after h shut;
+      sound = handing_sound w before.opens w.state.drives before after (booted.Image kernel) table within told.short (but_running sound) refl refl same shut;
       under_way = tt;
-      nearer = λ _. rw shut.world (omega (arith, handoff_few images.images (handing_of kernel table) within sound.short told.short few));
+      nearer = λ _. rw shut.world (omega (arith, handoff_few images.images h within sound.short told.short (image_few images.images kernel within few)));
     }
 
 -- what is known of an image that boots

@@ -31,7 +31,8 @@ use Rattle.nb_client.specs.declared.site.Site.{Site}
 use Rattle.nb_client.specs.declared.stage.Stage.TheVariants as stage
 use Rattle.nb_client.proofs.DriveCloses.{one_closes, same_device, traces_nothing}
 use Rattle.nb_client.proofs.DriveFirsts.{others_than}
-use Rattle.nb_client.proofs.DriveLists.{each_passes, filter_same, kept_same, kept_twice}
+use Rattle.nb_client.proofs.DriveLists.{each_passes, filter_same, has_open_at, kept_same}
+use Rattle.nb_client.proofs.HookedDrives.{fewer_hooked}
 
 -- AN OPEN IS CLOSED
 
@@ -65,21 +66,11 @@ number_closed {old} {new} number cause before after net m s k sound same used op
         short = good.short;
         named = good.named;
         linked = record { address = ap (λ (c : Client). c.address) same ∙ good.linked.address; up = ap (λ (c : Client). c.up) same ∙ good.linked.up };
-        hooked = kept_twice m.list ds;
+        hooked = fewer_hooked before.opens m ds (λ l. not (has_number number l)) good.hooked (one_closes w before.opens m net w.opens number cause good.hooked.live k good.hooked.are good.opens.rising).1;
       });
     }
 
 -- THE OPEN OF A DRIVE LIVES
-
-has_open_at : (list : List Open) (n : ℕ) → list_any (λ o. o.speaker.number == n) list ≡ true → HasOpen n list
-has_open_at [] n e = absurd (let bad : false ≡ true = e in cc)
-has_open_at (o ∷ os) n e = by (o.speaker.number == n) refl e (λ is. has_open_at os n is)
-  where
-    by : (b : Bool) → (o.speaker.number == n) ≡ b → (b || list_any (λ x. x.speaker.number == n) os) ≡ true → (list_any (λ x. x.speaker.number == n) os ≡ true → HasOpen n os) → HasOpen n (o ∷ os)
-    by true is any rest = record { before = []; own = o; behind = os; all = refl; number_is = eqb-true o.speaker.number n is }
-    by false is any rest =
-        let k = rest any in
-        record { before = o ∷ k.before; own = k.own; behind = k.behind; all = ap (λ xs. o ∷ xs) k.all; number_is = k.number_is }
 
 some_same : (x y : Drive) → Some x ≡ Some y → x ≡ y
 some_same x y e = cc

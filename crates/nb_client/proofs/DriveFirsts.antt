@@ -69,7 +69,7 @@ first_filter f (d ∷ ds) live h =
     by false is later rest = gone (has_open live d) refl is rest
 
 -- once the open of the first is closed, the others come
-none_left : (n : ℕ) (live : List Live) → list_any (has_number n) (others_than n live) ≡ false
+pub none_left : (n : ℕ) (live : List Live) → list_any (has_number n) (others_than n live) ≡ false
 none_left n [] = refl
 none_left n (l ∷ live) = by (l.number == n) refl (none_left n live)
   where
@@ -98,11 +98,11 @@ none_hooked (d ∷ ds) = none_hooked ds
 
 -- ONE OPEN OF A NUMBER
 
-abbrev RisingLives : ℕ → List Live → Type 0
+abbrev pub RisingLives : ℕ → List Live → Type 0
 RisingLives least [] = Unit {0}
 RisingLives least (l ∷ ls) = (least ≤ l.number) × RisingLives (l.number + 1) ls
 
-lives_rise : (g : Objects Obj) (os : List Open) (ls : List Live) (least most : ℕ) → AreOpensOf g os ls → AreRising least most os → RisingLives least ls
+pub lives_rise : (g : Objects Obj) (os : List Open) (ls : List Live) (least most : ℕ) → AreOpensOf g os ls → AreRising least most os → RisingLives least ls
 lives_rise g [] [] least most are rising = tt
 lives_rise g [] (l ∷ ls) least most are rising = absurd are
 lives_rise g (o ∷ os) [] least most are rising = absurd are
@@ -110,7 +110,7 @@ lives_rise g (o ∷ os) (l ∷ ls) least most are rising =
     let same : l.number ≡ o.speaker.number = are.0.called.number in
     (omega (arith, same, rising.0), lives_rise g os ls (l.number + 1) most are.1 (subst (λ k. AreRising (k + 1) most os) (sym same) rising.2))
 
-none_above : (n least : ℕ) (ls : List Live) → RisingLives least ls → n < least → list_any (has_number n) ls ≡ false
+pub none_above : (n least : ℕ) (ls : List Live) → RisingLives least ls → n < least → list_any (has_number n) ls ≡ false
 none_above n least [] rising less = refl
 none_above n least (l ∷ ls) rising less = by (l.number == n) refl (none_above n (l.number + 1) ls rising.1 (omega (arith, rising.0, less)))
   where
@@ -122,7 +122,7 @@ own_above : (front back : List Live) (own : Live) (least : ℕ) → RisingLives 
 own_above [] back own least rising = rising.0
 own_above (l ∷ front) back own least rising = omega (arith, rising.0, own_above front back own (l.number + 1) rising.1)
 
-one_of : (n : ℕ) (front back : List Live) (own : Live) (least : ℕ) → RisingLives least (front ++ (own ∷ back)) → own.number ≡ n →
+pub one_of : (n : ℕ) (front back : List Live) (own : Live) (least : ℕ) → RisingLives least (front ++ (own ∷ back)) → own.number ≡ n →
     (filter (has_number n) (front ++ (own ∷ back)) ≡ own ∷ []) × (others_than n (front ++ (own ∷ back)) ≡ front ++ back)
 one_of n [] back own least rising is =
     let here : has_number n own ≡ true = eq-eqb own.number n is in

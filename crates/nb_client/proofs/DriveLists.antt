@@ -1,5 +1,6 @@
 -- Drives and the opens that live: those whose open has ended are forgotten.
 use Rattle.std.proofs.Common.{◌≡◌, ℕ, ◌<◌, ◌≤◌, ◌==◌, ◌||◌, Bool, true, false, cond, List, [], ◌∷◌, ◌++◌, length, drop, filter, refl, sym, ◌∙◌, ap, arith}
+use Rattle.std.proofs.lemmas.Bool.{eqb-true}
 use Rattle.std.specs.List.{AllByRecursion, list_any}
 use Rattle.nb_graph.specs.Whole.{Objects}
 use Rattle.nb_nodes.specs.declared.obj.Obj.{Obj}
@@ -8,6 +9,7 @@ use Rattle.nb_machine.specs.Lives.{Live}
 use Rattle.nb_machine.specs.States.{has_open, still_hooked}
 use Rattle.nb_network.specs.declared.living.Living.{Living as Open}
 use Rattle.nb_network.specs.Many.{AreOpensOf}
+use Rattle.nb_network.specs.Ones.{HasOpen}
 use Rattle.nb_client.specs.Soundness.{has_its_open, kept_drives}
 
 -- FILTERS
@@ -53,7 +55,7 @@ pub all_pass : {A : Type 0} (f : A → Bool) (xs : List A) → AllByRecursion (�
 all_pass f [] h = refl
 all_pass f (x ∷ xs) h = ap (λ b. cond b (x ∷ filter f xs) (filter f xs)) h.0 ∙ ap (λ ys. x ∷ ys) (all_pass f xs h.1)
 
-all_weaker : {A : Type 0} (P Q : A → Type 0) → ((x : A) → P x → Q x) → (xs : List A) → AllByRecursion P xs → AllByRecursion Q xs
+pub all_weaker : {A : Type 0} (P Q : A → Type 0) → ((x : A) → P x → Q x) → (xs : List A) → AllByRecursion P xs → AllByRecursion Q xs
 all_weaker P Q f [] h = tt
 all_weaker P Q f (x ∷ xs) h = (f x h.0, all_weaker P Q f xs h.1)
 
@@ -103,3 +105,14 @@ kept_none_more g h os os' ls ds are are' e = kept_same h os' ls are' ds ∙ (sym
 pub kept_none : (ds : List Drive) → kept_drives [] ds ≡ []
 kept_none [] = refl
 kept_none (d ∷ ds) = kept_none ds
+
+-- where an open has this number, it lives
+pub has_open_at : (list : List Open) (n : ℕ) → list_any (λ o. o.speaker.number == n) list ≡ true → HasOpen n list
+has_open_at [] n e = absurd (let bad : false ≡ true = e in cc)
+has_open_at (o ∷ os) n e = by (o.speaker.number == n) refl e (λ is. has_open_at os n is)
+  where
+    by : (b : Bool) → (o.speaker.number == n) ≡ b → (b || list_any (λ x. x.speaker.number == n) os) ≡ true → (list_any (λ x. x.speaker.number == n) os ≡ true → HasOpen n os) → HasOpen n (o ∷ os)
+    by true is any rest = record { before = []; own = o; behind = os; all = refl; number_is = eqb-true o.speaker.number n is }
+    by false is any rest =
+        let k = rest any in
+        record { before = o ∷ k.before; own = k.own; behind = k.behind; all = ap (λ xs. o ∷ xs) k.all; number_is = k.number_is }

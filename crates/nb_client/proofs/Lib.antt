@@ -38,3 +38,11 @@ pub mod HandMoves
 pub mod CloseDevice
 pub mod AskNext
 pub mod Concluded
+pub mod Unasked
+pub mod DriveKinds
+pub mod HookedDrives
+pub mod Silent
+pub mod BlockAsks
+pub mod BlockConcludes
+pub mod BlockMoves
+pub mod Usable

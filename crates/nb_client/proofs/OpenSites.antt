@@ -31,23 +31,24 @@ use Rattle.nb_stack.specs.Client.{Client}
 use Rattle.nb_traced.specs.Outputs.{MayWaitOn, Traced, apart}
 use Rattle.nb_traced.specs.Pieces.{event_records}
 use Rattle.nb_client.specs.Asked.{awaited_asked, beside_kind, errand_kind, job_asked, live_asked}
-use Rattle.nb_client.specs.Beginnings.{BeginsNext, DropsWaiting, asked_kind}
+use Rattle.nb_client.specs.Beginnings.{BeginsNext, DropsWaiting, OpensOwn, asked_kind}
 use Rattle.nb_client.specs.Openings.{IsOpenedIn, Opened, begun_script, front_records}
 use Rattle.nb_client.specs.Serving.{world_at}
 use Rattle.nb_client.specs.Snapshots.{snapshot, state_of_world}
-use Rattle.nb_client.specs.Soundness.{FitsAsked, HasRoomFor, HasWaiting, IsBacked, IsSound}
+use Rattle.nb_client.specs.Soundness.{FitsAsked, HasRoomFor, HasWaiting, IsBacked, IsSound, asks_block}
 use Rattle.nb_client.specs.declared.asked.Asked.{Asked}
-use Rattle.nb_client.specs.declared.asked.Asked.TheVariants.{File, Query as Exchange, Disk}
+use Rattle.nb_client.specs.declared.asked.Asked.TheVariants.{File, Query as Exchange, Disk, Block}
 use Rattle.nb_client.specs.declared.opening.NewOpen.{NewOpen}
 use Rattle.nb_client.specs.declared.pending.Expected.TheVariants.{Open}
 use Rattle.nb_client.specs.declared.pending.Pending.{Pending}
 use Rattle.nb_client.specs.declared.site.Site.{Site}
 use Rattle.nb_client.specs.declared.stage.Stage.{Stage}
 use Rattle.nb_client.specs.declared.stage.Stage.TheVariants as stage
-use Rattle.nb_network.proofs.Sound.{some_live}
-use Rattle.nb_client.proofs.DriveLists.{kept_more, kept_none_more}
+use Rattle.nb_client.proofs.DriveLists.{kept_none_more}
+use Rattle.nb_client.proofs.HookedDrives.{more_hooked}
 use Rattle.nb_client.proofs.OpenRecords.{plain_begun}
 use Rattle.nb_client.proofs.OpenStates.{goes_back, lives_on, state_is, world_begun}
+use Rattle.nb_client.proofs.Silent.{silent_begun}
 
 -- the next open was begun, as it stands over this link and among these opens
 pub record HasBegun (a : Asked) (o : Opening) (waits left : Option Chain) (before : Site) (net : Client) (m : Many) (ended : Option Cause) (made_text told_text : List ℕ) : Type 0 where
@@ -95,6 +96,7 @@ may_wait : (a : Asked) (o : Opening) (left : Option Chain) (awaited : Option ℕ
     MayWaitOn (kind_number (kind_by o)) (waiting_pieces (beside_kind a) left)
 may_wait (File w) o left awaited m is backed h = nothing_beside (kind_number (kind_by o)) chain.File left backed
 may_wait (Disk d) o left awaited m is backed h = nothing_beside (kind_number (kind_by o)) chain.File left backed
+may_wait (Block d) o left awaited m is backed h = nothing_beside (kind_number (kind_by o)) chain.File left backed
 may_wait (Exchange query.Lease) o left awaited m is backed h = nothing_beside (kind_number (kind_by o)) chain.File left backed
 may_wait (Exchange (query.Echo server)) o left awaited m is backed h = nothing_beside (kind_number (kind_by o)) chain.Echo left backed
 may_wait (Exchange (query.Address setting name by)) o left awaited m is backed h = nothing_beside (kind_number (kind_by o)) chain.File left backed
@@ -117,10 +119,10 @@ pending_for w a left = record { number = w.opens; asked = a; waits = left }
 
 -- the command waits
 pub opened_waits : {old new : Logged} {made_text told_text : List ℕ} (a : Asked) (o : Opening) (waits left : Option Chain) (shown : Option (List (List ℕ))) (script : Running) (before : Site) (net : Client) (m : Many) →
-    IsSound before.used before.world before.opens (stage.Running script) → FitsAsked a → HasRoomFor a before.world.state.drives → IsOpeningFor a o before.world → IsBacked a left → HasBegun a o waits left before net m None made_text told_text →
+    IsSound before.used before.world before.opens (stage.Running script) → FitsAsked a → OpensOwn a → HasRoomFor a before.world.state.drives → IsOpeningFor a o before.world → IsBacked a left → HasBegun a o waits left before net m None made_text told_text →
     PutsBegun shown script o before.world None made_text told_text old new →
     Opened a (waiting_pieces (asked_kind a) waits) shown script before (snapshot before.used (world_begun before.world net) m (stage.Waiting (begun_script shown script) (Open (pending_for before.world a left)))) old new
-opened_waits {old} {new} a o waits left shown script before net m sound fits room is backed h puts =
+opened_waits {old} {new} a o waits left shown script before net m sound fits own room is backed h puts =
     let w = before.world in
     let l = live_by o w.opens w.time in
     let records = begun_records h.opens.made l h.opens.told None in
@@ -142,13 +144,19 @@ opened_waits {old} {new} a o waits left shown script before net m sound fits roo
         opens = h.sound;
         serials = omega (arith, h.serials);
         tied = h.opens.tied sound.tied;
-        well = (record { fits = fits; backed = backed; waiting = h.waiting }, room);
+        well = record {
+          asked = record { fits = fits; backed = backed; waiting = h.waiting };
+          room = room;
+          silent =
+              let live = sound.hooked.live in
+              silent_begun a own before.opens m w.opens l live sound.hooked.are sound.opens.rising refl refl (h.opens.state (state_of_world w live) (state_is before.opens w live sound.hooked.are)).live;
+        };
         short = sound.short;
         named = sound.named;
         linked = record { address = h.linked.address; up = h.linked.up };
         hooked =
-            let lives = some_live before.opens.graph before.opens.list sound.opens.lives in
-            kept_more before.opens.graph m.graph before.opens.list m.list lives.0 (l ∷ []) w.state.drives lives.1 (h.opens.state (state_of_world w lives.0) (state_is before.opens w lives.0 lives.1)).live sound.hooked;
+            let live = sound.hooked.live in
+            more_hooked before.opens m w.opens l (asks_block a w.opens) w.state.drives sound.hooked sound.opens.rising refl refl (h.opens.state (state_of_world w live) (state_is before.opens w live sound.hooked.are)).live;
       };
       under_way = tt;
       same_script = λ x. absurd x;
@@ -204,9 +212,15 @@ opened_back {old} {mid} {new} a o waits left shown script before begun now cause
         named = sound.named;
         linked = record { address = h.linked.address; up = h.linked.up };
         hooked =
-            let lives = some_live before.opens.graph before.opens.list sound.opens.lives in
-            let left = lets.state begun.world.net w.time (state_of_world w lives.0) (h.opens.state (state_of_world w lives.0) (state_is before.opens w lives.0 lives.1)) in
-            kept_none_more before.opens.graph now.opens.graph before.opens.list now.opens.list lives.0 w.state.drives lives.1 left.live sound.hooked;
+            let x = sound.hooked in
+            let on = lets.state begun.world.net w.time (state_of_world w x.live) (h.opens.state (state_of_world w x.live) (state_is before.opens w x.live x.are)) in
+            record {
+              kept = kept_none_more before.opens.graph now.opens.graph before.opens.list now.opens.list x.live w.state.drives x.are on.live x.kept;
+              live = x.live;
+              are = on.live;
+              unasked = x.unasked;
+              kinds = x.kinds;
+            };
       };
       under_way = tt;
       same_script = λ x. (cause, refl, refl);

@@ -22,7 +22,7 @@ use Rattle.nb_runner.proofs.Puts.{Puts-nothing}
 use Rattle.nb_traced.specs.Outputs.{Traced, apart}
 use Rattle.nb_traced.specs.Pieces.{event_records}
 use Rattle.nb_open.specs.Begins.{waiting_pieces}
-use Rattle.nb_network.specs.Many.{IsStateOf}
+use Rattle.nb_network.specs.Many.{IsStateOf, Many}
 use Rattle.nb_runner.specs.World.{world_with}
 use Rattle.nb_network.specs.declared.over.HasEnded.{HasEnded}
 use Rattle.nb_client.specs.Asked.{beside_kind, errand_kind, job_asked, onward_kind, pieces_beside}
@@ -36,6 +36,7 @@ use Rattle.nb_client.specs.declared.pending.Pending.{Pending}
 use Rattle.nb_client.specs.declared.site.Site.{Site}
 use Rattle.nb_client.specs.declared.stage.Stage.{Stage}
 use Rattle.nb_client.specs.declared.stage.Stage.TheVariants as stage
+use Rattle.nb_client.proofs.HookedDrives.{same_hooked}
 use Rattle.nb_client.proofs.Served.{state_is}
 use Rattle.nb_client.proofs.Settle.{kinds_agree, next_lone, next_same, settles_so}
 
@@ -127,7 +128,8 @@ module _ (before : Site) (s : Running) (e : HasEnded) (p : Pending) (waits : Opt
           short = sound.short;
           named = sound.named;
           linked = record { address = refl; up = refl };
-          hooked = rw (lets.same_list, l.same_opens) sound.hooked;
+          hooked = same_hooked None before.opens after.opens w.state.drives (lets.same_list ∙ ap (λ (m : Many). m.list) l.same_opens)
+              (λ live are. (lets.state w.net w.time (state_of_world w live) (subst (λ m. IsStateOf m w.net w.time (state_of_world w live)) (sym l.same_opens) (state_is w before.opens live are))).live) sound.hooked;
         });
         under_way = tt;
       })

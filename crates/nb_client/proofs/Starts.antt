@@ -1,5 +1,5 @@
 -- START is used: the first script is entered, or left at once.
-use Rattle.std.proofs.Common.{◌≡◌, ◌+◌, ◌≤◌, List, [], ◌∷◌, refl, sym, ◌∙◌, ap, subst, arith}
+use Rattle.std.proofs.Common.{◌≡◌, ◌+◌, ◌≤◌, List, [], ◌∷◌, refl, sym, ◌∙◌, ap, subst, arith, None}
 use Rattle.std.specs.List.{AllByRecursion}
 use Rattle.std.proofs.lemmas.List.Elements.{All-nil}
 use Rattle.nb_imagecmd.specs.Promises.{IsShortName}
@@ -19,6 +19,7 @@ use Rattle.nb_client.specs.Turning.{GoesOnBy}
 use Rattle.nb_client.specs.declared.site.Site.{Site}
 use Rattle.nb_client.specs.declared.stage.Stage.{Stage}
 use Rattle.nb_client.specs.declared.stage.Stage.TheVariants as stage
+use Rattle.nb_client.proofs.HookedDrives.{none_hooked}
 use Rattle.nb_client.proofs.Moves.{IsQuiet, none_waits, quiet_sound, quiet_under_way}
 use Rattle.nb_client.proofs.Standing.{stands_at}
 use Rattle.nb_client.proofs.Traces.{plain_apart, trace_apart}
@@ -44,7 +45,7 @@ start_goes {old} {new} s before after st rest to valid sound used world opens qu
       short = tt;
       named = All-nil IsShortName;
       linked = record { address = refl; up = refl };
-      hooked = refl;
+      hooked = none_hooked None m [] none refl;
     } in
     let plain : without_graph (step n ∷ rest) ≡ step n ∷ rest = plain_apart (step n ∷ rest) (tt, apart) in
     let goes : GoesOnBy (start s ∷ []) (snapshot_at before stage.Ready) end old new = record {

@@ -6,7 +6,8 @@ use Rattle.nb_drivecmd.specs.declared.outcome.Hooking.{Hooking}
 use Rattle.nb_drivelogin.specs.DriveLogins.{login_by}
 use Rattle.nb_machine.specs.Findings.{first_word, open_words}
 use Rattle.nb_machine.specs.Lives.{Live, iscsi}
-use Rattle.nb_machine.specs.Scripts.{Job, fetch, hooks, sleep, Awaited, answer, drive, moment, transfer_for, live_for, job_for}
+use Rattle.nb_machine.specs.Queries.{for_lease}
+use Rattle.nb_machine.specs.Scripts.{Job, fetch, hooks, boots, sleep, Awaited, answer, block, moment, awaited_hook, transfer_for, live_for, job_for}
 use Rattle.nb_machine.specs.Starting.{own_port}
 use Rattle.nb_machine.specs.States.{State, net0}
 use Rattle.nb_runner.specs.CommandWords.{wanted_of}
@@ -22,7 +23,7 @@ use Rattle.nb_chains.specs.declared.kind.ChainKind.TheVariants as chain
 use Rattle.nb_traced.specs.Holdings.{GraphObject}
 use Rattle.nb_open.specs.Begins.{waiting_pieces}
 use Rattle.nb_client.specs.declared.asked.Asked.{Asked}
-use Rattle.nb_client.specs.declared.asked.Asked.TheVariants.{File, Query as Exchange, Disk}
+use Rattle.nb_client.specs.declared.asked.Asked.TheVariants.{File, Query as Exchange, Disk, Block}
 use Rattle.nb_client.specs.declared.asked.AskedDisk.{AskedDisk}
 use Rattle.nb_client.specs.declared.pending.Expected.{Expected}
 use Rattle.nb_client.specs.declared.pending.Expected.TheVariants.{Open, Moment}
@@ -54,22 +55,25 @@ live_of_disk s disk = record {
   exchanges = [];
 }
 
--- the open that is made for it, and what is done with what comes of that
+-- the open that is made for it, and what is done with what comes of that; for a block none is made, so no matter which
 abbrev pub live_asked : State → Asked → Live
 live_asked s (File w) = transfer_for s (wanted_of w)
 live_asked s (Exchange q) = live_for s (query_of q)
 live_asked s (Disk disk) = live_of_disk s disk
+live_asked s (Block d) = live_for s for_lease
 
 abbrev pub job_asked : Asked → Job
 job_asked (File w) = fetch (wanted_of w)
 job_asked (Exchange q) = job_for (query_of q)
 job_asked (Disk disk) = hooks disk.hooking
+job_asked (Block d) = boots d
 
 -- what is awaited of its open, which has this number
 abbrev pub awaited_asked : Asked → ℕ → Awaited
 awaited_asked (File w) number = answer number
 awaited_asked (Exchange q) number = answer number
-awaited_asked (Disk disk) number = drive number
+awaited_asked (Disk disk) number = awaited_hook disk.hooking.after number
+awaited_asked (Block d) number = block number
 
 -- what a command waits for
 abbrev pub awaited_by : Expected → Awaited
@@ -103,6 +107,7 @@ asked_onward w (onward.Name e name by) = Exchange (query.Host e name by)
 abbrev pub beside_kind : Asked → ChainKind
 beside_kind (File w) = chain.File
 beside_kind (Disk disk) = chain.File
+beside_kind (Block d) = chain.File
 beside_kind (Exchange query.Lease) = chain.File
 beside_kind (Exchange (query.Echo server)) = chain.Echo
 beside_kind (Exchange (query.Address setting name by)) = chain.File

@@ -30,14 +30,22 @@ use Rattle.nb_client.specs.Asked.{beside_kind}
 use Rattle.nb_client.specs.Serving.{world_at}
 use Rattle.nb_client.specs.Soundness.{HasWaiting, IsBacked}
 use Rattle.nb_client.specs.declared.asked.Asked.{Asked}
-use Rattle.nb_client.specs.declared.asked.Asked.TheVariants.{File, Query as Exchange, Disk}
+use Rattle.nb_client.specs.declared.asked.Asked.TheVariants.{File, Query as Exchange, Disk, Block}
 use Rattle.nb_client.specs.declared.opening.NewOpen.{NewOpen}
 use Rattle.nb_client.specs.declared.site.Site.{Site}
+
+-- an open is made for it: a block is asked for of one that lives
+abbrev pub OpensOwn : Asked → Type 0
+OpensOwn (File w) = Unit {0}
+OpensOwn (Exchange q) = Unit {0}
+OpensOwn (Disk disk) = Unit {0}
+OpensOwn (Block d) = ⊥
 
 -- the objects of its open
 abbrev pub asked_kind : Asked → ChainKind
 asked_kind (File w) = chain.File
 asked_kind (Disk disk) = chain.Drive
+asked_kind (Block d) = chain.Drive
 asked_kind (Exchange query.Lease) = chain.Lease
 asked_kind (Exchange (query.Echo server)) = chain.Echo
 asked_kind (Exchange (query.Address setting name by)) = chain.Name

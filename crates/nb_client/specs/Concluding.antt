@@ -21,6 +21,7 @@ use Rattle.nb_machine.specs.Running.{Running, with_result}
 use Rattle.nb_runner.specs.CommandWords.{FitsOnward, onward_hooks, onward_of}
 use Rattle.nb_runner.specs.Intents.{query_hooks, query_of}
 use Rattle.nb_runner.specs.World.{world_with}
+use Rattle.nb_runner.specs.declared.handing.Booted.{Booted}
 use Rattle.nb_runner.specs.declared.handing.Handing.{Handing}
 use Rattle.nb_runner.specs.declared.query.Query.{Query as Asking}
 use Rattle.nb_chains.specs.declared.chain.Chain.{Chain}
@@ -41,9 +42,9 @@ ArrivesWell depth arrival.Kept left = AreShortImages left.images
 ArrivesWell depth (arrival.Run script replace) left = AreShortImages left.images × (replace ≡ false → depth < 8)
 ArrivesWell depth arrival.Boot left = AreShortImages left.images × (i : ℕ) × (left.selected ≡ Some i)
 
--- the hand-off of the image at this place and of this boot table, of which nothing was put
-abbrev pub handing_of : ℕ → Option (List ℕ) → Handing
-handing_of kernel table = record { kernel = kernel; table = table; part = 0; piece = 0 }
+-- the hand-off of this and of this boot table, of which nothing was put
+abbrev pub handing_of : Booted → Option (List ℕ) → Handing
+handing_of booted table = record { booted = booted; table = table; part = 0; piece = 0 }
 
 -- the boot table of these opens and of the drives of this world, which is short
 pub record IsBootTable (c : Site) (table : Option (List ℕ)) : Type 0 where

@@ -10,3 +10,4 @@ pub mod Concluding
 pub mod Drives
 pub mod Closings
 pub mod Openings
+pub mod Booting

@@ -9,7 +9,7 @@ use Rattle.nb_runner.specs.World.{IsLinkOfState}
 use Rattle.nb_stack.specs.Client.{Client}
 use Rattle.nb_machine.specs.CommandRecords.{command_record, no_route}
 use Rattle.nb_machine.specs.Courses.{running, stands, waiting}
-use Rattle.nb_machine.specs.Effects.{Effect, asks, full_opens, effect_in, hooks_disk, inquires, shown_as, shown_words}
+use Rattle.nb_machine.specs.Effects.{Effect, asks, full_opens, effect_in, boots_drive, hooks_disk, inquires, shown_as, shown_words}
 use Rattle.nb_machine.specs.Kinds.{first_records}
 use Rattle.nb_machine.specs.Lives.{Live, end_record, open_record}
 use Rattle.nb_machine.specs.Running.{Running, beginning, coming, entered, with_result}
@@ -30,22 +30,24 @@ use Rattle.nb_client.specs.Snapshots.{Snapshot, StandsForProgress, state_of_worl
 use Rattle.nb_client.specs.Soundness.{IsSound, WasStarted, snapshot_at}
 use Rattle.nb_client.specs.Turning.{found_by_script, left_by}
 use Rattle.nb_client.specs.declared.asked.Asked.{Asked}
-use Rattle.nb_client.specs.declared.asked.Asked.TheVariants.{File, Query as Exchange, Disk}
+use Rattle.nb_client.specs.declared.asked.Asked.TheVariants.{File, Query as Exchange, Disk, Block}
 use Rattle.nb_client.specs.declared.pending.Next.{Next}
 use Rattle.nb_client.specs.declared.site.Site.{Site}
 use Rattle.nb_client.specs.declared.stage.Stage.TheVariants as stage
 
--- what a command comes to that asks for this
+-- what a command comes to that asks for this; no command asks for a block alone, so no matter what
 abbrev pub asked_effect : Asked → Effect
 asked_effect (File w) = asks (wanted_of w)
 asked_effect (Exchange q) = inquires (query_of q)
 asked_effect (Disk disk) = hooks_disk disk.hooking
+asked_effect (Block d) = boots_drive 0
 
--- what is asked for is no disk: the drive of a disk's number is closed before its open
+-- what is asked for is no disk, nor a block of one: the drive of a disk's number is closed before its open
 abbrev pub IsNoDisk : Asked → Type 0
 IsNoDisk (File w) = Unit {0}
 IsNoDisk (Exchange q) = Unit {0}
 IsNoDisk (Disk disk) = ⊥
+IsNoDisk (Block d) = ⊥
 
 -- A command whose words are expanded asks for this, in the world that it leaves.
 pub record AsksFor (w : World) (a : Asked) (s : Running) (ws : List (List ℕ)) (now : World) : Type 0 where

@@ -1,6 +1,6 @@
 -- A record comes to the opens that live, and what comes of the one that a command waits for.
-use Rattle.std.specs.Prelude.{◌≡◌, ◌<◌, ◌≤◌, ◌+◌, ◌*◌, ℕ, Bool, true, false, List, [], ◌∷◌, ◌++◌, find, Option, Some, None, if◌then◌else◌}
-use Rattle.std.specs.Option.{is_some, option_and_then}
+use Rattle.std.specs.Prelude.{◌≡◌, ◌<◌, ◌≤◌, ◌+◌, ◌*◌, ℕ, ◌==◌, Bool, true, false, List, [], ◌∷◌, ◌++◌, find, Option, Some, None, if◌then◌else◌}
+use Rattle.std.specs.List.{list_any}
 use Rattle.nb_terms.specs.declared.cause.Cause.{Cause}
 use Rattle.nb_defs.specs.Causes.{ok}
 use Rattle.nb_defs.specs.Records.{In, Out, out_texts, result}
@@ -9,25 +9,28 @@ use Rattle.nb_traced.specs.Plain.{without_graph}
 use Rattle.nb_runner.specs.declared.world.World.{World}
 use Rattle.nb_runner.specs.World.{IsLinkOfState, world_with_drives}
 use Rattle.nb_stack.specs.Client.{Client}
+use Rattle.nb_drivecmd.specs.declared.outcome.AfterHook.{AfterHook}
+use Rattle.nb_drivecmd.specs.declared.outcome.AfterHook.TheVariants as after_hook
 use Rattle.nb_machine.specs.Courses.{LeadsTo, Standing, stands}
 use Rattle.nb_machine.specs.Lives.{Live}
 use Rattle.nb_machine.specs.Running.{Running, anew, with_result}
-use Rattle.nb_machine.specs.Kinds.{answered}
-use Rattle.nb_machine.specs.Scripts.{Job, Answer, answer_of_over, by_end, by_drive, concluded_by, has_number, upshot_records}
+use Rattle.nb_machine.specs.Scripts.{Job, Answer, answer_of_over, block_of_over, by_end, by_drive, concluded_by, has_number, upshot_records}
 use Rattle.nb_machine.specs.States.{State}
 use Rattle.nb_machine.specs.Takings.{Over}
 use Rattle.nb_traced.specs.Holdings.{Holdings}
 use Rattle.nb_traced.specs.Outputs.{Arrived, Traced}
 use Rattle.nb_network.specs.Many.{AreOpensOf, AreSound, FitsHoldings, IsStateOf, Many}
+use Rattle.nb_network.specs.Ones.{HasDrive}
 use Rattle.nb_network.specs.Takes.{IsEndOf, TakesRecord}
+use Rattle.nb_network.specs.declared.living.Living.{Living as TheOpen}
 use Rattle.nb_open.specs.Exchanges.{IsLeaseMessage}
 use Rattle.nb_network.specs.declared.over.HasEnded.{HasEnded}
 use Rattle.nb_client.specs.Asked.{job_asked, pieces_beside}
 use Rattle.nb_client.specs.Progressing.{TracesTo}
 use Rattle.nb_client.specs.Snapshots.{Snapshot, StandsForProgress, state_of_world}
-use Rattle.nb_client.specs.Soundness.{HasRoomFor, IsPendingWell, IsSound, WasStarted, kept_drives, snapshot_at}
+use Rattle.nb_client.specs.Soundness.{HasReadAs, HasRoomFor, IsDriveAnswered, IsPendingWell, IsSound, IsSoundBut, WasStarted, asks_block, kept_drives, snapshot_at}
 use Rattle.nb_client.specs.declared.asked.Asked.{Asked}
-use Rattle.nb_client.specs.declared.asked.Asked.TheVariants.{File, Query as Exchange, Disk}
+use Rattle.nb_client.specs.declared.asked.Asked.TheVariants.{File, Query as Exchange, Disk, Block}
 use Rattle.nb_client.specs.declared.pending.Answer.{Answer as TheAnswer}
 use Rattle.nb_client.specs.declared.pending.Answer.TheVariants.{End, Drive as Lives}
 use Rattle.nb_client.specs.declared.pending.Pending.{Pending}
@@ -66,33 +69,38 @@ pub record ComesIn (s : State) (inner : Running) (outer : List Running) (job : J
 abbrev pub EndsIn : State → Running → List Running → Job → Over → List Out → ℕ → Snapshot → Type 0
 EndsIn s inner outer job o put n after = ComesIn s inner outer job (by_end o) put n after
 
--- what the machine's command gets of its open, which has ended so
+-- what the machine's command gets of a disk's open that has ended so; where the disk is to be booted it has to live on
+abbrev pub disk_over : AfterHook → Over → Answer
+disk_over after_hook.Keep o = answer_of_over o
+disk_over (after_hook.Boot keep) o = by_end o
+
+-- so of what it has asked for
 abbrev pub answer_over : Asked → Over → Answer
 answer_over (File w) o = by_end o
 answer_over (Exchange q) o = by_end o
-answer_over (Disk disk) o = answer_of_over o
+answer_over (Disk disk) o = disk_over disk.hooking.after o
+answer_over (Block d) o = block_of_over o
 
--- what a command of the machine's gets, where the code's gets this
-abbrev pub IsAnswerOf : TheAnswer → Asked → ℕ → Answer → Type 0
-IsAnswerOf (End e) asked number x = (o : Over) × IsEndOf e o × (o.live.number ≡ number) × (x ≡ answer_over asked o)
-IsAnswerOf Lives (Disk disk) number x = (l : Live) × (l.number ≡ number) × (x ≡ by_drive l)
-IsAnswerOf Lives (File w) number x = ⊥
-IsAnswerOf Lives (Exchange q) number x = ⊥
+-- what a command of the machine's gets among these opens, where the code's gets this
+abbrev pub IsAnswerOf : TheAnswer → Asked → ℕ → List Live → Answer → Type 0
+IsAnswerOf (End e) asked number live x = (o : Over) × IsEndOf e o × (o.live.number ≡ number) × (x ≡ answer_over asked o)
+IsAnswerOf Lives (Disk disk) number live x = (l : Live) × (find (has_number number) live ≡ Some l) × (x ≡ by_drive l)
+IsAnswerOf Lives (Block d) number live x = (l : Live) × (find (has_number number) live ≡ Some l) × (x ≡ by_drive l)
+IsAnswerOf Lives (File w) number live x = ⊥
+IsAnswerOf Lives (Exchange q) number live x = ⊥
 
--- its open lives on
-abbrev pub LivesOn : TheAnswer → Type 0
-LivesOn Lives = Unit {0}
-LivesOn (End e) = ⊥
-
--- A command got what it waited for: these records were put after those of the opens.
-pub record Concludes (p : Pending) (answer : TheAnswer) (inner : Running) (before : Site) (after : Snapshot) (old new : Logged) : Type 0 where
+-- A command got what it waited for among these opens: these records were put after those of the opens.
+pub record ConcludesIn (p : Pending) (answer : TheAnswer) (inner : Running) (before : Site) (after : Snapshot) (old new : Logged) (live : List Live) : Type 0 where
   pub rest : List Out
   pub puts : Puts old new (out_texts rest)
-  pub comes : (live : List Live) → AreOpensOf before.opens.graph before.opens.list live → (x : Answer) → IsAnswerOf answer p.asked p.number x →
+  pub comes : (x : Answer) → IsAnswerOf answer p.asked p.number live x →
       ComesIn (state_of_world before.world live) inner before.world.outer (job_asked p.asked) x (without_graph rest) before.used after
-  pub plain : LivesOn answer → without_graph rest ≡ rest
   pub traces : (outs : List Out) (h : Holdings) (so_far : List Arrived) → Traced outs h so_far → FitsHoldings before.opens before.world.opens (pieces_beside (Open p)) h →
       TracesTo after (outs ++ rest) so_far
+
+-- So it is whatever state these opens are.
+pub record Concludes (p : Pending) (answer : TheAnswer) (inner : Running) (before : Site) (after : Snapshot) (old new : Logged) : Type 0 where
+  pub ends : (live : List Live) → AreOpensOf before.opens.graph before.opens.list live → ConcludesIn p answer inner before after old new live
   pub sound : IsSound after.used after.world after.many after.stage
   pub under_way : WasStarted after.stage
 
@@ -107,38 +115,35 @@ pub record ConcludesEnd (p : Pending) (e : HasEnded) (inner : Running) (before :
   pub sound : IsSound after.used after.world after.many after.stage
   pub under_way : WasStarted after.stage
 
--- the message of an open that has ended may be a lease's; a drive that lives on is a disk's
-abbrev pub FitsAnswer : TheAnswer → Asked → Type 0
-FitsAnswer (End e) asked = IsLeaseMessage e.bytes
-FitsAnswer Lives (Disk disk) = Unit {0}
-FitsAnswer Lives (File w) = ⊥
-FitsAnswer Lives (Exchange q) = ⊥
+-- the message of an open that has ended may be a lease's, and none of its number lives; one that lives on is a disk's, which has answered or
+-- read its block
+abbrev pub FitsAnswer : TheAnswer → Asked → ℕ → Many → Type 0
+FitsAnswer (End e) asked number m = IsLeaseMessage e.bytes × (list_any (λ (o : TheOpen). o.speaker.number == number) m.list ≡ false)
+FitsAnswer Lives (Disk disk) number m = HasDrive number m.list
+FitsAnswer Lives (Block d) number m = HasReadAs true number m
+FitsAnswer Lives (File w) number m = ⊥
+FitsAnswer Lives (Exchange q) number m = ⊥
 
 -- what a command has asked for and got fits
 pub record IsAnsweredWell (answer : TheAnswer) (p : Pending) (c : Site) : Type 0 where
   pub asked : IsPendingWell p None c.opens
   pub room : HasRoomFor p.asked c.world.state.drives
-  pub fits : FitsAnswer answer p.asked
+  pub fits : FitsAnswer answer p.asked p.number c.opens
+
+-- the open that was asked for a block, and lives on
+abbrev pub asks_still : TheAnswer → Asked → ℕ → Option ℕ
+asks_still (End e) asked number = None
+asks_still Lives asked number = asks_block asked number
 
 -- it is sound, where a command waits on, or where it got what it waited for
 abbrev pub IsSoundAfter : Option TheAnswer → Site → Running → Pending → Type 0
 IsSoundAfter None c s p = IsSound c.used c.world c.opens (stage.Waiting s (Open p))
-IsSoundAfter (Some x) c s p = IsSound c.used c.world c.opens (stage.Running s) × IsAnsweredWell x p c
+IsSoundAfter (Some x) c s p = IsSoundBut (asks_still x p.asked p.number) c.used c.world c.opens × IsAnsweredWell x p c
 
 -- the command waits on, and nothing more is put, or it got what it waited for
 abbrev pub WaitsOrEnds : Option TheAnswer → Pending → Running → Site → Snapshot → Logged → Logged → Type 0
 WaitsOrEnds None p s before after old new = (after ≡ snapshot_at before (stage.Waiting (anew s) (Open p))) × (new ≡ old)
 WaitsOrEnds (Some x) p s before after old new = Concludes p x (anew s) before after old new
-
--- whether the drive of this number has answered, whatever state these opens are
-abbrev pub HasAnsweredAs : Bool → ℕ → Many → Type 0
-HasAnsweredAs is number m = (live : List Live) → AreOpensOf m.graph m.list live → is ≡ is_some (option_and_then answered (find (has_number number) live))
-
--- whether what was asked for is a disk's, which has answered
-abbrev pub IsDriveAnswered : Asked → ℕ → Many → Bool → Type 0
-IsDriveAnswered (Disk disk) number m is = HasAnsweredAs is number m
-IsDriveAnswered (File w) number m is = is ≡ false
-IsDriveAnswered (Exchange q) number m is = is ≡ false
 
 -- what a command gets that has asked for this open, where that has ended so or lives on
 abbrev pub IsAnswerBy : Pending → Option HasEnded → Many → Option TheAnswer → Type 0
@@ -158,9 +163,10 @@ IsWaitingFor (stage.Waiting s (Open p)) = Unit {0}
 IsWaitingFor _ = ⊥
 
 -- why a disk isn't hooked that has answered so; where it is, nothing
-abbrev pub drive_failure : TheAnswer → Option Cause
-drive_failure Lives = None
-drive_failure (End e) = if e.answered then None else Some e.cause
+abbrev pub drive_failure : AfterHook → TheAnswer → Option Cause
+drive_failure after Lives = None
+drive_failure after_hook.Keep (End e) = if e.answered then None else Some e.cause
+drive_failure (after_hook.Boot keep) (End e) = Some e.cause
 
 -- where a run stands after a step in which its command has waited on
 abbrev pub rested : Stage → Stage

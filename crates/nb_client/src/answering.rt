@@ -2,8 +2,8 @@ ghost use Rattle.std.specs.Prelude.{◌≡◌, ◌-◌, ◌<◌, ◌^◌, [], �
 ghost use Rattle.nb_defs.specs.Records.{IsIn, In};
 ghost use Rattle.nb_record.specs.Logged.{Logged};
 ghost use Rattle.nb_record.specs.View.{in_of};
-ghost use Rattle.nb_client.specs.Serving.{Concludes, ConcludesAt, IsAnswerAt, IsAnswerBy, IsAnswerable, IsAnsweredWell, IsDriveAnswered, IsSoundAfter, IsWaitingFor, WaitsOrEnds, WakesBy};
-ghost use Rattle.nb_client.specs.Soundness.{IsSound, awaited_at, snapshot_at};
+ghost use Rattle.nb_client.specs.Serving.{Concludes, ConcludesAt, IsAnswerAt, IsAnswerBy, IsAnswerable, IsSoundAfter, IsWaitingFor, WaitsOrEnds, WakesBy};
+ghost use Rattle.nb_client.specs.Soundness.{IsDriveAnswered, IsSound, awaited_at, snapshot_at};
 ghost use Rattle.nb_client.specs.Turning.{GoesOnBy, IsServed, IsTurnOf};
 ghost use Rattle.nb_client.specs.declared.pending.Expected.TheVariants as expected;
 ghost use Rattle.nb_client.specs.declared.stage.Stage.TheVariants as stage;
@@ -120,12 +120,13 @@ impl Site {
         }
     }
 
-    /// Whether it is a drive's, which has answered.
+    /// Whether it is a drive's, which has answered, or has read the block that it was asked for.
     fn is_answered(&self, pending: &Pending) -> bool
         ensures { IsDriveAnswered pending.now.asked pending.now.number self.now.opens result }
     {
         match pending.asked {
             Asked::Disk(_) => self.opens.answered(pending.number),
+            Asked::Block(_) => self.opens.read(pending.number).is_some(),
             Asked::File(_) | Asked::Query(_) => false,
         }
     }
@@ -197,8 +198,7 @@ impl Site {
         answer: Answer,
         log: &mut Log,
     ) -> Result<Stage, NoMemory>
-        requires { IsSound self.old.used self.old.world self.old.opens (stage.Running script)
-            × IsAnsweredWell answer pending self.old }
+        requires { IsSoundAfter (Some answer) self.old script pending }
         ensures concludes { IfOk result (λ st. Concludes pending answer script self.old (snapshot_at self.new st) log.old log.new) }
         ensures nothing { OnErr result (log.new ≡ log.old) }
     {

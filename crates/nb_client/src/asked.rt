@@ -1,4 +1,4 @@
-use nb_drivecmd::Hooking;
+use nb_drivecmd::{Drive, Hooking};
 use nb_login::LoginInfo;
 use nb_runner::{Query, Wanted};
 use nb_wire::{Ip4, Text};
@@ -12,6 +12,8 @@ pub enum Asked {
     Query(Query),
     /// A disk, which is hooked.
     Disk(AskedDisk),
+    /// The first block of a disk, by its open, which lives. Once it has come, the disk is hooked as this drive, if it isn't yet.
+    Block(Option<Drive>),
 }
 
 /// A disk that is asked for of a server whose address is known (RFC 7143).

@@ -4,11 +4,11 @@ ghost use Rattle.nb_defs.specs.Records as defs;
 ghost use Rattle.nb_machine.specs.Running.{with_result};
 ghost use Rattle.nb_machine.specs.Effects.{full_opens};
 ghost use Rattle.nb_runner.specs.CommandWords.{FitsOnward, IsForInquiry};
-ghost use Rattle.nb_runner.specs.Intents.{IsAskable};
+ghost use Rattle.nb_runner.specs.Drives.{MayIntend};
 ghost use Rattle.nb_runner.specs.NextCommand.{HasCommand, IsReady};
 ghost use Rattle.nb_runner.specs.declared.world.World.{World as TheWorld};
 ghost use Rattle.nb_client.specs.Asked.{asked_onward, onward_kind};
-ghost use Rattle.nb_client.specs.Beginnings.{DropsWaiting};
+ghost use Rattle.nb_client.specs.Beginnings.{DropsWaiting, OpensOwn};
 ghost use Rattle.nb_client.specs.Openings.{AsksFor, Intends, IsNoDisk, OpensNext};
 ghost use Rattle.nb_client.specs.Snapshots.{snapshot};
 ghost use Rattle.nb_client.specs.Soundness.{FitsAsked, HasRoomFor, IsSound, snapshot_at};
@@ -56,7 +56,7 @@ impl Site {
     ) -> Result<Stage, NoMemory>
         requires sound { IsSound self.old.used self.old.world self.old.opens (stage.Running script) }
         requires words { IsReady script words.now }
-        requires may { IsAskable self.old.world.opens intent }
+        requires may { MayIntend self.old.world.opens self.old.world.state.drives intent }
         ensures moves { IfOk result (λ st. (w : TheWorld) → Intends w intent script words.now self.old.world
             → MovesOn (snapshot self.old.used w self.old.opens (stage.Running script)) (snapshot_at self.new st) log.old log.new) }
         ensures nothing { OnErr result (log.new ≡ log.old) }
@@ -67,6 +67,7 @@ impl Site {
             Intent::Fetches(wanted) => self.ask(script, words, Asked::File(wanted), log),
             Intent::Hooks(hooking) => self.go_to_hook(script, words, hooking, log),
             Intent::LetsGo(number, cause) => self.let_drive_go(script, words, number, cause, log),
+            Intent::Boots(number) => self.boot_hooked(script, words, number, log),
         }
     }
 
@@ -155,6 +156,7 @@ fn asked_onward(alloc: Global, world: &World, onward: Onward) -> Result<Asked, N
     requires { world.now.opens < 16384 }
     ensures asks { IfOk result (λ a. a ≡ asked_onward world.now onward) }
     ensures fits { FitsOnward onward → IfOk result FitsAsked }
+    ensures opens { IfOk result OpensOwn }
 {
     match onward {
         Onward::File(wanted) => Ok(Asked::File(wanted)),

@@ -4,7 +4,8 @@ ghost use Rattle.nb_defs.specs.Causes.{ok};
 ghost use Rattle.nb_defs.specs.Records.{out_texts};
 ghost use Rattle.nb_defs.specs.Records as defs;
 ghost use Rattle.nb_record.specs.Logged.{Puts};
-ghost use Rattle.nb_machine.specs.Running.{Running, with_result};
+ghost use Rattle.nb_machine.specs.Running.{with_result};
+ghost use Rattle.nb_network.specs.Many.{AreSound};
 ghost use Rattle.nb_image.specs.Images.{ImageList};
 ghost use Rattle.nb_imagecmd.specs.Promises.{HasShortNames, IsShortLine};
 ghost use Rattle.nb_machine.specs.Conclusions.{arrival_conclusion, conclusion};
@@ -14,8 +15,9 @@ ghost use Rattle.nb_runner.specs.ImageDeeds.{IsConcludedWell, MayFollow, conclus
 ghost use Rattle.nb_client.specs.Closings.{ShutsAll};
 ghost use Rattle.nb_client.specs.Concluding.{ArrivesWell, IsBootTable, handing_of, moved_place};
 ghost use Rattle.nb_client.specs.Leading.{LeadsOnBy};
-ghost use Rattle.nb_client.specs.Serving.{Concludes, ConcludesEnd, IsAnsweredWell, drive_failure};
-ghost use Rattle.nb_client.specs.Soundness.{IsSound, snapshot_at};
+ghost use Rattle.nb_client.specs.Drives.{drive_by};
+ghost use Rattle.nb_client.specs.Serving.{Concludes, ConcludesEnd, FitsAnswer, IsAnsweredWell, asks_still, drive_failure};
+ghost use Rattle.nb_client.specs.Soundness.{IsSound, IsSoundBut, snapshot_at};
 ghost use Rattle.nb_client.specs.declared.pending.Pending.{Pending as ThePending};
 ghost use Rattle.nb_client.specs.declared.asked.Asked.TheVariants as asked;
 ghost use Rattle.nb_client.specs.declared.stage.Stage.TheVariants as stage;
@@ -24,11 +26,12 @@ use crate::opening::kind_beside;
 use crate::site::Site;
 use crate::{Answer, Asked, AskedDisk, KeptNext, Next, Pending, Stage};
 use nb_chains::ChainKind;
+use nb_drivecmd::{AfterHook, Drive, Hooking};
 use nb_image::{Body, Images};
 use nb_imagecmd::{Arrival, Asking, ImageFailure, arrive};
 use nb_network::HasEnded;
 use nb_record::{Cause, Log, NoMemory, OutRec};
-use nb_runner::{Conclusion, Following, Handing, RunningScript, Wanted, selected};
+use nb_runner::{Booted, Conclusion, Following, Handing, RunningScript, Wanted, selected};
 use nb_teller::put_result;
 use nb_terms::Plain;
 use nb_wire::Text;
@@ -94,20 +97,30 @@ fn moved_place(ended: &HasEnded) -> Option<&Text>
     ended.moved.as_ref()
 }
 
-/// Why a disk isn't hooked that has answered so; where it is, None.
-fn failure_of(answer: Answer) -> Option<Cause>
-    ensures { result ≡ drive_failure answer }
+/// Why a disk isn't hooked that has answered so; where it is, None. One that is to be booted has to live on.
+fn failure_of(answer: Answer, after: AfterHook) -> Option<Cause>
+    ensures { result ≡ drive_failure after answer }
 {
     match answer {
         Answer::Drive => None,
         Answer::End(ended) => {
             let ended = ended.into_inner();
-            if ended.answered {
-                None
-            } else {
-                Some(ended.cause)
+            match after {
+                AfterHook::Keep if ended.answered => None,
+                AfterHook::Keep | AfterHook::Boot { .. } => Some(ended.cause),
             }
         }
+    }
+}
+
+/// The drive as which a disk is hooked by this open.
+fn drive_by(hooking: &Hooking, open_number: u16) -> Drive
+    ensures { result ≡ drive_by hooking.now open_number }
+{
+    Drive {
+        number: hooking.number,
+        described: hooking.described,
+        open_number,
     }
 }
 
@@ -142,7 +155,7 @@ impl Site {
         answer: Answer,
         out: &mut Log,
     ) -> Result<Stage, NoMemory>
-        requires sound { IsSound self.old.used self.old.world self.old.opens (stage.Running script) }
+        requires sound { IsSoundBut (asks_still answer pending.asked pending.number) self.old.used self.old.world self.old.opens }
         requires well { IsAnsweredWell answer pending self.old }
         ensures { IfOk result (λ st. Concludes pending answer script self.old (snapshot_at self.new st) out.old out.new) }
     {
@@ -159,12 +172,13 @@ impl Site {
             (Asked::Query(query), Answer::End(ended)) => {
                 self.take_found(script, query, kind, waits, ended.into_inner(), out)
             }
-            (Asked::Disk(disk), answer) => Ok(self.take_drive(script, number, &disk, answer, out)),
+            (Asked::Disk(disk), answer) => self.take_drive(script, number, &disk, answer, out),
+            (Asked::Block(drive), answer) => self.take_block(script, number, drive, answer, out),
             (Asked::File(_) | Asked::Query(_), Answer::Drive) => unreachable!(),
         }
     }
 
-    /// A disk has answered, or its open has ended before that.
+    /// A disk has answered, and is hooked, or asked for its first block before; or its open has ended before that.
     fn take_drive(
         &mut self,
         script: RunningScript,
@@ -172,15 +186,23 @@ impl Site {
         disk: &AskedDisk,
         answer: Answer,
         out: &mut Log,
-    ) -> Stage
+    ) -> Result<Stage, NoMemory>
         requires sound { IsSound self.old.used self.old.world self.old.opens (stage.Running script) }
         requires room { length self.old.world.state.drives < 2 }
-        ensures { (p : ThePending) → p.asked ≡ asked.Disk disk.now → p.number ≡ number → p.waits ≡ None
-            → Concludes p answer script self.old (snapshot_at self.new result) out.old out.new }
+        requires fits { FitsAnswer answer (asked.Disk disk.now) number self.old.opens }
+        ensures { IfOk result (λ st. (p : ThePending) → p.asked ≡ asked.Disk disk.now → p.number ≡ number → p.waits ≡ None
+            → Concludes p answer script self.old (snapshot_at self.new st) out.old out.new) }
     {
-        match failure_of(answer) {
-            Some(cause) => go_on_with(script, cause, out),
-            None => self.hook(script, number, &disk.hooking, out),
+        if let Some(cause) = failure_of(answer, disk.hooking.after) {
+            return Ok(go_on_with(script, cause, out));
+        }
+        let drive = drive_by(&disk.hooking, number);
+        match disk.hooking.after {
+            AfterHook::Keep => {
+                self.hook(drive);
+                Ok(go_on_with(script, Plain::Ok.cause(), out))
+            }
+            AfterHook::Boot { .. } => self.ask_block(script, number, Some(drive), out),
         }
     }
 
@@ -266,7 +288,7 @@ impl Site {
                 Ok(go_on_with(script, Plain::Ok.cause(), out))
             }
             Conclusion::Fails(cause) => Ok(go_on_with(script, cause, out)),
-            Conclusion::Boots(kernel) => self.begin_handing(kernel, out),
+            Conclusion::Boots(kernel) => self.begin_handing(Booted::Image(kernel), out),
             Conclusion::Runs {
                 script: image,
                 replace,
@@ -274,16 +296,16 @@ impl Site {
         }
     }
 
-    /// The image at this place is to be handed off: all that lives is closed first.
-    fn begin_handing(&mut self, kernel: usize, out: &mut Log) -> Result<Stage, NoMemory>
-        requires { (s : Running) × IsSound self.old.used self.old.world self.old.opens (stage.Running s) }
-        ensures stage { IfOk result (λ st. (table : Option (List ℕ)) × (st ≡ stage.HandingOff (handing_of kernel table)) × IsBootTable self.old table) }
+    /// This is to be handed off: all that lives is closed first.
+    pub(crate) fn begin_handing(&mut self, booted: Booted, out: &mut Log) -> Result<Stage, NoMemory>
+        requires { AreSound self.old.world.w self.old.world.opens self.old.world.net self.old.opens }
+        ensures stage { IfOk result (λ st. (table : Option (List ℕ)) × (st ≡ stage.HandingOff (handing_of booted table)) × IsBootTable self.old table) }
         ensures used { OnOk result (self.new.used ≡ self.old.used) }
         ensures shuts { OnOk result (ShutsAll [] (defs.result ok ∷ []) self.old self.new out.old out.new) }
     {
         put_result(Plain::Ok.cause(), out);
         let table = self.boot_table()?;
         self.shut_down(ChainKind::File, None, 0, out)?;
-        Ok(Stage::HandingOff(Handing::of(kernel, table)))
+        Ok(Stage::HandingOff(Handing::of(booted, table)))
     }
 }

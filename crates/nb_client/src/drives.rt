@@ -1,15 +1,11 @@
 //! Drives: hooked by a command, let go by another, and forgotten once their open has ended.
 
-ghost use Rattle.std.specs.Prelude.{◌≡◌, ◌<◌, ◌≤◌, [], ◌∷◌, Ok, IfOk, OnOk, OnErr, length};
+ghost use Rattle.std.specs.Prelude.{◌≡◌, ◌<◌, ◌≤◌, Ok, IfOk, OnOk, OnErr, length};
 ghost use Rattle.nb_command.specs.Planning.{planned};
 ghost use Rattle.nb_command.specs.declared.command_plan.CommandPlan.TheVariants as plan;
-ghost use Rattle.nb_defs.specs.Causes.{ok};
-ghost use Rattle.nb_defs.specs.Records.{out_texts};
-ghost use Rattle.nb_defs.specs.Records as defs;
 ghost use Rattle.nb_drivecmd.specs.HookedDrives.{with_hooked};
-ghost use Rattle.nb_machine.specs.Running.{Running, with_result};
+ghost use Rattle.nb_machine.specs.Running.{Running};
 ghost use Rattle.nb_network.specs.Ones.{HasOpen};
-ghost use Rattle.nb_record.specs.Logged.{Puts};
 ghost use Rattle.nb_runner.specs.CommandWords.{IsHookedWell};
 ghost use Rattle.nb_runner.specs.NextCommand.{HasCommand, IsReady};
 ghost use Rattle.nb_runner.specs.World.{world_with_drives};
@@ -17,7 +13,7 @@ ghost use Rattle.nb_runner.specs.declared.intent.Intent.TheVariants as intent;
 ghost use Rattle.nb_runner.specs.declared.world.World.{World as TheWorld};
 ghost use Rattle.nb_client.specs.Asked.{asked_disk, target_of};
 ghost use Rattle.nb_client.specs.Concluding.{IsBootTable};
-ghost use Rattle.nb_client.specs.Drives.{BeginsDrop, ClosesDrives, ClosesLowest, ClosesNumber, DropsOne, ReachesDisk, drive_by, forgotten_at};
+ghost use Rattle.nb_client.specs.Drives.{BeginsDrop, ClosesDrives, ClosesLowest, ClosesNumber, DropsOne, ReachesDisk, forgotten_at};
 ghost use Rattle.nb_client.specs.Openings.{Intends};
 ghost use Rattle.nb_client.specs.Snapshots.{snapshot};
 ghost use Rattle.nb_client.specs.Soundness.{FitsDisk, IsSound, kept_drives, snapshot_at};
@@ -237,29 +233,16 @@ impl Site {
         Ok(())
     }
 
-    /// A disk that has answered by the open of this number is a drive, if that lives on.
-    pub(crate) fn hook(
-        &mut self,
-        script: RunningScript,
-        open_number: u16,
-        hooking: &Hooking,
-        out: &mut Log,
-    ) -> Stage
+    /// A disk is hooked as this drive, if its open lives on.
+    pub(crate) fn hook(&mut self, drive: Drive)
         requires { length self.old.world.state.drives < 2 }
-        ensures stage { result ≡ stage.Running (with_result script ok) }
-        ensures puts { Puts out.old out.new (out_texts (defs.result ok ∷ [])) }
         ensures used { self.new.used ≡ self.old.used }
         ensures opens { self.new.opens ≡ self.old.opens }
         ensures world { self.new.world ≡ world_with_drives self.old.world
-            (kept_drives self.old.opens.list (with_hooked (drive_by hooking.now open_number) self.old.world.state.drives)) }
+            (kept_drives self.old.opens.list (with_hooked drive self.old.world.state.drives)) }
     {
-        self.world.state.drives.hook(Drive {
-            number: hooking.number,
-            described: hooking.described,
-            open_number,
-        });
+        self.world.state.drives.hook(drive);
         self.forget_ended();
-        go_on_with(script, Plain::Ok.cause(), out)
     }
 
     /// Drives whose open has ended are forgotten.
@@ -293,7 +276,6 @@ impl Site {
 
     /// The boot table of the drives that are hooked and described, if any is.
     pub(crate) fn boot_table(&self) -> Result<Option<Text>, NoMemory>
-        requires { (s : Running) × IsSound self.now.used self.now.world self.now.opens (stage.Running s) }
         ensures { IfOk result (λ t. IsBootTable self.now t) }
     {
         let (alloc, state) = (self.alloc, &self.world.state);

@@ -7,6 +7,7 @@
 mod answering;
 mod asked;
 mod asking;
+mod booting;
 mod client;
 mod closing;
 mod concluding;
@@ -25,6 +26,7 @@ mod stage;
 mod starting;
 
 pub use asked::{Asked, AskedDisk};
+pub use booting::FirstBlock;
 pub use client::{Client, Turn};
 pub use pending::{Answer, Expected, KeptNext, KeptPending, Next, Pending};
 pub use stage::Stage;

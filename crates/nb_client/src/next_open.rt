@@ -14,7 +14,7 @@ ghost use Rattle.nb_network.specs.Many.{port_for};
 ghost use Rattle.nb_network.specs.Openings.{AsksFrom};
 ghost use Rattle.nb_open.specs.Opening.{CanOpen, chain_kind, live_by, own_by};
 ghost use Rattle.nb_client.specs.Asked.{live_asked};
-ghost use Rattle.nb_client.specs.Beginnings.{IsConnectionBy, IsLookupBy, asked_kind, own_address};
+ghost use Rattle.nb_client.specs.Beginnings.{IsConnectionBy, IsLookupBy, OpensOwn, asked_kind, own_address};
 ghost use Rattle.nb_client.specs.Snapshots.{state_of_world};
 ghost use Rattle.nb_client.specs.Soundness.{FitsAsked};
 
@@ -210,6 +210,7 @@ fn own_address(world: &World) -> Ip4
 pub(crate) fn opening_of<'a>(world: &World, asked: &'a Asked) -> Opening<'a>
     requires w { world.now.w < 16384 }
     requires few { world.now.opens < 16384 }
+    requires opens { OpensOwn asked.now }
     ensures live { (live : List Live) → live_by result world.now.opens world.now.time ≡ live_asked (state_of_world world.now live) asked.now }
     ensures kind { chain_kind result ≡ asked_kind asked.now }
     ensures can { FitsAsked asked.now → CanOpen result }
@@ -219,6 +220,7 @@ pub(crate) fn opening_of<'a>(world: &World, asked: &'a Asked) -> Opening<'a>
     match asked {
         Asked::File(wanted) => file_opening(world, wanted),
         Asked::Disk(disk) => Opening::Drive(drive_opening(world, disk)),
+        Asked::Block(_) => unreachable!(),
         Asked::Query(Query::Lease) => Opening::Lease(lease_ask(world)),
         Asked::Query(Query::Echo(host)) => Opening::Echo(PingAsk {
             host: *host,

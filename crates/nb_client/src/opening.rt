@@ -14,7 +14,7 @@ ghost use Rattle.nb_network.specs.Openings.{AsksFrom, begun_records};
 ghost use Rattle.nb_open.specs.Begins.{waiting_pieces};
 ghost use Rattle.nb_open.specs.Opening.{CanOpen, chain_kind, live_by, own_by};
 ghost use Rattle.nb_client.specs.Asked.{beside_kind, errand_kind};
-ghost use Rattle.nb_client.specs.Beginnings.{BeginsNext, IsKindBeside, DropsWaiting, asked_kind};
+ghost use Rattle.nb_client.specs.Beginnings.{BeginsNext, IsKindBeside, DropsWaiting, OpensOwn, asked_kind};
 ghost use Rattle.nb_client.specs.Openings.{IsShownWell, Opened, begun_script, front_records};
 ghost use Rattle.nb_client.specs.Soundness.{FitsAsked, HasRoomFor, HasWaiting, IsBacked, IsSound, snapshot_at};
 ghost use Rattle.nb_client.specs.declared.pending.Expected.TheVariants as expected;
@@ -50,7 +50,8 @@ fn beside(asked: &Asked) -> Option<ChainKind>
         Asked::Query(Query::Host { errand, .. }) => Some(errand_kind(errand)),
         Asked::Query(Query::Lease | Query::Echo(_) | Query::Address { .. })
         | Asked::File(_)
-        | Asked::Disk(_) => None,
+        | Asked::Disk(_)
+        | Asked::Block(_) => None,
     }
 }
 
@@ -61,9 +62,10 @@ pub(crate) fn kind_beside(asked: &Asked) -> ChainKind
     match asked {
         Asked::Query(Query::Host { errand, .. }) => errand_kind(errand),
         Asked::Query(Query::Echo(_)) => ChainKind::Echo,
-        Asked::Query(Query::Lease | Query::Address { .. }) | Asked::File(_) | Asked::Disk(_) => {
-            ChainKind::File
-        }
+        Asked::Query(Query::Lease | Query::Address { .. })
+        | Asked::File(_)
+        | Asked::Disk(_)
+        | Asked::Block(_) => ChainKind::File,
     }
 }
 
@@ -127,6 +129,7 @@ impl Site {
         requires shown { IsShownWell (option_copied shown) script }
         requires few { self.old.world.opens < 16384 }
         requires fits { FitsAsked asked }
+        requires opens { OpensOwn asked }
         requires room { HasRoomFor asked self.old.world.state.drives }
         requires waiting { HasWaiting (asked_kind asked) waits None self.old.opens }
         requires lone { (c : TheChain) → IsBacked asked (Some c) → waits ≡ None }

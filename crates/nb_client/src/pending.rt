@@ -44,7 +44,7 @@ pub struct KeptNext {
 pub enum Answer {
     /// The open has ended.
     End(KeptEnd),
-    /// The open is a drive's, which has answered and lives on.
+    /// The open is a drive's, which has answered, or has read what it was asked for, and lives on.
     Drive,
 }
 

@@ -22,7 +22,7 @@ pub enum Stage {
     Yielded(RunningScript),
     /// A script within this one was left with this cause, which the command that ran it has.
     Returning(RunningScript, Cause),
-    /// An image is handed off.
+    /// An image or a disk is handed off.
     HandingOff(Handing),
     /// The first script was left with this cause.
     Left(Cause),

@@ -9,7 +9,6 @@ use Rattle.nb_command.specs.declared.command_name.CommandName.TheVariants.{Ifope
 use Rattle.nb_command.specs.declared.command_plan.CommandPlan.{CommandPlan}
 use Rattle.nb_command.specs.declared.command_plan.CommandPlan.TheVariants as plan
 use Rattle.nb_drivecmd.specs.declared.commands.DriveCommand.{DriveCommand}
-use Rattle.nb_drivecmd.specs.declared.commands.DriveCommand.TheVariants as drives
 use Rattle.nb_drivecmd.specs.DriveReading.{drive_command}
 use Rattle.nb_imagecmd.specs.declared.commands.ImageCommand.{ImageCommand}
 use Rattle.nb_imagecmd.specs.declared.error.PlanError.{PlanError}
@@ -54,15 +53,9 @@ abbrev pub images_planned : Result ImageCommand PlanError → Result CommandPlan
 images_planned (Ok command) = Ok (plan.Images command)
 images_planned (Err why) = Err why
 
--- a drive command; no drive is booted yet
-abbrev pub drive_planned : DriveCommand → Result CommandPlan PlanError
-drive_planned (drives.Hook number describe uri) = Ok (plan.Drives (drives.Hook number describe uri))
-drive_planned (drives.Boot number describe keep uri) = Err Unknown
-drive_planned (drives.Unhook number) = Ok (plan.Drives (drives.Unhook number))
-
 -- words that are no drive command are one on images, or none
 abbrev pub others_planned : Result DriveCommand PlanError → List (List ℕ) → Result CommandPlan PlanError
-others_planned (Ok command) words = drive_planned command
+others_planned (Ok command) words = Ok (plan.Drives command)
 others_planned (Err Unknown) words = images_planned (image_command words)
 others_planned (Err Usage) words = Err Usage
 others_planned (Err NoMemory) words = Err NoMemory

@@ -1,6 +1,6 @@
 ghost use Rattle.std.specs.Prelude.{◌≡◌, ◌≤◌, Ok, Err, IfOk, IsErrOf, length, sum_by};
 ghost use Rattle.nb_command.specs.Plans.{PlansAs};
-ghost use Rattle.nb_command.specs.Planning.{plan_named, images_planned, drive_planned, others_planned, planned};
+ghost use Rattle.nb_command.specs.Planning.{plan_named, images_planned, others_planned, planned};
 ghost use Rattle.nb_imagecmd.specs.Reading.{image_command};
 ghost use Rattle.nb_drivecmd.specs.DriveReading.{drive_command};
 ghost use Rattle.nb_command.specs.Printed.{most_printed, most_text};
@@ -22,7 +22,6 @@ use crate::set::plan_set;
 use crate::show::plan_show;
 use crate::sleep::plan_sleep;
 use crate::{CommandPlan, PlanError};
-use nb_drivecmd::DriveCommand;
 use nb_imagecmd::read_command;
 use nb_wire::Word;
 use std::alloc::Global;
@@ -58,21 +57,9 @@ fn plan_others(alloc: Global, words: &[Word]) -> Result<CommandPlan, PlanError>
         → IfOk result (λ plan. most_text plan ≤ 4160) }
 {
     match nb_drivecmd::read_command(alloc, words) {
-        Ok(command) => plan_drive(command),
+        Ok(command) => Ok(CommandPlan::Drives(command)),
         Err(PlanError::Unknown) => plan_images(alloc, words),
         Err(why) => Err(why),
-    }
-}
-
-/// A drive is hooked or unhooked; none is booted yet.
-fn plan_drive(command: DriveCommand) -> Result<CommandPlan, PlanError>
-    ensures value { result ≡ drive_planned command }
-    ensures small { IfOk result (λ plan. most_printed plan ≡ 0) }
-    ensures args { IfOk result (λ plan. most_text plan ≡ 0) }
-{
-    match command {
-        DriveCommand::Boot { .. } => Err(PlanError::Unknown),
-        command => Ok(CommandPlan::Drives(command)),
     }
 }
 

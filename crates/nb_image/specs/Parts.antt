@@ -4,7 +4,7 @@ use Rattle.std.specs.List.{remove, flat_map, enumerate_from, range_with_len}
 use Rattle.std.specs.Option.{option_to_list}
 use Rattle.nb_image.specs.declared.image.Image.{Image}
 use Rattle.nb_image.specs.declared.part.PartKind.{PartKind}
-use Rattle.nb_image.specs.declared.part.PartKind.TheVariants.{Kernel, Initrd, CommandLine, Table, KernelName, InitrdName}
+use Rattle.nb_image.specs.declared.part.PartKind.TheVariants.{Kernel, Initrd, CommandLine, Table, Sector, KernelName, InitrdName}
 use Rattle.nb_image.specs.declared.part.PartBytes.{PartBytes}
 use Rattle.nb_image.specs.declared.part.PartBytes.TheVariants.{Text, Pages}
 use Rattle.nb_image.specs.declared.part.Part.{Part}
@@ -16,6 +16,7 @@ part_number Kernel = 0
 part_number Initrd = 1
 part_number CommandLine = 2
 part_number Table = 3
+part_number Sector = 4
 part_number KernelName = 5
 part_number InitrdName = 6
 
@@ -64,6 +65,10 @@ parts kernel images = flat_map kernel_parts (option_to_list (slice_get images ke
 abbrev pub table_parts : Option (List ℕ) → List PartText
 table_parts None = []
 table_parts (Some bytes) = part Table 0 bytes ∷ []
+
+-- the first block of a drive
+abbrev pub sector_part : List ℕ → PartText
+sector_part bytes = part Sector 0 bytes
 
 -- how many pieces so many bytes have: of 65,536 bytes each, the last shorter, and one of none
 abbrev pub piece_count : ℕ → ℕ

@@ -15,6 +15,8 @@ pub enum PartKind {
     CommandLine,
     /// The boot table of drives.
     Table,
+    /// The first block of the drive to boot.
+    Sector,
     KernelName,
     InitrdName,
 }
@@ -29,6 +31,7 @@ impl PartKind {
             PartKind::Initrd => 1,
             PartKind::CommandLine => 2,
             PartKind::Table => 3,
+            PartKind::Sector => 4,
             PartKind::KernelName => 5,
             PartKind::InitrdName => 6,
         }

@@ -21,10 +21,10 @@ use Rattle.nb_imagecmd.specs.declared.error.ImageFailure.{ImageFailure}
 use Rattle.nb_imagecmd.specs.declared.error.ImageFailure.TheVariants.{NoImage}
 use Rattle.nb_imagecmd.specs.Executing.{ImageAnswer}
 use Rattle.nb_machine.specs.Conclusions.{Conclusion, keeps, tells, fails, boots, runs_script}
-use Rattle.nb_machine.specs.Effects.{Effect, says, asks, goes, sleeps, shuts_device, inquires, on_images, on_drives, hooks_disk, unhooks_drive, concludes_at_once, Surroundings, next_open, next_look_up, next_by_name, next_at_host, next_effect, asked_effect, image_answer_effect, images_effect, settled_effect, planned_effect, words_effect, expanded_effect, effect, effect_in, table_after, up_after}
+use Rattle.nb_machine.specs.Effects.{Effect, says, asks, goes, sleeps, shuts_device, inquires, on_images, on_drives, hooks_disk, unhooks_drive, boots_drive, concludes_at_once, Surroundings, next_open, next_look_up, next_by_name, next_at_host, next_effect, asked_effect, image_answer_effect, images_effect, settled_effect, planned_effect, words_effect, expanded_effect, effect, effect_in, table_after, up_after}
 use Rattle.nb_machine.specs.Errands.{Errand, fetches_then, echoes_then, hooks_then, Onward, fetches_now, echoes_now, hooks_now, looks_up_now, onward}
 use Rattle.nb_machine.specs.Queries.{with_domain, Query, for_lease, for_echo, for_host, for_address}
-use Rattle.nb_machine.specs.Scripts.{Doing, ends, opens, goes_to, waits_until, shuts, concludes_now, hooks_one, lets_go, doing_by, doing, surroundings}
+use Rattle.nb_machine.specs.Scripts.{Doing, ends, opens, goes_to, waits_until, shuts, concludes_now, hooks_one, lets_go, boots_one, doing_by, doing, surroundings}
 use Rattle.nb_machine.specs.Running.{Running}
 use Rattle.nb_machine.specs.States.{State}
 use Rattle.nb_command.specs.Bases.{base_by}
@@ -75,6 +75,7 @@ IsEffectKept (on_images command) = Unit {0}
 IsEffectKept (on_drives command) = Unit {0}
 IsEffectKept (hooks_disk hooking) = ⊥
 IsEffectKept (unhooks_drive number cause) = ⊥
+IsEffectKept (boots_drive number) = ⊥
 IsEffectKept (concludes_at_once c) = GoesOn c
 
 abbrev pub IsDoingKept : Doing → Type 0
@@ -86,6 +87,7 @@ IsDoingKept (shuts s) = Unit {0}
 IsDoingKept (concludes_now c) = GoesOn c
 IsDoingKept (hooks_one hooking) = ⊥
 IsDoingKept (lets_go number cause) = ⊥
+IsDoingKept (boots_one number) = ⊥
 
 query_does : (s : State) (table : TableLists) (up : Bool) (q : Query) → IsQueryKept q → IsDoingKept (doing_by s table up (inquires q))
 query_does s table up for_lease h = tt
@@ -104,6 +106,7 @@ effect_does s table up (on_images command) h = tt
 effect_does s table up (on_drives command) h = tt
 effect_does s table up (hooks_disk hooking) h = absurd h
 effect_does s table up (unhooks_drive number cause) h = absurd h
+effect_does s table up (boots_drive number) h = absurd h
 effect_does s table up (concludes_at_once c) h = h
 
 -- of two values

@@ -22,13 +22,13 @@ use Rattle.nb_wire.specs.declared.address.Ip4.{Ip4}
 use Rattle.nb_image.specs.Images as images
 use Rattle.nb_machine.specs.CommandRecords.{no_route}
 use Rattle.nb_machine.specs.Conclusions.{Conclusion, keeps, tells, fails, boots, runs_script, file_conclusion, conclusion}
-use Rattle.nb_machine.specs.Courses.{Standing, Progress, ConclusionLeads, LeadsTo, StepBegins, runs, refuses, waits_on, is_answered, switches_off, resumes, goes_off, Proceeds, passes, is_left, hands_back, yields, does, closes_device, goes_to_hook, hooks_none, unhooks, concludes_there, leaves, jumps, finds_no_label, falls_asleep, opens_one, finds_no_route, opens_onward, finds_no_way, opens_no_more, hands, has_handed}
+use Rattle.nb_machine.specs.Courses.{Standing, Progress, ConclusionLeads, LeadsTo, StepBegins, runs, refuses, waits_on, is_answered, switches_off, resumes, goes_off, Proceeds, passes, is_left, hands_back, yields, does, closes_device, goes_to_hook, hooks_none, unhooks, boots_hooked, concludes_there, leaves, jumps, finds_no_label, falls_asleep, opens_one, finds_no_route, opens_onward, finds_no_way, opens_no_more, hands, has_handed}
 use Rattle.nb_machine.specs.Effects.{full_opens, next_moved}
 use Rattle.nb_machine.specs.Errands.{Errand, fetches_then, Onward, fetches_now, echoes_now, hooks_now, looks_up_now, onward, Wanted}
 use Rattle.nb_machine.specs.FirstText.{first_reading}
 use Rattle.nb_machine.specs.Kinds.{fetched, resolved}
 use Rattle.nb_machine.specs.Running.{Running, passing, leaving, beginning, coming, rest_comes, words_come, line_comes, list_comes, behind_command, onto_line, with_result, anew, entered, lets_run, counting_on, no_label}
-use Rattle.nb_machine.specs.Scripts.{Job, fetch, takes_lease, hears_echo, keeps_address, hooks, asks_on, sleep, job_onward, live_onward, Answer, by_end, by_drive, by_time, Upshot, concludes, settles, hooks_drive, goes_onward, concluded_by, place_moved_to, upshot_fetched, upshot_moved, next_of, settled_with, Doing, opens, concludes_now, hooks_one, lets_go, doing}
+use Rattle.nb_machine.specs.Scripts.{Job, fetch, takes_lease, hears_echo, keeps_address, hooks, boots as boots_read, asks_on, sleep, job_onward, live_onward, Answer, by_end, by_drive, by_time, Upshot, concludes, settles, hooks_drive, reads_drive, boots_drive_by, goes_onward, concluded_by, place_moved_to, upshot_fetched, upshot_moved, next_of, settled_with, Doing, opens, concludes_now, hooks_one, lets_go, boots_one, doing}
 use Rattle.nb_machine.specs.States.{State}
 use Rattle.nb_machine.specs.Takings.{Over}
 use Rattle.nb_client.specs.Progressing.{ProceedsTo, no_further, one_further, UsesOrMoves}
@@ -127,6 +127,8 @@ abbrev IsUpshotKept : Upshot → Type 0
 IsUpshotKept (concludes c) = GoesOn c
 IsUpshotKept (settles x) = Unit {0}
 IsUpshotKept (hooks_drive d) = ⊥
+IsUpshotKept (reads_drive d) = ⊥
+IsUpshotKept (boots_drive_by d bytes) = ⊥
 IsUpshotKept (goes_onward next) = IsNextKept next
 
 taken_kept : (refused : Option ImageError) (way : After) (image : Image) (depth : ℕ) (held : ImageList) → way ≡ after.Keep → GoesOn (file_conclusion (taken_unless refused way image depth held))
@@ -184,6 +186,7 @@ concluded_kept s depth (keeps_address setting) (by_end o) h = tt
 concluded_kept s depth (asks_on errand) (by_end o) h = errand_concluded s errand o h (next_of errand o) (next_of_kept errand o h)
 concluded_kept s depth sleep (by_end o) h = tt
 concluded_kept s depth (hooks hooking) a h = absurd h
+concluded_kept s depth (boots_read d) a h = absurd h
 concluded_kept s depth (fetch wanted) (by_drive l) h = tt
 concluded_kept s depth takes_lease (by_drive l) h = tt
 concluded_kept s depth hears_echo (by_drive l) h = tt
@@ -210,6 +213,8 @@ upshot_stands : (s : State) (inner : Running) (outer : List Running) (u : Upshot
 upshot_stands s inner outer (concludes c) put p h none k l = conclusion_stands s inner outer c put p h none k l
 upshot_stands s inner outer (settles x) put p h none k l = subst StandsInLab (sym l.1) (result_kept inner x.cause h, none)
 upshot_stands s inner outer (hooks_drive d) put p h none k l = absurd k
+upshot_stands s inner outer (reads_drive d) put p h none k l = absurd k
+upshot_stands s inner outer (boots_drive_by d bytes) put p h none k l = absurd k
 upshot_stands s inner outer (goes_onward next) put p h none k l = subst StandsInLab (sym l.1) (h, none, k)
 
 onward_job : (next : Onward) → IsNextKept next → IsJobKept (job_onward next)
@@ -252,6 +257,7 @@ moves_in_lab p put q h (closes_device n s s' inner outer c cs put1 over a b d e)
 moves_in_lab p put q h (goes_to_hook n s s' inner outer c cs hooking put1 next a b d e f) = absurd (does_so s inner c cs (hooks_one hooking) h.0 a d)
 moves_in_lab p put q h (hooks_none n s s' inner outer c cs hooking put1 cause a b d e f) = absurd (does_so s inner c cs (hooks_one hooking) h.0 a d)
 moves_in_lab p put q h (unhooks n s s' inner outer c cs number put1 cause a b d e) = absurd (does_so s inner c cs (lets_go number cause) h.0 a d)
+moves_in_lab p put q h (boots_hooked n s inner outer c cs number d put1 p1 a b e f g) = absurd (does_so s inner c cs (boots_one number) h.0 a e)
 moves_in_lab p put q h (concludes_there n s inner outer c cs x put1 p1 a b d leads) =
     conclusion_stands s (entered inner) outer x put1 p1 (entered_kept inner h.0) h.1 (does_so s inner c cs (concludes_now x) h.0 a d) leads
 moves_in_lab p put q h (leaves n s s' inner outer c cs o a b d e) = none_outside (entered inner) outer h.1

@@ -1,4 +1,4 @@
--- What a run in a lab keeps to: its one script has the commands `imgfetch`, `imgfree` and `exit` alone, so no image is booted and no
+-- What a run in a lab keeps to: its one script has the commands `imgfetch`, `imgfree` and `exit` alone, so no image or disk is booted and no
 -- further script runs.
 use Rattle.std.specs.Prelude.{◌≡◌, ◌⊎◌, ℕ, List, [], ◌∷◌, IfSome, codes}
 use Rattle.nb_defs.specs.ScriptLines.{Item, Line, label, list, empty, items}
@@ -7,7 +7,7 @@ use Rattle.nb_imagecmd.specs.declared.asking.Asking.{Asking}
 use Rattle.nb_machine.specs.Courses.{Standing, ready, running, waiting, reaching, yielded, handing, left, handed_off, stopped}
 use Rattle.nb_machine.specs.Errands.{Errand, fetches_then, echoes_then, hooks_then, Onward, fetches_now, echoes_now, hooks_now, looks_up_now}
 use Rattle.nb_machine.specs.Running.{Running}
-use Rattle.nb_machine.specs.Scripts.{Job, fetch, takes_lease, hears_echo, keeps_address, hooks, asks_on, sleep}
+use Rattle.nb_machine.specs.Scripts.{Job, fetch, takes_lease, hears_echo, keeps_address, hooks, boots, asks_on, sleep}
 
 abbrev pub IsLabName : List ℕ → Type 0
 IsLabName name = (name ≡ codes "imgfetch") ⊎ ((name ≡ codes "imgfree") ⊎ (name ≡ codes "exit"))
@@ -55,6 +55,7 @@ IsJobKept hears_echo = Unit {0}
 IsJobKept (keeps_address setting) = Unit {0}
 IsJobKept (asks_on errand) = IsErrandKept errand
 IsJobKept (hooks hooking) = ⊥
+IsJobKept (boots d) = ⊥
 IsJobKept sleep = Unit {0}
 
 -- where the run stands: no other script runs, nothing is handed off, and the power wasn't switched off

@@ -23,7 +23,7 @@ use Rattle.nb_dns.specs.LookupReplies.{address_found}
 use Rattle.nb_laws.specs.Events.{Event, puts}
 use Rattle.nb_laws.specs.Lists.{hardware, openings, made, datagrams_of, came_ok, last_end}
 use Rattle.nb_laws.specs.Cores.{lookup_by, looked_at, has_its_answer}
-use Rattle.nb_laws.specs.CommandsSoFar.{CommandsSoFar, so_far, comes_by, comes_after, concluded_in, conclusion_so_far, shown_table, shown_query, hooking_in}
+use Rattle.nb_laws.specs.CommandsSoFar.{CommandsSoFar, so_far, comes_by, comes_after, ComesTo, concluded_in, conclusion_so_far, shown_table, shown_query, hooking_in}
 use Rattle.nb_laws.specs.Moves.{MovedOpen, moves}
 use Rattle.nb_laws.specs.Wanting.{wanted_by}
 use Rattle.nb_laws.specs.Agreement.{AgreesScript, AsksQuery, asks_at_once, echoes_next}
@@ -33,12 +33,12 @@ use Rattle.nb_laws.proofs.SoFar.{over_so_far, left_unasked, result_so_far, fetch
 use Rattle.nb_laws.proofs.Afterwards.{sleeps_after}
 use Rattle.nb_laws.proofs.Settling.{comes_sleeps, comes_asleep, query_asleep, comes_keeps}
 use Rattle.nb_openlaws.specs.Standings.{live_opening}
-use Rattle.nb_laws.specs.CommandOpens.{command_open, command_end}
+use Rattle.nb_laws.specs.CommandOpens.{command_open, command_end, over_of}
 use Rattle.nb_laws.specs.Frames.{by_sleep, HoldsOf, HoldsResult, by_failed_end}
-use Rattle.nb_laws.specs.Hookings.{HasDriveAnswer}
+use Rattle.nb_laws.specs.Hookings.{HasDriveAnswer, KeepsDisk, BootsDisk, BootsBy, HasRead}
 use Rattle.nb_lawful.specs.ScriptAgreement.{SettingsAre, SleepsUntil, FetchesWith, AsksIn, IsToReach, reaches_host, HasImages, NoneLeft, HooksBy, LooksUpDisk, HasFreeNumber, reaches_looked_up_disk}
 use Rattle.nb_lawful.proofs.AtOnce.{Goes, goes_nowhere, images_as}
-use Rattle.nb_lawful.proofs.Opened.{Purpose, for_file, for_query, for_disk_host, for_disk}
+use Rattle.nb_lawful.proofs.Opened.{Purpose, for_file, for_query, for_disk_host, for_disk, for_boot}
 use Rattle.nb_lawful.proofs.CommandEnds.{ended_so, HasEnded, ends_with}
 use Rattle.nb_lawful.proofs.Concluded.{fetch_goes}
 use Rattle.nb_lawful.proofs.Moved.{moved_goes}
@@ -47,11 +47,20 @@ use Rattle.nb_lawful.proofs.Resting.{sleeping_comes}
 use Rattle.nb_lawful.proofs.Begun.{opened_none}
 use Rattle.nb_lawful.proofs.HookedLives.{drives_still, lives_so}
 use Rattle.nb_lawful.proofs.Disks.{still_hooks, words_hook, no_drive_last}
-use Rattle.nb_lawful.proofs.DriveAnswers.{none_answers}
+use Rattle.nb_lawful.proofs.Awaited.{its}
+use Rattle.nb_lawful.proofs.DriveAnswers.{none_answers, none_reads}
+use Rattle.nb_lawful.proofs.NoBlocks.{words_boot_none, no_block_first, no_block_later, no_block_last, keep_or_boot}
+use Rattle.nb_lawful.proofs.Unasked.{unread_plain}
+use Rattle.nb_openlaws.specs.Standings.{AgreesState}
+use Rattle.nb_login.specs.declared.info.LoginInfo.{LoginInfo}
+use Rattle.nb_machine.specs.Lives.{iscsi}
+use Rattle.nb_machine.specs.Kinds.{answered, read_last}
+use Rattle.nb_drivecmd.specs.declared.outcome.AfterHook.TheVariants.{Keep, Boot}
 use Rattle.nb_lawful.proofs.Leading.{Concluding, failed_so, result_goes, conclusion_goes}
 use Rattle.nb_lawful.specs.Results.{HasEndedOpens}
 use Rattle.nb_drivecmd.specs.HookedDrives.{is_drive}
 use Rattle.nb_drivecmd.specs.declared.outcome.Hooking.{Hooking}
+use Rattle.nb_openlaws.specs.Sessions.{SessionsAgree}
 
 -- ITS OPEN HAS ENDED
 
@@ -130,14 +139,27 @@ file_goes : (es : List Event) (outs : List Out) (s : State) (inner : Running) (o
 file_goes es outs s inner outer moved l cause wanted more p h f None is leads = fetch_goes es outs s inner outer moved l cause wanted more p h f is leads
 file_goes es outs s inner outer moved l cause wanted more p h f (Some place) is leads = moved_goes es outs s inner outer moved l cause wanted place more p h f is leads
 
+-- the command's open has ended with this cause
+pub record HasFailed (es : List Event) (outs : List Out) (s : State) (inner : Running) (outer : List Running) (cause : Cause) : Type 0 where
+  pub base : AgreesState es s
+  pub script : AgreesScript es inner outer
+  pub settings : SettingsAre (so_far es) s true
+  pub images : HasImages es outs s
+  pub none_left : NoneLeft es
+  pub its_end : (k : ℕ) × (command_open es ≡ its k (Some cause))
+  pub settled : SessionsAgree es s.live
+
+ended_failed : (es : List Event) (outs : List Out) (s : State) (inner : Running) (outer : List Running) (moved : List MovedOpen) (l : Live) (cause : Cause) → HasEnded es outs s inner outer moved l cause → HasFailed es outs s inner outer cause
+ended_failed es outs s inner outer moved l cause h = record { base = h.base; script = h.script; settings = h.settings; images = h.images; none_left = h.none_left; its_end = (l.number, h.its_end); settled = h.settled }
+
 -- a command that hooks a disk fails
-disk_concluding : (es : List Event) (outs : List Out) (s : State) (inner : Running) (outer : List Running) (moved : List MovedOpen) (l : Live) (cause : Cause) (hooking : Hooking) (shown : ShownWords) → HasEnded es outs s inner outer moved l cause →
-    (so_far es).shown ≡ Some shown → comes_after l.number (so_far es) shown moved ≡ hooks_disk hooking → is_ok_cause cause ≡ false → (HasDriveAnswer es → ⊥) → Concluding es outs s inner outer (fails cause)
-disk_concluding es outs s inner outer moved l cause hooking shown h said names bad none =
+pub disk_concluding : (es : List Event) (outs : List Out) (s : State) (inner : Running) (outer : List Running) (cause : Cause) (hooking : Hooking) → HasFailed es outs s inner outer cause → ComesTo es (made es) (hooks_disk hooking) → is_ok_cause cause ≡ false →
+    (KeepsDisk es → HasDriveAnswer es → ⊥) → (BootsDisk es → (bytes : List ℕ) → HasRead (made es - 1) es bytes → ⊥) → Concluding es outs s inner outer (fails cause)
+disk_concluding es outs s inner outer cause hooking h (shown, said, names) bad none unread =
     let m = so_far es in
-    let ended : command_end es ≡ Some cause = ends_with es outs s inner outer moved l cause h in
-    let failed : came_ok (last_end es) ≡ false = ap came_ok h.last ∙ bad in
-    let words : comes_by (made es) m shown ≡ hooks_disk hooking = words_hook l.number (made es) m shown moved hooking names in
+    let ended : command_end es ≡ Some cause = ap over_of h.its_end.1 in
+    let failed : came_ok (last_end es) ≡ false = ap came_ok ended ∙ bad in
+    let words : comes_by (made es) m shown ≡ hooks_disk hooking = words_hook (made es) (made es) m shown (moves es) hooking names in
     record {
       base = h.base;
       script = h.script;
@@ -148,11 +170,17 @@ disk_concluding es outs s inner outer moved l cause hooking shown h said names b
       keeps_table = ap (shown_table m.table) said ∙ comes_keeps (made es) m shown (hooks_disk hooking) words tt;
       leaves_table = left_quiet es m.table m.shown failed;
       holds = λ given gives. subst (HoldsResult es) (sym gives) (by_failed_end ended bad);
-      ended = subst HasEndedOpens (sym h.its_end) (cause, refl);
+      ended = subst HasEndedOpens (sym h.its_end.1) (cause, refl);
       unhooked = λ given gives. hooks_failed es given (ap is_ok_cause gives ∙ bad);
-      no_disk = λ given gives left some disk answers. absurd (none answers);
+      no_disk = λ given gives left some disk answers. absurd (none disk answers);
+      no_block = no_block_later es _ h.its_end.1 unread;
+      settled = h.settled;
       fits = tt;
     }
+
+-- what the words come to, whatever was moved
+pub hooks_now_so : (es : List Event) (k : ℕ) (shown : ShownWords) (moved : List MovedOpen) (hooking : Hooking) → (so_far es).shown ≡ Some shown → comes_after k (so_far es) shown moved ≡ hooks_disk hooking → ComesTo es (made es) (hooks_disk hooking)
+hooks_now_so es k shown moved hooking said names = (shown, said, still_hooks k (made es) (so_far es) shown moved (moves es) hooking names)
 
 -- the host of its disk was looked up, or has no address
 disk_host_goes : (es : List Event) (outs : List Out) (s : State) (inner : Running) (outer : List Running) (moved : List MovedOpen) (l : Live) (cause : Cause) (hooking : Hooking) (more : List Out) (p : Standing) → HasEnded es outs s inner outer moved l cause →
@@ -198,22 +226,43 @@ disk_host_goes es outs s inner outer moved l cause hooking more p h a gone None 
     by_leading bad (none, at) =
         subst (λ z. Goes es outs (result cause ∷ z) p) (sym none) (subst (λ z. Goes es outs (result cause ∷ []) z) (sym at)
         (result_goes es outs s (with_settings s s.table s.up) inner outer (fails cause) cause
-        (disk_concluding es outs s inner outer moved l cause hooking a.shown h a.said a.names bad (no_drive_last es (live_opening l) 4 (ap (λ n. openings n es) h.number ∙ h.opening) (ap kind_number a.is_for.0) refl))
+        (disk_concluding es outs s inner outer cause hooking (ended_failed es outs s inner outer moved l cause h) (hooks_now_so es l.number a.shown moved hooking a.said a.names) bad
+        (λ disk. no_drive_last es (live_opening l) 4 (ap (λ n. openings n es) h.number ∙ h.opening) (ap kind_number a.is_for.0) refl)
+        (λ disk. no_block_last es (live_opening l) 4 (ap (λ n. openings n es) h.number ∙ h.opening) (ap kind_number a.is_for.0) refl))
         refl (record { table = refl; up = refl; now = refl; images = refl; drives = refl; lives = refl; opens = refl })))
 
     by : (b : Bool) → is_ok_cause cause ≡ b → Goes es outs (upshot_records (settles (settled_with cause (Ok s.table) s.table)) ++ more) p
     by true well = absurd (nowhere well (resolved l) (found_one es outs s inner outer moved l cause h a.is_for.0 well) (ap (λ b. cond b (option_map (onward_to (hooks_then hooking)) (resolved l)) None) (sym well) ∙ is))
     by false bad = subst (λ z. Goes es outs (upshot_records (settles z) ++ more) p) (sym (fails_so bad)) (by_leading bad (subst (λ z. LeadsTo s inner outer (settles z) more p) (fails_so bad) leads))
 
--- its disk has not answered, and its open has ended
+-- a session doesn't end well
+session_bad : (es : List Event) (outs : List Out) (s : State) (inner : Running) (outer : List Running) (moved : List MovedOpen) (l : Live) (cause : Cause) → HasEnded es outs s inner outer moved l cause → (isn : ℕ) (i : LoginInfo) →
+    l.kind ≡ iscsi isn i → is_ok_cause cause ≡ false
+session_bad es outs s inner outer moved l cause h isn i kind =
+    h.answered ∙ ap (λ k. has_its_answer l.number (record { kind = kind_number k; server = l.server; port = l.port; own = l.own; target = l.target; since = l.since }) es) kind
+
+-- its disk has not answered, which it keeps, and its open has ended
 disk_fails : (es : List Event) (outs : List Out) (s : State) (inner : Running) (outer : List Running) (moved : List MovedOpen) (l : Live) (cause : Cause) (hooking : Hooking) (more : List Out) (p : Standing) → HasEnded es outs s inner outer moved l cause →
-    HooksBy (so_far es) moved l hooking → LeadsTo s inner outer (concludes (fails cause)) more p → Goes es outs (result cause ∷ more) p
-disk_fails es outs s inner outer moved l cause hooking more p h a leads =
+    HooksBy (so_far es) moved l hooking → hooking.after ≡ Keep → answered l ≡ None → LeadsTo s inner outer (concludes (fails cause)) more p → Goes es outs (result cause ∷ more) p
+disk_fails es outs s inner outer moved l cause hooking more p h a keeps early leads =
     let (isn, i, kind) = a.is_drive in
-    let bad : is_ok_cause cause ≡ false = h.answered ∙ ap (λ k. has_its_answer l.number (record { kind = kind_number k; server = l.server; port = l.port; own = l.own; target = l.target; since = l.since }) es) kind in
+    let names = hooks_now_so es l.number a.shown moved hooking a.said a.names in
     conclusion_goes es outs s inner outer (fails cause) more p (λ list lines e. absurd (cc e))
-    (disk_concluding es outs s inner outer moved l cause hooking a.shown h a.said a.names bad
-    (none_answers es l isn i (record { kind = kind; kind_is = h.kind_is; login = h.login; streams = h.streams; own = h.own }) h.number a.early)) leads
+    (disk_concluding es outs s inner outer cause hooking (ended_failed es outs s inner outer moved l cause h) names (session_bad es outs s inner outer moved l cause h isn i kind)
+    (λ disk. none_answers es l (h.tells isn i kind) h.number early)
+    (λ disk bytes read. keep_or_boot es (record { hooking = hooking; names = names; keeps = keeps }) disk)) leads
+
+-- or it has read no block of the disk that it boots
+pub boot_fails : (es : List Event) (outs : List Out) (s : State) (inner : Running) (outer : List Running) (moved : List MovedOpen) (l : Live) (cause : Cause) (hooking : Hooking) (keep : Bool) (more : List Out) (p : Standing) →
+    HasEnded es outs s inner outer moved l cause →
+    HooksBy (so_far es) moved l hooking → hooking.after ≡ Boot keep → read_last l ≡ None → LeadsTo s inner outer (concludes (fails cause)) more p → Goes es outs (result cause ∷ more) p
+boot_fails es outs s inner outer moved l cause hooking keep more p h a boots_it unread leads =
+    let (isn, i, kind) = a.is_drive in
+    let names = hooks_now_so es l.number a.shown moved hooking a.said a.names in
+    conclusion_goes es outs s inner outer (fails cause) more p (λ list lines e. absurd (cc e))
+    (disk_concluding es outs s inner outer cause hooking (ended_failed es outs s inner outer moved l cause h) names (session_bad es outs s inner outer moved l cause h isn i kind)
+    (λ disk answers. keep_or_boot es disk (record { hooking = hooking; names = names; keep = keep; boots = boots_it }))
+    (λ disk. none_reads es l (made es - 1) (h.tells isn i kind) h.number unread)) leads
 
 -- what follows of its job
 pub job_goes : (es : List Event) (outs : List Out) (s : State) (inner : Running) (outer : List Running) (moved : List MovedOpen) (l : Live) (cause : Cause) (job : Job) (more : List Out) (p : Standing) → HasEnded es outs s inner outer moved l cause → Purpose es s.drives moved l job →
@@ -224,9 +273,12 @@ job_goes es outs s inner outer moved l cause job more p h (for_file wanted is f)
 job_goes es outs s inner outer moved l cause job more p h (for_disk_host hooking is a gone) leads =
     subst (λ z. Goes es outs (upshot_records (concluded_by s inner.depth z (by_end (ended_so l cause))) ++ more) p) (sym is)
     (disk_host_goes es outs s inner outer moved l cause hooking more p h a gone (next_of (hooks_then hooking) (ended_so l cause)) refl (subst (λ z. LeadsTo s inner outer (concluded_by s inner.depth z (by_end (ended_so l cause))) more p) is leads))
-job_goes es outs s inner outer moved l cause job more p h (for_disk hooking is a gone) leads =
+job_goes es outs s inner outer moved l cause job more p h (for_boot hooking keep is boots_it a asks unasked early gone) leads =
     subst (λ z. Goes es outs (upshot_records (concluded_by s inner.depth z (by_end (ended_so l cause))) ++ more) p) (sym is)
-    (disk_fails es outs s inner outer moved l cause hooking more p h a (subst (λ z. LeadsTo s inner outer (concluded_by s inner.depth z (by_end (ended_so l cause))) more p) is leads))
+    (let (isn, i, kind) = a.is_drive in boot_fails es outs s inner outer moved l cause hooking keep more p h a boots_it (unread_plain l isn i kind unasked) (subst (λ z. LeadsTo s inner outer (concluded_by s inner.depth z (by_end (ended_so l cause))) more p) is leads))
+job_goes es outs s inner outer moved l cause job more p h (for_disk hooking is keeps a early gone) leads =
+    subst (λ z. Goes es outs (upshot_records (concluded_by s inner.depth z (by_end (ended_so l cause))) ++ more) p) (sym is)
+    (disk_fails es outs s inner outer moved l cause hooking more p h a keeps early (subst (λ z. LeadsTo s inner outer (concluded_by s inner.depth z (by_end (ended_so l cause))) more p) is leads))
 job_goes es outs s inner outer moved l cause job more p h (for_query query is a) leads =
     subst (λ z. Goes es outs (upshot_records (concluded_by s inner.depth z (by_end (ended_so l cause))) ++ more) p) (sym is)
     (query_goes es outs s inner outer moved l cause query more p h a (subst (λ z. LeadsTo s inner outer (concluded_by s inner.depth z (by_end (ended_so l cause))) more p) is leads))
@@ -258,9 +310,19 @@ slept_goes es outs s s0 inner outer until more p h (none, leads) =
     let still : comes_after (made es - 1) (so_far es) a.shown (moves es) ≡ sleeps a.seconds = sleeps_after s0.opens (made es - 1) (so_far es) a.shown (moves es) a.seconds a.sleeps_so in
     let nothing : conclusion_so_far (last_end es) es (so_far es) ≡ None = fetches_nothing es (so_far es) a.shown a.is_shown (λ x. ap (λ e. wanted_by e x) still) (ap concluded_in (asleep (made es))) in
     let is : so_far (es ++ puts o ∷ []) ≡ over_so_far None (so_far es) = result_so_far es ok None h.none_left nothing (left_unasked es (so_far es).table (so_far es).shown unasked) ∙ ap (over_so_far None) (hooks_none es ok a.shown a.is_shown (ap hooking_in (asleep 0))) in
+    let unread : (k : ℕ) (bytes : List ℕ) → BootsBy k es → HasRead k es bytes → ⊥ = no_block_first es h.none (words_boot_none es (made es) (sleeps a.seconds) refl (sleeping_comes es s0 until a)) in
     let due : (so_far es).since + 1000 * a.seconds ≤ (so_far es).now = omega (arith, h.due, a.until_is, h.settings.now) in
     subst (λ z. Goes es outs (o ∷ z) p) (sym none) (subst (λ z. Goes es outs (o ∷ []) z) (sym leads) (record {
-      stands = (record { is_open = h.settings.is_open; holds = subst (λ l. HoldsOf l es ok) (sym h.none_left) (by_sleep a.seconds h.none (sleeping_comes es s0 until a) due refl); hooks = λ left some. absurd (opened_none (command_open es) h.none some) }, tt);
+      stands = (
+        record {
+          is_open = h.settings.is_open;
+          holds = subst (λ l. HoldsOf l es ok) (sym h.none_left) (by_sleep a.seconds h.none (sleeping_comes es s0 until a) due refl);
+          hooks = λ left some. absurd (opened_none (command_open es) h.none some);
+          reads = λ left k bytes boots_it read. absurd (unread k bytes boots_it read);
+          frees = λ left some. absurd (opened_none (command_open es) h.none some);
+        },
+        tt,
+      );
       agrees = (
         script_as (es ++ told (o ∷ [])) inner (with_result inner ok) outer (record { same = refl; depth = refl; begun = refl }) (script_told es (o ∷ []) inner outer (tt, tt) refl h.script),
         subst (λ m. SettingsAre m (with_images s s.images) false) (sym is) (record { table = sleep_keeps (so_far es) s0 until a ∙ h.settings.table; up = h.settings.up; now = h.settings.now; is_open = refl }),

@@ -6,7 +6,7 @@ use Rattle.nb_defs.specs.Causes.{ok}
 use Rattle.nb_defs.specs.Commands.{CommandOutcome, refused}
 use Rattle.nb_defs.specs.Records.{Out, result, leave}
 use Rattle.nb_defs.specs.ScriptLines.{label_place}
-use Rattle.nb_machine.specs.Effects.{Effect, says, asks, goes, sleeps, shuts_device, inquires, on_images, on_drives, hooks_disk, unhooks_drive, concludes_at_once, Surroundings, settled_effect, effect, effect_in, shown_words, table_after, up_after}
+use Rattle.nb_machine.specs.Effects.{Effect, says, asks, goes, sleeps, shuts_device, inquires, on_images, on_drives, hooks_disk, unhooks_drive, boots_drive, concludes_at_once, Surroundings, settled_effect, effect, effect_in, shown_words, table_after, up_after}
 use Rattle.nb_machine.specs.Running.{Running, coming, passing, entered, further, behind_line, no_label, with_result, counting_on}
 use Rattle.nb_machine.specs.CommandRecords.{command_record, command_records}
 use Rattle.nb_machine.proofs.Words.{sleeps_some}
@@ -127,7 +127,16 @@ hands_back_goes es outs s inner outer cause a =
     let es1 = es ++ puts o ∷ [] in
     let is = handed_so_far es cause cause a.2.1 ∙ ap (λ (m : CommandsSoFar). record m { is_open = false; left = None; concluded = None }) (hooks_unshown es cause a.2.2) in
     record {
-      stands = (record { is_open = a.2.0; holds = subst (λ l. HoldsOf l es cause) (sym a.2.1) refl; hooks = λ none. absurd (none-some cause (sym none ∙ a.2.1)) }, tt);
+      stands = (
+        record {
+          is_open = a.2.0;
+          holds = subst (λ l. HoldsOf l es cause) (sym a.2.1) refl;
+          hooks = λ none. absurd (none-some cause (sym none ∙ a.2.1));
+          reads = λ none. absurd (none-some cause (sym none ∙ a.2.1));
+          frees = λ none. absurd (none-some cause (sym none ∙ a.2.1));
+        },
+        tt,
+      );
       agrees = (
         record {
           scripts = first_as (so_far es1) inner (with_result inner cause) outer refl refl (scripts_as (so_far es) (so_far es1) (inner ∷ outer) (ap (λ (m : CommandsSoFar). m.scripts) is) a.0);
@@ -247,14 +256,16 @@ IsRested (on_images c) = Unit {0}
 IsRested (on_drives c) = Unit {0}
 IsRested (hooks_disk hooking) = Unit {0}
 IsRested (unhooks_drive number cause) = Unit {0}
+IsRested (boots_drive number) = Unit {0}
 IsRested (concludes_at_once c) = Unit {0}
 
 settled_rests : (x : Surroundings) (e : Effect) → ((n : ℕ) → e ≡ sleeps n → 0 < n) → IsRested (settled_effect x e)
 settled_rests x (sleeps seconds) h = h seconds refl
 settled_rests x (on_images c) h = images_either IsRested (λ o. tt) (λ y. tt) (λ wanted. tt) (λ q. tt) x c
-settled_rests x (on_drives c) h = drives_either IsRested (λ o. tt) (λ hooking. tt) (λ number cause. tt) x c
+settled_rests x (on_drives c) h = drives_either IsRested (λ o. tt) (λ hooking. tt) (λ number cause. tt) (λ number. tt) x c
 settled_rests x (hooks_disk hooking) h = tt
 settled_rests x (unhooks_drive number cause) h = tt
+settled_rests x (boots_drive number) h = tt
 settled_rests x (says o) h = tt
 settled_rests x (asks wanted) h = tt
 settled_rests x (goes name) h = tt

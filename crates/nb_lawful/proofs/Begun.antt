@@ -17,7 +17,9 @@ use Rattle.nb_machine.specs.CommandRecords.{prints, command_record, command_reco
 use Rattle.nb_machine.specs.States.{State}
 use Rattle.nb_laws.specs.Events.{Event, puts, EachEvent}
 use Rattle.nb_laws.specs.Lists.{made, commands_begun}
-use Rattle.nb_laws.specs.CommandsSoFar.{CommandsSoFar, so_far, running_code, running_base, script_code, shown_effect, shown_table, shown_up, surroundings_in, comes_by, comes_after, ComesTo, concluded_in, hooking_in}
+use Rattle.nb_laws.specs.CommandsSoFar.{CommandsSoFar, so_far, running_code, running_base, script_code, shown_effect, shown_table, shown_up, surroundings_in, comes_by, comes_after, ComesTo, concluded_in, hooking_in, booted_in, booted_drive}
+use Rattle.nb_laws.specs.Drives.{asked_by}
+use Rattle.nb_laws.proofs.DriveTalks.{command_asks_none}
 use Rattle.nb_laws.specs.Moves.{moves}
 use Rattle.nb_laws.specs.Agreement.{as_so_far, AgreesScript}
 use Rattle.nb_laws.proofs.Histories.{each_append}
@@ -34,6 +36,7 @@ use Rattle.nb_lawful.specs.Results.{ResultStands, CommandsSo}
 use Rattle.nb_lawful.specs.ScriptAgreement.{SettingsAre, HasImages, ScriptsAgree}
 use Rattle.nb_lawful.proofs.Quiet.{command_open_more, quiet_makes_none, quiet_so_far, quiet_scripts, quiet_commands, quiet_made, ends_quiet, ends_fail, closing_moves}
 use Rattle.nb_lawful.proofs.HookedLives.{LivesSo}
+use Rattle.nb_lawful.proofs.NoBlocks.{words_boot_none, no_block_first}
 
 pub told_two : (es : List Event) (a b : List Out) → es ++ told (a ++ b) ≡ (es ++ told a) ++ told b
 told_two es a b = ap (λ z. es ++ z) (map-append puts a b) ∙ sym (append_assoc es (told a) (told b))
@@ -188,12 +191,23 @@ pub opened_none : (x : Option CommandOpen) → x ≡ None → IsSome x → ⊥
 opened_none None e some = absurd (let clash : false ≡ true = some in cc clash)
 opened_none (Some o) e some = none-some o (sym e)
 
+-- its record asks no drive for anything
+pub asks_nothing : (es : List Event) (s : State) (inner : Running) (ws : List (List ℕ)) (e : Effect) → HasBegun (es ++ puts (command_record inner (shown_words s.table ws)) ∷ []) s inner ws → comes_to s inner ws ≡ e → booted_in e ≡ None → (k : ℕ) →
+    asked_by k es (command_record inner (shown_words s.table ws)) ≡ []
+asks_nothing es s inner ws e b comes none k =
+    let es1 = es ++ puts (command_record inner (shown_words s.table ws)) ∷ [] in
+    command_asks_none k es inner.depth inner.passed inner.place (shown_words s.table ws).expanded (shown_words s.table ws).words
+    (sym (ap booted_drive (so_far_more es (puts (command_record inner (shown_words s.table ws))))) ∙ words_boot_none es1 (made es1) e none (has_begun_comes es1 s inner ws e b comes))
+
 -- its result stands
-result_stands : (es : List Event) (s : State) (inner : Running) (ws : List (List ℕ)) (cause : Cause) (e : Effect) → HasBegun es s inner ws → comes_to s inner ws ≡ e → (command_open es ≡ None → ComesTo es (made es) e → HoldsResult es cause) → ResultStands es cause
-result_stands es s inner ws cause e b comes holds = record {
+result_stands : (es : List Event) (s : State) (inner : Running) (ws : List (List ℕ)) (cause : Cause) (e : Effect) → HasBegun es s inner ws → comes_to s inner ws ≡ e → booted_in e ≡ None →
+    (command_open es ≡ None → ComesTo es (made es) e → HoldsResult es cause) → ResultStands es cause
+result_stands es s inner ws cause e b comes unbooted holds = record {
   is_open = ap (λ (x : CommandsSoFar). x.is_open) b.so_far_is;
   holds = subst (λ l. HoldsOf l es cause) (sym (ap (λ (x : CommandsSoFar). x.left) b.so_far_is ∙ b.none_left)) (holds b.none (has_begun_comes es s inner ws e b comes));
   hooks = λ left some. absurd (opened_none (command_open es) b.none some);
+  reads = λ left k bytes boots read. absurd (no_block_first es b.none (words_boot_none es (made es) e unbooted (has_begun_comes es s inner ws e b comes)) k bytes boots read);
+  frees = λ left some. absurd (opened_none (command_open es) b.none some);
 }
 
 -- a command that is over at once
@@ -202,10 +216,10 @@ pub command_stands : (es : List Event) (outs : List Out) (s : State) (inner : Ru
 command_stands es outs s inner outer ws o opens lives a comes few = by o.prints
   where
     by : (p : Option (List ℕ)) → EachEvent CommandsSo es (told ((command_record inner (shown_words s.table ws) ∷ []) ++ prints p ++ (result o.cause ∷ [])))
-    by None = (begins_so es s inner ws a.1 few, (result_stands _ s inner ws o.cause (says o) (begun_silently es outs s inner outer ws opens lives a) comes (λ none c. by_words o none c refl), tt))
+    by None = (begins_so es s inner ws a.1 few, (result_stands _ s inner ws o.cause (says o) (begun_silently es outs s inner outer ws opens lives a) comes refl (λ none c. by_words o none c refl), tt))
     by (Some bytes) = (
       begins_so es s inner ws a.1 few,
-      (tt, (result_stands _ s inner ws o.cause (says o) (begun_printing _ s inner ws bytes (begun_silently es outs s inner outer ws opens lives a)) comes (λ none c. by_words o none c refl), tt)),
+      (tt, (result_stands _ s inner ws o.cause (says o) (begun_printing _ s inner ws bytes (begun_silently es outs s inner outer ws opens lives a)) comes refl (λ none c. by_words o none c refl), tt)),
     )
 
 -- `goto`
@@ -213,13 +227,13 @@ pub jump_stands : (es : List Event) (outs : List Out) (s : State) (inner : Runni
     label_place name inner.code ≡ Some line → commands_begun es < 4096 → EachEvent CommandsSo es (told (command_records inner (shown_words s.table ws) (refused ok)))
 jump_stands es outs s inner outer ws name line opens lives a is there few =
     let b = begun_silently es outs s inner outer ws opens lives a in
-    (begins_so es s inner ws a.1 few, (result_stands _ s inner ws ok (goes name) b is (λ none c. by_jump name line none c (ap (label_place name) b.code ∙ there) refl), tt))
+    (begins_so es s inner ws a.1 few, (result_stands _ s inner ws ok (goes name) b is refl (λ none c. by_jump name line none c (ap (label_place name) b.code ∙ there) refl), tt))
 
 pub no_label_stands : (es : List Event) (outs : List Out) (s : State) (inner : Running) (outer : List Running) (ws : List (List ℕ)) (name : List ℕ) → made es ≡ s.opens → LivesSo es s → ScriptsAgree es outs (course.running s inner outer) → comes_to s inner ws ≡ goes name →
     label_place name inner.code ≡ None → commands_begun es < 4096 → EachEvent CommandsSo es (told (command_records inner (shown_words s.table ws) (refused no_label)))
 no_label_stands es outs s inner outer ws name opens lives a is nowhere few =
     let b = begun_silently es outs s inner outer ws opens lives a in
-    (begins_so es s inner ws a.1 few, (result_stands _ s inner ws no_label (goes name) b is (λ none c. by_no_label name none c (ap (label_place name) b.code ∙ nowhere) refl), tt))
+    (begins_so es s inner ws a.1 few, (result_stands _ s inner ws no_label (goes name) b is refl (λ none c. by_no_label name none c (ap (label_place name) b.code ∙ nowhere) refl), tt))
 
 -- `ifclose`, with the ends of all that lives
 pub shut_stands : (es : List Event) (outs : List Out) (s : State) (inner : Running) (outer : List Running) (ws : List (List ℕ)) (cause : Cause) (put : List Out) → came_ok (Some cause) ≡ false → AreClosing cause put → made es ≡ s.opens → LivesSo es s → ScriptsAgree es outs (course.running s inner outer) → comes_to s inner ws ≡ shuts_device →
@@ -227,7 +241,7 @@ pub shut_stands : (es : List Event) (outs : List Out) (s : State) (inner : Runni
 shut_stands es outs s inner outer ws cause put bad all opens lives a is few =
     let es1 = es ++ puts (command_record inner (shown_words s.table ws)) ∷ [] in
     let b = begun_closing es1 s inner ws cause put bad all (begun_silently es outs s inner outer ws opens lives a) in
-    (begins_so es s inner ws a.1 few, stand_then es1 put (result ok ∷ []) (quiet_commands es1 put (ends_quiet cause put all)) (result_stands _ s inner ws ok shuts_device b is (λ none c. by_shut none c refl), tt))
+    (begins_so es s inner ws a.1 few, stand_then es1 put (result ok ∷ []) (quiet_commands es1 put (ends_quiet cause put all)) (result_stands _ s inner ws ok shuts_device b is refl (λ none c. by_shut none c refl), tt))
 
 -- THE SETTINGS THEN
 

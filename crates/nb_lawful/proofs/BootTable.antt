@@ -19,11 +19,11 @@ use Rattle.nb_laws.specs.Drives.{sessions, answered_so_far}
 use Rattle.nb_laws.specs.Events.{Event}
 use Rattle.nb_laws.specs.HandOff.{drive_open_by_session, drive_open_so_far, boot_table_so_far}
 use Rattle.nb_laws.specs.Lists.{hardware}
-use Rattle.nb_openlaws.specs.Standings.{AgreesState, AgreesLive, AreLive, HasLogin, live_opening}
-use Rattle.nb_openlaws.proofs.Takings.{own_ports}
+use Rattle.nb_openlaws.specs.Sessions.{session_of_live}
+use Rattle.nb_openlaws.specs.Standings.{AgreesState}
 use Rattle.nb_tftp.proofs.BlockLemmas.{either_way}
 use Rattle.nb_lawful.specs.ScriptAgreement.{IsDriveOf, WasHooked, HasDrives}
-use Rattle.nb_lawful.proofs.DriveAnswers.{answered_is, session_of_live}
+use Rattle.nb_lawful.proofs.DriveAnswers.{TellsSettled}
 use Rattle.nb_lawful.proofs.HookedLives.{all_map, some_drives, lives_so}
 
 abbrev one_or_none : {A : Type 0} → Option A → List A
@@ -40,16 +40,16 @@ each_found f g [] h = refl
 each_found f g (d ∷ ds) h = one_found (f d) (g d) (filter_map f ds) h.0 ∙ ap (λ z. g d ++ z) (each_found f g ds h.1)
 
 -- the open of a drive, by the history
-pub live_drive : (es : List Event) (l : Live) (isn : ℕ) (i : LoginInfo) → AgreesLive es l → l.kind ≡ iscsi isn i →
+pub live_drive : (es : List Event) (l : Live) (isn : ℕ) (i : LoginInfo) → TellsSettled es l → l.kind ≡ iscsi isn i →
     map (λ s. drive_open_by_session l.number s (answered_so_far l.number s es)) (sessions l.number es) ≡ one_or_none (drive_open_of l)
-live_drive es l isn i a kind =
-    ap (map (λ s. drive_open_by_session l.number s (answered_so_far l.number s es))) (subst (λ k. HasLogin l.number es k (live_opening l)) kind a.login)
-    ∙ ap (λ (x : Option DriveAnswer). drive_open_by_session l.number (session_of_live l i) x ∷ [])
-    (answered_is es l isn i (record { kind = kind; kind_is = a.kind_is; login = a.login; streams = a.streams; own = own_ports l.kind l.number l.own l.exchanges a.goes_on }))
+live_drive es l isn i tells kind =
+    let t = tells isn i kind in
+    ap (map (λ s. drive_open_by_session l.number s (answered_so_far l.number s es))) t.is
+    ∙ ap (λ (x : Option DriveAnswer). drive_open_by_session l.number (session_of_live l i t.boots_it) x ∷ []) t.same
     ∙ sym (ap (λ k. one_or_none (option_map (drive_open_by l) (login_of_kind k))) kind)
 
 -- it is found among those that live
-found_drive : (es : List Event) (d : Drive) (ls : List Live) → AreLive es ls → AllByRecursion (IsDriveOf d) ls → list_any (λ (l : Live). l.number == d.open_number) ls ≡ true →
+found_drive : (es : List Event) (d : Drive) (ls : List Live) → AllByRecursion (TellsSettled es) ls → AllByRecursion (IsDriveOf d) ls → list_any (λ (l : Live). l.number == d.open_number) ls ≡ true →
     one_or_none (open_numbered d.open_number (filter_map drive_open_of ls)) ≡ drive_open_so_far es d
 found_drive es d [] a h some = absurd (let clash : false ≡ true = some in cc clash)
 found_drive es d (l ∷ ls) a h some = either_way (l.number == d.open_number) here (there (found_drive es d ls a.1 h.1))
@@ -87,12 +87,12 @@ kept_there : (s : State) (ds : List Drive) → AllByRecursion (WasHooked s) ds �
 kept_there s [] h = tt
 kept_there s (d ∷ ds) h = kept_one s d (still_hooked s.live ds) (has_open s.live d) refl h.0 (kept_there s ds h.1)
 
-pub table_same : (es : List Event) (s : State) → AgreesState es s → HasDrives (so_far es) s → (so_far es).table ≡ s.table → boot_table_so_far es ≡ boot_table s
+pub table_same : (es : List Event) (s : State) → AgreesState es s → HasDrives (so_far es) s → AllByRecursion (TellsSettled es) s.live → (so_far es).table ≡ s.table → boot_table_so_far es ≡ boot_table s
 unfolding boot_table_so_far boot_table described_opens
-table_same es s a h table =
+table_same es s a h settled table =
     let there = subst (AllByRecursion (IsThere s)) (sym h.are) (kept_there s (so_far es).hooked h.were) in
     let opens = each_found (λ d. open_numbered d.open_number (filter_map drive_open_of s.live)) (drive_open_so_far es) (described_drives s.drives)
-    (some_drives _ (λ d. d.described) s.drives (all_map (IsThere s) (λ d. one_or_none (open_numbered d.open_number (filter_map drive_open_of s.live)) ≡ drive_open_so_far es d) s.drives (λ d x. found_drive es d s.live a.each x.1.is_drive x.0) there)) in
+    (some_drives _ (λ d. d.described) s.drives (all_map (IsThere s) (λ d. one_or_none (open_numbered d.open_number (filter_map drive_open_of s.live)) ≡ drive_open_so_far es d) s.drives (λ d x. found_drive es d s.live settled x.1.is_drive x.0) there)) in
     ap (λ ds. option_map ibft (drive_info (hardware es).mac (so_far es).table (flat_map (drive_open_so_far es) (described_drives ds)))) (lives_so es s a h)
     ∙ ap (λ z. option_map ibft (drive_info (hardware es).mac (so_far es).table z)) (sym opens)
     ∙ ap (λ t. option_map ibft (drive_info (hardware es).mac t (filter_map (λ d. open_numbered d.open_number (filter_map drive_open_of s.live)) (described_drives s.drives)))) table

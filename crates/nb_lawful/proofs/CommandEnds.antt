@@ -36,6 +36,8 @@ use Rattle.nb_openlaws.proofs.Takings.{IsToOwnPort}
 use Rattle.nb_laws.specs.CommandOpens.{command_open, command_end, over_of}
 use Rattle.nb_lawful.specs.ScriptAgreement.{SettingsAre, HasImages, NoneLeft}
 use Rattle.nb_lawful.proofs.Awaited.{its}
+use Rattle.nb_lawful.proofs.DriveAnswers.{TellsSession}
+use Rattle.nb_openlaws.specs.Sessions.{SessionsAgree}
 
 abbrev pub ended_so : Live → Cause → Over
 ended_so l cause = record { live = l; cause = cause }
@@ -58,6 +60,9 @@ pub record HasEnded (es : List Event) (outs : List Out) (s : State) (inner : Run
   pub login : HasLogin l.number es l.kind (live_opening l)
   pub own : AllByRecursion (IsToOwnPort l.kind l.own) l.exchanges
   pub answered : is_ok_cause cause ≡ has_its_answer l.number (live_opening l) es
+  -- what it has answered and read as a drive, and what all that live have, by the history
+  pub tells : TellsSession es l
+  pub settled : SessionsAgree es s.live
   pub moved_so : moves es ≡ moved ++ moved_open (live_opening l) (place_moved_to (ended_so l cause))
 
 pub ends_with : (es : List Event) (outs : List Out) (s : State) (inner : Running) (outer : List Running) (moved : List MovedOpen) (l : Live) (cause : Cause) → HasEnded es outs s inner outer moved l cause → command_end es ≡ Some cause

@@ -53,6 +53,7 @@ use Rattle.nb_lawful.proofs.CommandEnds.{ended_so, HasEnded, ends_with, response
 use Rattle.nb_lawful.proofs.Fits.{Fits, conclusion_fits}
 use Rattle.nb_lawful.proofs.Leading.{ConcludedSo, concluded_so, failed_so, Concluding, conclusion_goes}
 use Rattle.nb_lawful.proofs.Disks.{no_disk_where}
+use Rattle.nb_lawful.proofs.NoBlocks.{kept_disk, booted_disk, no_block_later}
 
 -- ITS KIND
 
@@ -213,7 +214,9 @@ concluding_file es outs s inner outer moved l cause wanted h f stays = record {
   holds = holds (is_ok_cause cause) refl;
   ended = subst HasEndedOpens (sym h.its_end) (cause, refl);
   unhooked = λ given gives. hooks_none es given f.shown f.said (asking_hooks (comes_by 0 m f.shown) asking.first asking.words);
-  no_disk = λ given gives left some disk. absurd (no_disk_where es f.shown f.said (asking_hooks (comes_by 0 m f.shown) asking.first asking.words) disk);
+  no_disk = λ given gives left some disk. absurd (no_disk_where es f.shown f.said (asking_hooks (comes_by 0 m f.shown) asking.first asking.words) (kept_disk es disk));
+  no_block = no_block_later es _ h.its_end (λ d bytes read. no_disk_where es f.shown f.said (asking_hooks (comes_by 0 m f.shown) asking.first asking.words) (booted_disk es d));
+  settled = h.settled;
   fits = subst (λ d. Fits d (conclusion cause wanted.asking (fetched l) inner.depth s.images)) (sym (depth_is es inner outer h.script)) (conclusion_fits cause wanted.asking (fetched l) inner.depth s.images);
 }
   where

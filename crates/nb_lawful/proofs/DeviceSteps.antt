@@ -1,11 +1,11 @@
 -- A step: how its record is read, and the device after it.
-use Rattle.std.proofs.Common.{◌≡◌, ℕ, ◌+◌, true, false, List, [], ◌∷◌, ◌++◌, refl, sym, ◌∙◌, ap, subst, append_assoc}
+use Rattle.std.proofs.Common.{◌≡◌, ℕ, ◌+◌, true, false, List, [], ◌∷◌, ◌++◌, refl, sym, ◌∙◌, ap, subst, append_assoc, Some}
 use Rattle.nb_defs.specs.Records.{Start, In, Out, enter, leave}
 use Rattle.nb_terms.specs.declared.cause.Cause.{Cause}
 use Rattle.nb_machine.specs.Starting.{net_of}
 use Rattle.nb_machine.specs.Running.{Running, anew}
 use Rattle.nb_machine.specs.States.{State, with_settings, with_drive}
-use Rattle.nb_machine.specs.Scripts.{Upshot, concludes, settles, goes_onward, upshot_records, concluded_by, hooks_drive}
+use Rattle.nb_machine.specs.Scripts.{Upshot, concludes, settles, goes_onward, upshot_records, concluded_by, hooks_drive, reads_drive, boots_drive_by}
 use Rattle.nb_machine.specs.Courses as course
 use Rattle.nb_machine.specs.Courses.{Standing, Progress, LeadsTo, StepBegins}
 use Rattle.nb_laws.specs.Events.{Event, starts, puts, followed}
@@ -19,7 +19,7 @@ use Rattle.nb_openlaws.proofs.Courses.{step_event, step_more}
 use Rattle.nb_lawful.specs.ScriptAgreement.{SettingsAre, ScriptsAgree}
 use Rattle.nb_lawful.proofs.Begun.{told_two}
 use Rattle.nb_lawful.proofs.Scripted.{network_steps}
-use Rattle.nb_lawful.proofs.Devices.{DeviceAgrees, device_moves, device_stays, concludes_device}
+use Rattle.nb_lawful.proofs.Devices.{DeviceAgrees, device_moves, device_stays, concludes_device, reads_device}
 
 -- START gives the device
 first_device : (s : Start) (n : ℕ) → net_of s ∷ [] ≡ client (starts n s ∷ puts (enter 1) ∷ []) ∷ []
@@ -38,6 +38,8 @@ leads_device es more s inner outer (settles x) put p outs (none, is) d settings 
     subst (DeviceAgrees (es ++ told more)) (sym is) (device_moves es more s (with_settings s x.table s.up) false refl d (subst (ScriptsAgree (es ++ told more) outs) is later).1)
 leads_device es more s inner outer (hooks_drive x) put p outs (none, is) d settings later =
     subst (DeviceAgrees (es ++ told more)) (sym is) (device_stays es more s (with_drive s x) refl refl refl d settings (subst (ScriptsAgree (es ++ told more) outs) is later).1)
+leads_device es more s inner outer (reads_drive x) put p outs leads d settings later = reads_device es more outs s inner outer x.open_number (Some x) put p leads d settings later
+leads_device es more s inner outer (boots_drive_by x bytes) put p outs (over, all, is) d settings later = subst (DeviceAgrees (es ++ told more)) (sym is) tt
 leads_device es more s inner outer (goes_onward next) put p outs (none, is) d settings later =
     subst (DeviceAgrees (es ++ told more)) (sym is) (device_stays es more s s refl refl refl d settings (subst (ScriptsAgree (es ++ told more) outs) is later).1)
 

@@ -13,7 +13,7 @@ use Rattle.nb_machine.specs.Lives.{Live}
 use Rattle.nb_machine.specs.States.{State, following, with_images, with_live, with_opened, with_one_made}
 use Rattle.nb_machine.specs.Scripts.{Job, live_onward}
 use Rattle.nb_machine.specs.Courses as course
-use Rattle.nb_machine.specs.Courses.{Standing, Progress, text_standing, ConclusionLeads, Proceeds, DropsDrive}
+use Rattle.nb_machine.specs.Courses.{Standing, Progress, text_standing, ConclusionLeads, Proceeds, DropsDrive, ReadsBlock, block_standing}
 use Rattle.nb_laws.specs.Events.{Event, puts, EachEvent}
 use Rattle.nb_laws.specs.Histories.{IsRead, client}
 use Rattle.nb_laws.specs.CommandsSoFar.{so_far}
@@ -23,6 +23,8 @@ use Rattle.nb_openlaws.specs.Standings.{AgreesDevice}
 use Rattle.nb_openlaws.proofs.Doings.{left_by, ends_by, shuts_by, OpensBy, opens_transfer, opens_query, opens_by}
 use Rattle.nb_lawful.specs.Results.{CommandsSo}
 use Rattle.nb_lawful.specs.ScriptAgreement.{SettingsAre, ScriptsAgree}
+use Rattle.nb_drivecmd.specs.declared.drive.Drive.{Drive}
+use Rattle.nb_machine.specs.Takings.{Over}
 
 -- while a script runs or waits, the device is the client of the history
 abbrev pub DeviceAgrees : List Event → Standing → Type 0
@@ -111,6 +113,23 @@ dropped_device : {before after : Bool} (es : List Event) (outs : List Out) (s s'
 dropped_device es outs s s' number put d device settings later =
     device_stays es outs s s' (ap (λ (z : State). z.devices) d.leaves) (ap (λ (z : State). z.table) d.leaves) (ap (λ (z : State). z.up) d.leaves) device settings later
 
+-- a drive is asked for its first block
+pub reads_device : {still : Bool} (es : List Event) (more outs : List Out) (s : State) (inner : Running) (outer : List Running) (number : ℕ) (x : Option Drive) (put : List Out) (p : Standing) → ReadsBlock s inner outer number x put p →
+    AgreesDevice es s → SettingsAre (so_far es) s still →
+    ScriptsAgree (es ++ told more) outs p → DeviceAgrees (es ++ told more) p
+reads_device {still} es more outs s inner outer number x put p r d settings later = by r.over refl
+  where
+    stays : {after : Bool} → SettingsAre (so_far (es ++ told more)) r.next after → AgreesDevice (es ++ told more) r.next
+    stays {after} then = device_stays es more s r.next (ap (λ (z : State). z.devices) r.asks.leaves) (ap (λ (z : State). z.table) r.asks.leaves) (ap (λ (z : State). z.up) r.asks.leaves) d settings then
+
+    by : (over : List Over) → r.over ≡ over → DeviceAgrees (es ++ told more) p
+    by [] is =
+        let at = r.stands_so ∙ ap (block_standing r.next inner outer number x) is in
+        subst (DeviceAgrees (es ++ told more)) (sym at) (stays (subst (ScriptsAgree (es ++ told more) outs) at later).1)
+    by (o ∷ over) is =
+        let at = r.stands_so ∙ ap (block_standing r.next inner outer number x) is in
+        subst (DeviceAgrees (es ++ told more)) (sym at) (stays (subst (ScriptsAgree (es ++ told more) outs) at later).1)
+
 pub move_device : (es : List Event) (outs : List Out) (m : Progress) (added : List Out) (m2 : Progress) → Proceeds m added m2 → DeviceAgrees es m.standing → ScriptsAgree es outs m.standing → ScriptsAgree (es ++ told added) (outs ++ added) m2.standing → DeviceAgrees (es ++ told added) m2.standing
 move_device es outs m added m2 (course.passes n s inner next outer comes) d h later = device_stays es [] s s refl refl refl d h.1 later.1
 move_device es outs m added m2 (course.is_left n s inner outer cause comes) d h later = device_stays es added s s refl refl refl d h.1 later.3
@@ -126,6 +145,7 @@ move_device es outs m added m2 (course.closes_device n s s2 inner outer c cs put
 move_device es outs m added m2 (course.goes_to_hook n s s2 inner outer c cs hooking put next comes few is drops asks) d h later = dropped_device es added s s2 hooking.number put drops d h.1 later.1
 move_device es outs m added m2 (course.hooks_none n s s2 inner outer c cs hooking put cause comes few is drops asks) d h later = dropped_device es added s s2 hooking.number put drops d h.1 later.1
 move_device es outs m added m2 (course.unhooks n s s2 inner outer c cs number put cause comes few is drops) d h later = dropped_device es added s s2 number put drops d h.1 later.1
+move_device es outs m added m2 (course.boots_hooked n s inner outer c cs number x put p comes few is got reads) d h later = reads_device es added (outs ++ added) s (entered inner) outer x.open_number None put p reads d h.1 later
 move_device es outs m added m2 (course.leaves n s s2 inner outer c cs x comes few is away) d h later =
     let same = (ends_by s inner (c ∷ cs) x s2 is).1 in
     device_moves es added s s2 (so_far (es ++ told added)).is_open (ap (λ (z : State). z.devices) same ∙ ap (λ (z : State). following z.table z.up s.devices) (sym same)) d later.3

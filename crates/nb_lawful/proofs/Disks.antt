@@ -75,7 +75,7 @@ bare_sessions k before (e ∷ es) h =
     ap (λ z. z ++ gathered (session_at k) (before ++ e ∷ []) es) (bare_one k before (opening_at k before e) (all_front (opening_at k before e) rest h))
     ∙ bare_sessions k (before ++ e ∷ []) es (all_back (opening_at k before e) rest h)
 
-no_sessions : (k : ℕ) (es : List Event) (o : Opening) → openings k es ≡ o ∷ [] → opens_session o ≡ false → sessions k es ≡ []
+pub no_sessions : (k : ℕ) (es : List Event) (o : Opening) → openings k es ≡ o ∷ [] → opens_session o ≡ false → sessions k es ≡ []
 unfolding openings sessions
 no_sessions k es o opened bare = bare_sessions k [] es (subst (AllByRecursion IsBare) (sym opened) (bare, tt))
 

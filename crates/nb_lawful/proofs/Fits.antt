@@ -30,7 +30,7 @@ use Rattle.nb_imagecmd.specs.CarryingOut.{asking_answer, select_at, execute_at, 
 use Rattle.nb_imagecmd.specs.Executing.{ImageAnswer, selected_at, selected_with, executed_kind, executed_image, executed_selected, is_too_deep, script_of, taken_from, script_taken}
 use Rattle.nb_imagecmd.specs.Freeing.{are_all_listed}
 use Rattle.nb_machine.specs.Conclusions.{Conclusion, keeps, tells, fails, boots, runs_script, boots_selected, file_conclusion, conclusion}
-use Rattle.nb_machine.specs.Effects.{Effect, says, asks, goes, sleeps, shuts_device, inquires, on_images, on_drives, hooks_disk, unhooks_drive, concludes_at_once, ShownWords, Surroundings, taken_effect, image_outcome_effect, image_answer_effect, images_effect, drives_effect}
+use Rattle.nb_machine.specs.Effects.{Effect, says, asks, goes, sleeps, shuts_device, inquires, on_images, on_drives, hooks_disk, unhooks_drive, boots_drive, concludes_at_once, ShownWords, Surroundings, taken_effect, image_outcome_effect, image_answer_effect, images_effect, drives_effect}
 use Rattle.nb_machine.proofs.Eithers.{asked_case, drives_either}
 use Rattle.nb_laws.specs.CommandsSoFar.{CommandsSoFar, surroundings_in, comes_by}
 use Rattle.nb_laws.proofs.Settling.{IsPlain, WordsAre, images_words, other_words, words_are, images_come, plain_comes, drives_words, drives_come}
@@ -165,6 +165,7 @@ FitsEffect depth (on_images c) = Unit {0}
 FitsEffect depth (on_drives c) = Unit {0}
 FitsEffect depth (hooks_disk hooking) = Unit {0}
 FitsEffect depth (unhooks_drive number cause) = Unit {0}
+FitsEffect depth (boots_drive number) = Unit {0}
 
 taken_fits : (depth : ℕ) (i : ℕ) (replace : Bool) (list : ImageList) → FitsEffect depth (taken_effect replace (script_taken i replace depth list))
 unfolding script_taken
@@ -192,7 +193,7 @@ images_fit x c = by (image_effect c (base_by x.base x.table) x.images) (effect_s
 
 -- a drive command concludes nothing
 drives_conclude : (x : Surroundings) (d : DriveCommand) (c : Conclusion) → drives_effect x d ≡ concludes_at_once c → ⊥
-drives_conclude x d c = drives_either (λ e. e ≡ concludes_at_once c → ⊥) (λ o is. absurd (cc)) (λ hooking is. absurd (cc)) (λ number cause is. absurd (cc)) x d
+drives_conclude x d c = drives_either (λ e. e ≡ concludes_at_once c → ⊥) (λ o is. absurd (cc)) (λ hooking is. absurd (cc)) (λ number cause is. absurd (cc)) (λ number is. absurd (cc)) x d
 
 -- what a command comes to at once
 pub comes_fit : (k : ℕ) (m : CommandsSoFar) (shown : ShownWords) (c : Conclusion) → comes_by k m shown ≡ concludes_at_once c → Fits (length m.scripts) c

@@ -43,13 +43,14 @@ use Rattle.nb_laws.proofs.Settling.{IsNoFetch, asked_plainly}
 use Rattle.nb_laws.proofs.Stays.{IsAsking}
 use Rattle.nb_openlaws.specs.Standings.{live_opening, heard_calls}
 use Rattle.nb_laws.specs.CommandOpens.{command_end}
-use Rattle.nb_laws.specs.Hookings.{HooksDisk}
+use Rattle.nb_laws.specs.Hookings.{HooksDisk, BootsBy, HasRead}
 use Rattle.nb_lawful.specs.Results.{ResultStands}
 use Rattle.nb_lawful.specs.ScriptAgreement.{SettingsAre, IsLiveFor, AsksIn}
 use Rattle.nb_lawful.proofs.AtOnce.{Goes, images_as}
 use Rattle.nb_lawful.proofs.CommandEnds.{HasEnded, ends_with, look_up_heard, lease_heard}
 use Rattle.nb_lawful.proofs.HookedLives.{drives_still}
 use Rattle.nb_lawful.proofs.Disks.{no_disk_where}
+use Rattle.nb_lawful.proofs.NoBlocks.{kept_disk, booted_disk, no_block_later}
 
 -- WHAT IT HAS FOUND
 
@@ -151,9 +152,24 @@ found_stands es outs s inner outer moved l cause query f = by (is_ok_cause cause
         (record { opening = live_opening l; opened = ap (λ n. openings n es) f.ended_so.number ∙ f.ended_so.opening; kind_is = echo_kind (hardware es) query l address same f.asks.is_for })
         (ap (λ q. (settled_by s.table (found_by q l s.table)).cause) same)
 
+    unread : (k : ℕ) (bytes : List ℕ) → BootsBy k es → HasRead k es bytes → ⊥
+    unread = no_block_later es _ f.ended_so.its_end (λ d bytes read. found_no_disk es outs s inner outer moved l cause query f (booted_disk es d))
+
     by : (b : Bool) → is_ok_cause cause ≡ b → ResultStands es (cond b (settled_by s.table (found_by query l s.table)) (record { cause = cause; table = s.table })).cause
-    by false e = record { is_open = f.ended_so.settings.is_open; holds = own (by_failed_end (ends_with es outs s inner outer moved l cause f.ended_so) e); hooks = λ left some disk. absurd (found_no_disk es outs s inner outer moved l cause query f disk) }
-    by true e = record { is_open = f.ended_so.settings.is_open; holds = own (held e f.asks.asked); hooks = λ left some disk. absurd (found_no_disk es outs s inner outer moved l cause query f disk) }
+    by false e = record {
+      is_open = f.ended_so.settings.is_open;
+      holds = own (by_failed_end (ends_with es outs s inner outer moved l cause f.ended_so) e);
+      hooks = λ left some disk. absurd (found_no_disk es outs s inner outer moved l cause query f (kept_disk es disk));
+      reads = λ left k bytes boots_it read. absurd (unread k bytes boots_it read);
+      frees = λ left some d. absurd (found_no_disk es outs s inner outer moved l cause query f (booted_disk es d));
+    }
+    by true e = record {
+      is_open = f.ended_so.settings.is_open;
+      holds = own (held e f.asks.asked);
+      hooks = λ left some disk. absurd (found_no_disk es outs s inner outer moved l cause query f (kept_disk es disk));
+      reads = λ left k bytes boots_it read. absurd (unread k bytes boots_it read);
+      frees = λ left some d. absurd (found_no_disk es outs s inner outer moved l cause query f (booted_disk es d));
+    }
 
 -- THE SETTINGS THEN
 

@@ -8,13 +8,15 @@ use Rattle.nb_terms.specs.declared.cause.Cause.{Cause}
 use Rattle.nb_defs.specs.Causes.{ok, is_ok_cause}
 use Rattle.nb_tftp.proofs.BlockLemmas.{either_way}
 use Rattle.nb_drivecmd.specs.declared.drive.Drive.{Drive}
+use Rattle.nb_drivecmd.specs.declared.outcome.AfterHook.TheVariants.{Keep, Boot}
 use Rattle.nb_drivecmd.specs.declared.outcome.Hooking.{Hooking}
-use Rattle.nb_drivecmd.specs.HookedDrives.{is_drive, with_hooked}
+use Rattle.nb_machine.specs.Drives.{DriveAnswer, last_read}
+use Rattle.nb_drivecmd.specs.HookedDrives.{is_drive, with_hooked, drive_numbered}
 use Rattle.nb_settings.specs.Tables.{TableLists}
 use Rattle.nb_uri.specs.Addresses.{four_decimals}
 use Rattle.nb_wire.specs.declared.address.Ip4.{Ip4}
 use Rattle.nb_dns.specs.WrittenNames.{is_lookup_name}
-use Rattle.nb_machine.specs.Effects.{Effect, says, asks, goes, sleeps, shuts_device, inquires, on_images, on_drives, hooks_disk, unhooks_drive, concludes_at_once, ShownWords, full_opens, next_open, next_look_up, next_by_name, next_at_host, is_host_text, next_at_target, full_drives}
+use Rattle.nb_machine.specs.Effects.{Effect, says, asks, goes, sleeps, shuts_device, inquires, on_images, on_drives, hooks_disk, unhooks_drive, boots_drive, concludes_at_once, ShownWords, full_opens, next_open, next_look_up, next_by_name, next_at_host, is_host_text, next_at_target, full_drives}
 use Rattle.nb_machine.specs.Errands.{Wanted, Errand, Onward, onward, hooks_then}
 use Rattle.nb_machine.specs.Queries.{for_host, dns_in, with_domain, bad_name}
 use Rattle.nb_machine.specs.Conclusions.{Conclusion}
@@ -24,9 +26,10 @@ use Rattle.nb_laws.specs.Moves.{moves}
 use Rattle.nb_laws.specs.Wanting.{wanted_by}
 use Rattle.nb_laws.specs.Webs.{opens_a_file}
 use Rattle.nb_laws.specs.CommandOpens.{command_open}
-use Rattle.nb_laws.specs.CommandsSoFar.{so_far, comes_by, comes_after, ComesTo, hooking_in, hooking_so_far, has_opening, drive_lives, wanted_so_far, arrived_so_far, file_fetched, concluded_by_open}
-use Rattle.nb_laws.specs.Hookings.{is_on_open, hooked_drives, serves_drive, HasDriveAnswer, HooksDisk}
-use Rattle.nb_laws.specs.Frames.{HoldsResult, by_words, by_jump, by_no_label, by_shut, by_sleep, by_failed_end, by_found, by_images, by_file, by_move, by_full_next, by_echo_of_host, by_unhook, by_no_hooking, by_full_hooking, by_hooking}
+use Rattle.nb_laws.specs.Drives.{answered_so_far}
+use Rattle.nb_laws.specs.CommandsSoFar.{so_far, comes_by, comes_after, ComesTo, hooking_in, hooking_so_far, booted_in, booted_drive, has_opening, drive_lives, wanted_so_far, arrived_so_far, file_fetched, concluded_by_open}
+use Rattle.nb_laws.specs.Hookings.{is_on_open, hooked_drives, serves_drive, HasDriveAnswer, HooksDisk, KeepsDisk, BootsDisk, boots_hooking, boots_hooked, HasRead}
+use Rattle.nb_laws.specs.Frames.{HoldsResult, by_words, by_jump, by_no_label, by_shut, by_sleep, by_failed_end, by_found, by_images, by_file, by_move, by_full_next, by_echo_of_host, by_unhook, by_no_hooking, by_full_hooking, by_hooking, by_booting, by_lost_drive}
 use Rattle.nb_laws.proofs.Afterwards.{after_unhooked, after_by_words}
 use Rattle.nb_laws.proofs.Settling.{comes_hooking}
 
@@ -55,6 +58,7 @@ wanted_hooks (inquires q) o wanted is = refl
 wanted_hooks (on_images c) o wanted is = refl
 wanted_hooks (on_drives c) o wanted is = refl
 wanted_hooks (unhooks_drive number cause) o wanted is = refl
+wanted_hooks (boots_drive number) o wanted is = refl
 wanted_hooks (concludes_at_once c) o wanted is = refl
 
 -- nor do they where a file is fetched
@@ -117,12 +121,57 @@ none_asked opens table drives hooking cause is = subst IsBad is (target_bad open
 
 -- A RESULT
 
+-- it keeps the disk, or has read its first block
+pub data HooksHow (es : List Event) (hooking : Hooking) : Type 0 where
+  hooks_kept : hooking.after ≡ Keep → HooksHow es hooking
+  hooks_booted : (keep : Bool) (bytes : List ℕ) → hooking.after ≡ Boot keep → HasRead (made es - 1) es bytes → HooksHow es hooking
+
 -- what a command has that hooks its disk with it
 pub record Hooks (es : List Event) (cause : Cause) : Type 0 where
   pub disk : HooksDisk es
   pub has_open : IsSome (command_open es)
   pub answer : HasDriveAnswer es
+  pub how : HooksHow es disk.hooking
   pub is : cause ≡ ok
+
+-- where a block was read, the capacity is known
+answer_by : (x : Option DriveAnswer) (bytes : List ℕ) → option_and_then last_read x ≡ Some bytes → (a : DriveAnswer) × (x ≡ Some a)
+answer_by None bytes is = absurd (none-some bytes is)
+answer_by (Some a) bytes is = (a, refl)
+
+pub read_answers : (es : List Event) (bytes : List ℕ) → HasRead (made es - 1) es bytes → HasDriveAnswer es
+read_answers es bytes r =
+    let a = answer_by (answered_so_far (made es - 1) r.session es) bytes r.read in record { session = r.session; is = r.is; answer = a.0; answered = a.1 }
+
+pub keeps_by : (es : List Event) (cause : Cause) (d : KeepsDisk es) → IsSome (command_open es) → HasDriveAnswer es → cause ≡ ok → Hooks es cause
+keeps_by es cause d has answer is = record { disk = record { hooking = d.hooking; names = d.names }; has_open = has; answer = answer; how = hooks_kept d.keeps; is = is }
+
+pub reads_by : (es : List Event) (cause : Cause) (d : BootsDisk es) (bytes : List ℕ) → IsSome (command_open es) → HasRead (made es - 1) es bytes → cause ≡ ok → Hooks es cause
+reads_by es cause d bytes has read is =
+    record { disk = record { hooking = d.hooking; names = d.names }; has_open = has; answer = read_answers es bytes read; how = hooks_booted d.keep bytes d.boots read; is = is }
+
+-- words that hook a disk boot no hooked drive
+boots_or_hooks : (e : Effect) (hooking : Hooking) → hooking_in e ≡ Some hooking → booted_in e ≡ None
+boots_or_hooks (hooks_disk h) hooking is = refl
+boots_or_hooks (boots_drive number) hooking is = absurd (none-some hooking is)
+boots_or_hooks (says outcome) hooking is = refl
+boots_or_hooks (asks w) hooking is = refl
+boots_or_hooks (goes name) hooking is = refl
+boots_or_hooks (sleeps seconds) hooking is = refl
+boots_or_hooks shuts_device hooking is = refl
+boots_or_hooks (inquires q) hooking is = refl
+boots_or_hooks (on_images c) hooking is = refl
+boots_or_hooks (on_drives c) hooking is = refl
+boots_or_hooks (unhooks_drive number cause) hooking is = refl
+boots_or_hooks (concludes_at_once c) hooking is = refl
+
+pub hooks_boots_none : (es : List Event) (hooking : Hooking) → hooking_so_far (so_far es) ≡ Some hooking → booted_drive (so_far es) ≡ None
+hooks_boots_none es hooking is = by (so_far es).shown is
+  where
+    by : (x : Option ShownWords) → option_and_then (λ s. hooking_in (comes_by 0 (so_far es) s)) x ≡ Some hooking →
+        option_and_then (λ number. drive_numbered number (so_far es).drives) (option_and_then (λ s. booted_in (comes_by 0 (so_far es) s)) x) ≡ None
+    by None at = refl
+    by (Some shown) at = ap (option_and_then (λ number. drive_numbered number (so_far es).drives)) (boots_or_hooks (comes_by 0 (so_far es) shown) hooking at)
 
 not_hooking : (x : Option Hooking) (hooking : Hooking) → x ≡ None → x ≡ Some hooking → ⊥
 not_hooking x hooking none some = none-some hooking (sym none ∙ some)
@@ -148,7 +197,10 @@ hooks_by es cause hooking (by_unhook number why none comes is) some well = absur
 hooks_by es cause hooking (by_no_hooking disk none comes err) some well =
     absurd (let no : false ≡ true = sym (none_asked (made es) (so_far es).table (hooked_drives es) disk cause err) ∙ well in cc no)
 hooks_by es cause hooking (by_full_hooking disk fine kind full is) some well = absurd (not_ok cause full_opens is refl well)
-hooks_by es cause hooking (by_hooking disk has answer is) some well = record { disk = disk; has_open = has; answer = answer; is = is }
+hooks_by es cause hooking (by_hooking disk has answer is) some well = keeps_by es cause disk has answer is
+hooks_by es cause hooking (by_booting k bytes (boots_hooking disk has own) read is) some well = reads_by es cause disk bytes has (subst (λ j. HasRead j es bytes) own read) is
+hooks_by es cause hooking (by_booting k bytes (boots_hooked drive none names own) read is) some well = absurd (none-some drive (sym (hooks_boots_none es hooking some) ∙ names))
+hooks_by es cause hooking (by_lost_drive drive none names ended) some well = absurd (none-some drive (sym (hooks_boots_none es hooking some) ∙ names))
 
 -- THE DRIVES OF AN OPEN
 

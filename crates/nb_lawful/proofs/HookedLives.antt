@@ -13,7 +13,7 @@ use Rattle.nb_drivecmd.specs.HookedDrives.{with_hooked, is_drive}
 use Rattle.nb_machine.specs.Lives.{OpenInput, OpenKind, iscsi, Live}
 use Rattle.nb_machine.specs.States.{State, has_open, still_hooked, with_live, with_opened, with_one_made, with_drive}
 use Rattle.nb_machine.specs.Takings.{Over, AllTake, all_have, lives_on, is_over}
-use Rattle.nb_machine.specs.Courses.{DropsDrive, is_drives_own}
+use Rattle.nb_machine.specs.Courses.{DropsDrive, AsksBlock, is_drives_own}
 use Rattle.nb_machine.specs.Network.{Network, passes_by, brings, brings_reply, brings_segment, passes_time}
 use Rattle.nb_laws.specs.Events.{Event}
 use Rattle.nb_laws.specs.Lists.{live}
@@ -171,6 +171,20 @@ drop_keeps s s' number put d = subst (KeepsSome s) (sym d.leaves) (record {
   kinds = λ one all. all_filter (IsDriveOf one) (λ l. not (is_drives_own (filter (is_drive number) s.drives) l)) s.live all;
 })
 
+-- a drive is asked for its first block
+ask_all : (P : ℕ → OpenKind → Type 0) (s s' : State) (number : ℕ) (put : List Out) (over : List Over) (a : AsksBlock s number put s' over) → AllByRecursion (λ l. P l.number l.kind) s.live →
+    AllByRecursion (λ l. P l.number l.kind) (a.before ++ a.after ++ a.behind)
+ask_all P s s' number put over a h =
+    around (λ l. P l.number l.kind) s.live a.before a.behind a.after a.l a.parted (take_all P _ _ _ _ _ _ a.takes (one_of P a.before a.behind a.l (subst (AllByRecursion (λ l. P l.number l.kind)) a.parted h), tt)) h
+
+pub asks_keeps : (s s' : State) (number : ℕ) (put : List Out) (over : List Over) → AsksBlock s number put s' over → KeepsSome s s'
+asks_keeps s s' number put over a = subst (KeepsSome s) (sym a.leaves) (record {
+  drives = refl;
+  opens = refl;
+  among = λ k. ask_all (AmongBy s.live k) s s' number put over a (each_among k s.live s.live (λ j some. some));
+  kinds = λ d all. ask_all (KindBy d) s s' number put over a all;
+})
+
 -- NONE OF A NUMBER IS LEFT
 
 -- where none of the number was hooked, none is hooked of those that are left
@@ -189,6 +203,9 @@ network_none f s s' n r put over (brings _ device bytes link p d before behind a
 network_none f s s' n r put over (brings_reply _ device bytes link p e before behind after l _ _ on got brought is mine before_none behind_none takes) free = none_more f (has_open (before ++ after ++ behind)) s.drives free
 network_none f s s' n r put over (brings_segment _ device bytes link from p g before behind after l _ _ on got brought is mine before_none behind_none takes) free = none_more f (has_open (before ++ after ++ behind)) s.drives free
 network_none f s s' n r put over (passes_time ms after _ _ takes) free = none_more f (has_open after) s.drives free
+
+pub asks_none : (f : Drive → Bool) (s s' : State) (number : ℕ) (put : List Out) (over : List Over) → AsksBlock s number put s' over → list_any f s.drives ≡ false → list_any f s'.drives ≡ false
+asks_none f s s' number put over a free = subst (λ (z : State). list_any f z.drives ≡ false) (sym a.leaves) (none_more f (has_open (a.before ++ a.after ++ a.behind)) s.drives free)
 
 -- one of these drives has the open of this one
 abbrev IsOnOwn : List Drive → Drive → Type 0

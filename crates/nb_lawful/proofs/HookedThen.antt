@@ -18,7 +18,7 @@ use Rattle.nb_laws.proofs.SessionOpenings.{HoldsOfSession, each_session, no_sess
 use Rattle.nb_laws.specs.CommandOpens.{command_open}
 use Rattle.nb_lawful.specs.Results.{ResultStands}
 use Rattle.nb_lawful.proofs.Awaited.{its}
-use Rattle.nb_lawful.proofs.HookWords.{HookedOn, Hooks, hooks_by, hooks_so, hooked_itself, hooked_beside}
+use Rattle.nb_lawful.proofs.HookWords.{HookedOn, Hooks, HooksHow, hooks_kept, hooks_booted, hooks_by, hooks_so, hooked_itself, hooked_beside}
 use Rattle.nb_lawful.proofs.Solitude.{IsSettled, IsLastMade, IsDrives, IsRunning, Solitude, only_hooked, over_by}
 
 no_one : {A : Type 0} (x : A) → [] ≡ x ∷ [] → ⊥
@@ -68,11 +68,16 @@ module _ (es : List Event) (cause : Cause) (a : Solitude es) (r : ResultStands e
   lives_fail j o lives run (inl settled) never = only_hooked es run settled j o lives
   lives_fail j o lives run (inr hooks) never = absurd (never hooks)
 
+  -- no drive of its number is hooked
+  none_of_it : (so_far es).left ≡ None → (hooks : Hooks es cause) → HooksHow es hooks.disk.hooking → list_any (is_drive hooks.disk.hooking.number) (hooked_drives es) ≡ false
+  none_of_it none hooks (hooks_kept keeps) = (r.hooks none hooks.has_open (record { hooking = hooks.disk.hooking; names = hooks.disk.names; keeps = keeps }) hooks.answer).1
+  none_of_it none hooks (hooks_booted keep bytes boots read) = r.frees none hooks.has_open (record { hooking = hooks.disk.hooking; names = hooks.disk.names; keep = keep; boots = boots }) bytes read
+
   lives_hook : (h : Hooking) (j : ℕ) (o : Opening) → live j es ≡ o ∷ [] → (so_far es).left ≡ None → IsRunning es → Hooks es cause → hooking_so_far (so_far es) ≡ Some h → HookedOn j (with_hooked (drive_of es h) (so_far es).hooked)
   lives_hook h j o lives none run hooks some = elim (run.own j o lives) [
     | inl own ↦ subst (λ z. HookedOn z (with_hooked (drive_of es h) (so_far es).hooked)) (own_number es j a own) (hooked_itself (drive_of es h) (so_far es).hooked)
     | inr hooked ↦
-        let free = (r.hooks none hooks.has_open hooks.disk hooks.answer).1 in
+        let free = none_of_it none hooks hooks.how in
         let same : hooks.disk.hooking ≡ h = same_Some hooks.disk.hooking h (sym (hooks_so es hooks.disk) ∙ some) in
         hooked_beside j es o (drive_of es h) lives (subst (λ (x : Hooking). list_any (is_drive x.number) (hooked_drives es) ≡ false) same free) hooked
   ]

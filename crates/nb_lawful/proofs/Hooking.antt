@@ -14,7 +14,7 @@ use Rattle.nb_machine.specs.Scripts.{hooks_one, lets_go, doing}
 use Rattle.nb_machine.specs.Courses as course
 use Rattle.nb_machine.specs.Courses.{DropsDrive}
 use Rattle.nb_laws.specs.Agreement.{AgreesScript}
-use Rattle.nb_laws.specs.CommandsSoFar.{CommandsSoFar, so_far, ComesTo, conclusion_so_far, concluded_in, shown_table, comes_by}
+use Rattle.nb_laws.specs.CommandsSoFar.{CommandsSoFar, so_far, ComesTo, conclusion_so_far, concluded_in, booted_in, shown_table, comes_by}
 use Rattle.nb_laws.specs.CommandOpens.{command_open}
 use Rattle.nb_laws.specs.Events.{Event, puts, EachEvent}
 use Rattle.nb_laws.specs.Frames.{HoldsResult, by_unhook, by_no_hooking, HoldsOf}
@@ -35,6 +35,7 @@ use Rattle.nb_lawful.proofs.AtOnce.{Goes, goes_two, images_as}
 use Rattle.nb_lawful.proofs.Begun.{HasBegun, begun_silently, begun_closing, has_begun_comes, begins_so, settings_begun, opened_none, told_two}
 use Rattle.nb_lawful.proofs.HookedLives.{LivesSo, drives_still, drives_keep, drop_keeps, drop_none, lives_so}
 use Rattle.nb_lawful.proofs.Quiet.{quiet_begin, quiet_parts, quiet_scripts, quiet_commands, ends_quiet, quiet_so_far}
+use Rattle.nb_lawful.proofs.NoBlocks.{words_boot_none, no_block_first}
 use Rattle.nb_lawful.proofs.Targets.{target_fails}
 use Rattle.nb_lawful.proofs.Units.{unit_is_whole}
 
@@ -80,9 +81,9 @@ drops_so es outs s s2 inner outer ws number put opens lives few up drops a =
 -- IT IS OVER
 
 over_goes : (es es2 : List Event) (outs outs2 : List Out) (s s2 : State) (inner : Running) (outer : List Running) (ws : List (List ℕ)) (put : List Out) (e : Effect) (cause : Cause) → HasDropped es es2 outs s s2 inner outer ws put →
-    outs2 ≡ outs ++ command_record inner (shown_words s.table ws) ∷ put → comes_to s inner ws ≡ e → (IsNext e → ⊥) → LeavesTable e → concluded_in e ≡ None → (command_open es2 ≡ None → ComesTo es2 (made es2) e → HoldsResult es2 cause) →
+    outs2 ≡ outs ++ command_record inner (shown_words s.table ws) ∷ put → comes_to s inner ws ≡ e → (IsNext e → ⊥) → LeavesTable e → concluded_in e ≡ None → booted_in e ≡ None → (command_open es2 ≡ None → ComesTo es2 (made es2) e → HoldsResult es2 cause) →
     hooks_so_far cause es2 ≡ so_far es2 → Goes es2 outs2 (result cause ∷ []) (course.running s2 (further inner cause) outer)
-over_goes es es2 outs outs2 s s2 inner outer ws put e cause d same comes never leaves none holds unhooked =
+over_goes es es2 outs outs2 s s2 inner outer ws put e cause d same comes never leaves none unbooted holds unhooked =
     let b = d.begun in
     let names : ComesTo es2 (made es2) e = has_begun_comes es2 s inner ws e b comes in
     let words : comes_by (made es2) (so_far es2) names.0 ≡ e = after_by_words (made es2) (so_far es2) names.0 (moves es2) e never names.2 in
@@ -92,7 +93,16 @@ over_goes es es2 outs outs2 s s2 inner outer ws put e cause d same comes never l
     let is : so_far es3 ≡ over_so_far None (so_far es2) =
     result_so_far es2 cause None d.none_left nothing (left_quiet es2 (so_far es2).table (so_far es2).shown b.ended_none) ∙ ap (over_so_far None) unhooked in
     record {
-      stands = (record { is_open = d.settings.is_open; holds = subst (λ l. HoldsOf l es2 cause) (sym d.none_left) (holds b.none names); hooks = λ left some. absurd (opened_none (command_open es2) b.none some) }, tt);
+      stands = (
+        record {
+          is_open = d.settings.is_open;
+          holds = subst (λ l. HoldsOf l es2 cause) (sym d.none_left) (holds b.none names);
+          hooks = λ left some. absurd (opened_none (command_open es2) b.none some);
+          reads = λ left k bytes boots_it read. absurd (no_block_first es2 b.none (words_boot_none es2 (made es2) e unbooted names) k bytes boots_it read);
+          frees = λ left some. absurd (opened_none (command_open es2) b.none some);
+        },
+        tt,
+      );
       agrees = (
         script_as es3 (entered inner) (further inner cause) outer (record { same = refl; depth = refl; begun = refl }) (script_told es2 (result cause ∷ []) (entered inner) outer (tt, tt) refl d.script),
         subst (λ m. SettingsAre m s2 false) (sym is) (record { table = keeps ∙ d.settings.table; up = d.settings.up; now = d.settings.now; is_open = refl }),
@@ -118,7 +128,7 @@ unhooks_goes es outs s s2 inner outer ws number put cause opens lives few is dro
     let d = drops_so es outs s s2 inner outer ws number put opens lives few (up_stays s inner (unhooks_drive number cause) ws comes) drops a in
     let command = command_record inner (shown_words s.table ws) in
     goes_two es outs (command ∷ put) (result cause ∷ []) (course.running s2 (further inner cause) outer) d.stands
-    (over_goes es (es ++ told (command ∷ put)) outs (outs ++ command ∷ put) s s2 inner outer ws put (unhooks_drive number cause) cause d refl comes (λ no. no) tt refl (λ none names. by_unhook number cause none names refl)
+    (over_goes es (es ++ told (command ∷ put)) outs (outs ++ command ∷ put) s s2 inner outer ws put (unhooks_drive number cause) cause d refl comes (λ no. no) tt refl refl (λ none names. by_unhook number cause none names refl)
     (let names = has_begun_comes (es ++ told (command ∷ put)) s inner ws (unhooks_drive number cause) d.begun comes in
     hooks_none (es ++ told (command ∷ put)) cause names.0 names.1 (after_unhooked (made (es ++ told (command ∷ put))) (so_far (es ++ told (command ∷ put))) names.0 (moves (es ++ told (command ∷ put))) (unhooks_drive number cause) refl names.2)))
 
@@ -133,7 +143,7 @@ hooks_none_goes es outs s s2 inner outer ws hooking put cause opens lives then f
     let es2 = es ++ told (command ∷ put) in
     let failed = target_fails s2.opens s2.table s2.drives hooking cause asks in
     goes_two es outs (command ∷ put) (result cause ∷ []) (course.running s2 (further inner cause) outer) d.stands
-    (over_goes es es2 outs (outs ++ command ∷ put) s s2 inner outer ws put (hooks_disk hooking) cause d refl comes (λ no. no) tt refl
+    (over_goes es es2 outs (outs ++ command ∷ put) s s2 inner outer ws put (hooks_disk hooking) cause d refl comes (λ no. no) tt refl refl
     (λ none names. by_no_hooking hooking none names (asked_so es es2 outs s s2 inner outer ws put hooking d then (Err cause) asks)) (hooks_failed es2 cause failed))
 
 -- A DISK IS HOOKED

@@ -1,6 +1,6 @@
 -- Where a conclusion leads: the command has its result, and its script goes on; an image is handed off; or another script runs within it
 -- or in its place.
-use Rattle.std.proofs.Common.{◌≡◌, ℕ, ◌+◌, ◌<◌, Bool, true, false, cond, length, drop, List, [], ◌∷◌, ◌++◌, Option, Some, None, refl, sym, ◌∙◌, ap, subst, append_assoc, arith, ne_eqb, IsSome}
+use Rattle.std.proofs.Common.{◌≡◌, ℕ, ◌+◌, ◌-◌, ◌<◌, Bool, true, false, cond, length, drop, List, [], ◌∷◌, ◌++◌, Option, Some, None, refl, sym, ◌∙◌, ap, subst, append_assoc, arith, ne_eqb, IsSome, inl}
 use Rattle.nb_terms.specs.declared.cause.Cause.{Cause}
 use Rattle.nb_defs.specs.Causes.{ok}
 use Rattle.nb_defs.specs.Records.{Out, result, enter, leave}
@@ -20,7 +20,7 @@ use Rattle.nb_laws.specs.Agreement.{AgreesScript}
 use Rattle.nb_laws.specs.CommandsSoFar.{CommandsSoFar, so_far, shown_table, left_table, conclusion_so_far, images_after, list_after, script_run, GivesCause}
 use Rattle.nb_laws.specs.Events.{Event, puts}
 use Rattle.nb_laws.specs.Frames.{ScriptStands, enters, replaces, HoldsResult, HoldsOf}
-use Rattle.nb_laws.specs.Lists.{last_end}
+use Rattle.nb_laws.specs.Lists.{last_end, made}
 use Rattle.nb_laws.proofs.Asides.{silent_handoff}
 use Rattle.nb_laws.proofs.Commands.{begun_more, script_as, script_told}
 use Rattle.nb_laws.proofs.HandOffs.{parts_more}
@@ -30,15 +30,19 @@ use Rattle.nb_openlaws.proofs.Puts.{close_ends}
 use Rattle.nb_openlaws.specs.Standings.{AgreesState}
 use Rattle.nb_openlaws.proofs.OpenStates.{still_state}
 use Rattle.nb_laws.specs.CommandOpens.{command_open}
-use Rattle.nb_laws.specs.Hookings.{HooksDisk, HasDriveAnswer}
+use Rattle.nb_laws.specs.Hookings as Hookings
+use Rattle.nb_laws.specs.Hookings.{KeepsDisk, HasDriveAnswer, HasRead, boots_hooking}
 use Rattle.nb_lawful.specs.Results.{ResultStands, HasEndedOpens, CommandsSo}
 use Rattle.nb_lawful.specs.ScriptAgreement.{SettingsAre, HasImages, NoneLeft, ScriptsAgree}
 use Rattle.nb_lawful.proofs.Quiet.{quiet_so_far, quiet_parts, quiet_commands, ends_quiet, ends_alone}
 use Rattle.nb_lawful.proofs.Begun.{depth_is}
 use Rattle.nb_lawful.proofs.AtOnce.{Goes, goes_two, goes_as, images_as, left_goes}
 use Rattle.nb_lawful.proofs.Fits.{Fits}
+use Rattle.nb_lawful.proofs.DriveAnswers.{tells_all}
+use Rattle.nb_openlaws.proofs.SessionSteps.{still_sessions}
 use Rattle.nb_lawful.proofs.HookedLives.{drives_still}
 use Rattle.nb_lawful.proofs.BootTable.{table_same}
+use Rattle.nb_openlaws.specs.Sessions.{SessionsAgree}
 
 -- what the history says of what is concluded: the same, or nothing where the command's open has failed
 pub data ConcludedSo (said : Option Conclusion) (c : Conclusion) : Type 0 where
@@ -60,7 +64,11 @@ pub record Concluding (es : List Event) (outs : List Out) (s : State) (inner : R
   pub fits : Fits (length (so_far es).scripts) c
   -- it hooks no disk: none that its words hook has answered
   pub unhooked : (cause : Cause) → GivesCause c cause → hooks_so_far cause es ≡ so_far es
-  pub no_disk : (cause : Cause) → GivesCause c cause → (so_far es).left ≡ None → IsSome (command_open es) → HooksDisk es → HasDriveAnswer es → ⊥
+  pub no_disk : (cause : Cause) → GivesCause c cause → (so_far es).left ≡ None → IsSome (command_open es) → KeepsDisk es → HasDriveAnswer es → ⊥
+  -- nor has it read the block of one
+  pub no_block : (k : ℕ) (bytes : List ℕ) → Hookings.BootsBy k es → HasRead k es bytes → ⊥
+  -- what those that live have answered as drives, the history says
+  pub settled : SessionsAgree es s.live
 
 pub said_is : {said : Option Conclusion} (c : Conclusion) → ((cause : Cause) → c ≡ fails cause → ⊥) → ConcludedSo said c → said ≡ Some c
 said_is {said} c never (concluded_so is) = is
@@ -81,6 +89,8 @@ result_holds es outs s inner outer c cause k gives = record {
   is_open = k.settings.is_open;
   holds = subst (λ l. HoldsOf l es cause) (sym k.none_left) (k.holds cause gives);
   hooks = λ left some disk answer. absurd (k.no_disk cause gives left some disk answer);
+  reads = λ left j bytes boots_it read. absurd (k.no_block j bytes boots_it read);
+  frees = λ left some d bytes read. absurd (k.no_block (made es - 1) bytes (boots_hooking d some refl) read);
 }
 
 -- the same but for the images
@@ -121,11 +131,13 @@ pub record BootsBy (es : List Event) (s : State) (list : ImageList) (kernel : �
   pub is_so : conclusion_so_far (last_end es) es (so_far es) ≡ Some (boots list kernel)
   pub settings : SettingsAre (so_far es) s true
   pub ended_so : SettingsAre (so_far (es ++ puts (result ok) ∷ [])) s false
+  pub sessions : SessionsAgree es s.live
 
 pub boots_by : (es : List Event) (outs : List Out) (s : State) (inner : Running) (outer : List Running) (list : ImageList) (kernel : ℕ) → Concluding es outs s inner outer (boots list kernel) → BootsBy es s list kernel
 boots_by es outs s inner outer list kernel k = record {
   is_so = said_is (boots list kernel) (λ cause e. absurd (cc e)) k.concluded;
   settings = k.settings;
+  sessions = k.settled;
   ended_so = subst (λ m. SettingsAre m s false) (sym (over_is es outs s inner outer (boots list kernel) ok refl k)) (record { table = k.keeps_table ∙ k.settings.table; up = k.settings.up; now = k.settings.now; is_open = refl });
 }
 
@@ -231,7 +243,7 @@ boots_goes es outs s inner outer list kernel more p k (over, all, leads) =
       agrees = (
         silent_handoff kernel list.images (boot_table s),
         ap (λ (z : List Event). (so_far z).is_open) at ∙ ap (λ (m : CommandsSoFar). m.is_open) (quiet_so_far es1 more quiet ∙ over_is es outs s inner outer (boots list kernel) ok refl k),
-        record {
+        inl (record {
           booted = record {
             before = es;
             since = more;
@@ -248,8 +260,9 @@ boots_goes es outs s inner outer list kernel more p k (over, all, leads) =
           none = parts_more outs (o ∷ more) k.images.none (tt, quiet_parts more quiet);
           ends = ap (λ t. (outs ++ o ∷ more) ++ handoff_records kernel list.images t) (sym (table_same es1 s (still_state es (o ∷ []) s (tt, tt) k.base)
               (drives_still (so_far es) (so_far es1) s s (ap (λ (m : CommandsSoFar). m.hooked) (over_is es outs s inner outer (boots list kernel) ok refl k)) refl refl refl k.images.drives)
+              (tells_all es1 s.live (still_sessions es (o ∷ []) s.live (tt, tt) ((λ j. refl), tt) k.settled))
               (boots_by es outs s inner outer list kernel k).ended_so.table));
-        },
+        }),
       );
     })
 

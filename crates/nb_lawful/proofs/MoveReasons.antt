@@ -20,13 +20,13 @@ use Rattle.nb_machine.specs.CommandRecords.{prints, command_record, command_reco
 use Rattle.nb_machine.specs.Lives.{close, Live, open_record, end_record}
 use Rattle.nb_machine.specs.States.{State, following, has_open}
 use Rattle.nb_machine.specs.Takings.{Over, AllTake}
-use Rattle.nb_machine.specs.Scripts.{Job, opens, shuts, live_onward, doing}
+use Rattle.nb_machine.specs.Scripts.{Job, opens, shuts, live_onward, doing, boots_one}
 use Rattle.nb_machine.specs.Courses as course
 use Rattle.nb_machine.specs.Courses.{Standing, Progress, text_records, ConclusionLeads, Proceeds, down_cause}
 use Rattle.nb_machine.specs.Kinds.{Keeps}
 use Rattle.nb_laws.specs.Events.{Event, puts, EachEvent}
 use Rattle.nb_laws.specs.Histories.{client}
-use Rattle.nb_laws.specs.CommandsSoFar.{CommandsSoFar, so_far, conclusion_so_far, ComesTo}
+use Rattle.nb_laws.specs.CommandsSoFar.{CommandsSoFar, so_far, conclusion_so_far, ComesTo, booted_in}
 use Rattle.nb_laws.specs.Lists.{last_end, made}
 use Rattle.nb_laws.specs.Progress.{IsAdvanced}
 use Rattle.nb_laws.specs.Silence.{IsSilent}
@@ -36,7 +36,7 @@ use Rattle.nb_laws.proofs.Tellings.{told, still_advances, still_tries, still_adv
 use Rattle.nb_openlaws.specs.Standings.{AgreesState, AgreesDevice, AgreesLive}
 use Rattle.nb_laws.specs.Endings.{ClosesToBoot, closes_down, closes_booted}
 use Rattle.nb_openlaws.specs.OpenEndings.{OpensEndSo, FramesSo, by_device, by_hand_off}
-use Rattle.nb_openlaws.specs.OpenReasons.{OpenReasons}
+use Rattle.nb_openlaws.specs.OpenReasons.{OpensAgree, OpenReasons}
 use Rattle.nb_openlaws.proofs.OpenStates.{still_state}
 use Rattle.nb_openlaws.proofs.Courses.{kept_state, opens_next, shuts_keep}
 use Rattle.nb_openlaws.proofs.Sendings.{no_reasons, reasons_then}
@@ -50,20 +50,24 @@ use Rattle.nb_lawful.specs.ScriptAgreement.{SettingsAre, ScriptsAgree, IsDriveOf
 use Rattle.nb_laws.proofs.SoFar.{begins_so_far}
 use Rattle.nb_laws.specs.Hookings.{NamesDrive, by_hooking, by_unhook, is_on_open}
 use Rattle.nb_lawful.proofs.Quiet.{ends_alone, ends_quiet, quiet_so_far}
-use Rattle.nb_lawful.proofs.Begun.{has_begun_comes, begun_silently, begun_closing, settings_begun}
+use Rattle.nb_lawful.proofs.Begun.{has_begun_comes, begun_silently, begun_closing, settings_begun, asks_nothing}
 use Rattle.nb_lawful.proofs.Opening.{begins_by}
 use Rattle.nb_lawful.proofs.Leading.{Concluding, BootsBy, boots_by}
 use Rattle.nb_lawful.proofs.Shuts.{shuts_keeps_table}
 use Rattle.nb_lawful.proofs.There.{there_boots}
 use Rattle.nb_lawful.proofs.Scripted.{based}
+use Rattle.nb_lawful.proofs.DriveBoots.{boots_asked}
+use Rattle.nb_lawful.proofs.Plain.{ArePlain}
 use Rattle.nb_lawful.proofs.Devices.{device_moves, device_stays, opens_device}
 use Rattle.nb_lawful.proofs.OpenWays.{head_is}
 use Rattle.nb_lawful.proofs.Runs.{Story}
 use Rattle.nb_lawful.proofs.HookedLives.{lives_so, all_map, some_drives}
 use Rattle.nb_lawful.proofs.Onward.{next_rightly}
 use Rattle.nb_drivecmd.specs.declared.drive.Drive.{Drive}
-use Rattle.nb_drivecmd.specs.HookedDrives.{is_drive}
+use Rattle.nb_drivecmd.specs.HookedDrives.{is_drive, drive_numbered}
 use Rattle.nb_tftp.proofs.BlockLemmas.{either_way}
+use Rattle.nb_openlaws.specs.Sessions.{AgreesSession, SessionsAgree}
+use Rattle.nb_openlaws.proofs.SessionSteps.{still_sessions}
 
 -- RECORDS THAT TELL NOTHING OF AN OPEN
 
@@ -147,7 +151,7 @@ conclusion_reasons es s inner outer (boots list kernel) more p (over, all, is) a
     let b = still_state es (result ok ∷ []) s (tt, tt) a in
     let so = booted list kernel refl in
     let device : AgreesDevice (es ++ told (result ok ∷ [])) s = device_stays es (result ok ∷ []) s s refl refl refl d so.settings so.ended_so in
-    closes_reasons s.devices stopped_cause s.live more [] over all refl (es ++ told (result ok ∷ [])) device b.each b.apart k adv (hand_off_ends es list kernel so.is_so)
+    closes_reasons s.devices stopped_cause s.live more [] over all refl (es ++ told (result ok ∷ [])) device b.each b.apart k adv (hand_off_ends es list kernel so.is_so) (still_sessions es (result ok ∷ []) s.live (tt, tt) ((λ j. refl), tt) so.sessions)
 conclusion_reasons es s inner outer (runs_script list image true) more p (puts_so, is) a d k adv booted =
     subst (OpenReasons (es ++ told (result ok ∷ []))) (sym puts_so) (text_reasons (es ++ told (result ok ∷ [])) inner.depth (replace inner.depth) (text_refusal (script_reading image.text)) (tt, tt) (tt, tt) adv)
 conclusion_reasons es s inner outer (runs_script list image false) more p (puts_so, is) a d k adv booted =
@@ -184,9 +188,10 @@ device_ends es s inner outs outer ws a h e = λ ends all.
     let comes = has_begun_comes (es1 ++ told ends) s inner ws shuts_device b e in
     (λ k. by_device refl still comes, closes_down still comes)
 
-shuts_reasons : (es : List Event) (outs : List Out) (s s2 : State) (inner : Running) (outer : List Running) (ws : List (List ℕ)) (put : List Out) (over : List Over) → AgreesState es s → AgreesDevice es s → ScriptsAgree es outs (course.running s inner outer) → AreKept s.live →
+shuts_reasons : (es : List Event) (outs : List Out) (s s2 : State) (inner : Running) (outer : List Running) (ws : List (List ℕ)) (put : List Out) (over : List Over) → AgreesState es s → AgreesDevice es s →
+    ScriptsAgree es outs (course.running s inner outer) → AreKept s.live → SessionsAgree es s.live →
     doing s inner ws ≡ shuts s2 → AllTake s2.devices (close down_cause) (course.drives_first s2.drives s2.live) put [] over → IsAdvanced es → OpenReasons es (command_record inner (shown_words s.table ws) ∷ put ++ (result ok ∷ []))
-shuts_reasons es outs s s2 inner outer ws put over a device h kept is all adv =
+shuts_reasons es outs s s2 inner outer ws put over a device h kept w is all adv =
     let b = command_record inner (shown_words s.table ws) ∷ [] in
     let es1 = es ++ told b in
     let d = shuts_by s inner ws s2 is in
@@ -196,7 +201,9 @@ shuts_reasons es outs s s2 inner outer ws put over a device h kept is all adv =
     let base : AgreesState es1 s2 = kept_state es1 s s2 (shuts_keep s s2 _ _ _ is) (still_state es b s (tt, tt) a) in
     let first = still_reasons es b (tt, tt) (tt, tt) adv in
     let closes = closes_reasons s2.devices down_cause (course.drives_first s2.drives s2.live) put [] over all refl es1 moved (all_first (AgreesLive es1) s2.drives s2.live base.each) (own_first s2.drives s2.live base.apart)
-    (all_first Keeps s2.drives s2.live (subst (λ (z : State). AreKept z.live) (sym d.1) kept)) first.after (device_ends es s inner outs outer ws a h d.0) in
+    (all_first Keeps s2.drives s2.live (subst (λ (z : State). AreKept z.live) (sym d.1) kept)) first.after (device_ends es s inner outs outer ws a h d.0)
+    (all_first (AgreesSession es1) s2.drives s2.live (subst (λ (z : State). SessionsAgree es1 z.live) (sym d.1)
+    (still_sessions es b s.live (tt, tt) (asks_nothing es s inner ws shuts_device (begun_silently es outs s inner outer ws a.opens (lives_so es s a h.2.drives) h) d.0 refl, tt) w))) in
     let last = still_reasons (es1 ++ told put) (result ok ∷ []) (tt, tt) (tt, tt) closes.after in
     reasons_then es b (put ++ (result ok ∷ [])) first (reasons_then es1 put (result ok ∷ []) closes last)
 
@@ -238,9 +245,10 @@ own_drives_are s m number h =
     live_map P Q xs so h = all_map P Q xs so h
 
 -- COMMAND, and the close of the drive of a number
-drops_reasons : (es : List Event) (outs : List Out) (s s2 : State) (inner : Running) (outer : List Running) (ws : List (List ℕ)) (e : Effect) (number : ℕ) (put : List Out) → AgreesState es s → AgreesDevice es s → ScriptsAgree es outs (course.running s inner outer) →
+drops_reasons : (es : List Event) (outs : List Out) (s s2 : State) (inner : Running) (outer : List Running) (ws : List (List ℕ)) (e : Effect) (number : ℕ) (put : List Out) → AgreesState es s → SessionsAgree es s.live → booted_in e ≡ None →
+    AgreesDevice es s → ScriptsAgree es outs (course.running s inner outer) →
     comes_to s inner ws ≡ e → up_after s.table s.up ws ≡ s.up → ((es2 : List Event) → ComesTo es2 (made es2) e → NamesDrive es2 number) → course.DropsDrive s number put s2 → IsAdvanced es → OpenReasons es (command_record inner (shown_words s.table ws) ∷ put)
-drops_reasons es outs s s2 inner outer ws e number put a device h comes up names drops adv =
+drops_reasons es outs s s2 inner outer ws e number put a w unbooted device h comes up names drops adv =
     let b = command_record inner (shown_words s.table ws) ∷ [] in
     let es1 = es ++ told b in
     let lives = lives_so es s a h.2.drives in
@@ -262,7 +270,30 @@ drops_reasons es outs s s2 inner outer ws e number put a device h comes up names
     }) in
     reasons_then es b put first
     (let_go_reasons s.devices (filter f s.live) put [] drops.over drops.closes es1 moved (all_filter (AgreesLive es1) f s.live base.each) (own_taken f s.live base.apart) first.after
-    (drives_of es1 s inner ws number s.drives f s.live why (own_drives_are s (so_far es) number h.2.drives)))
+    (drives_of es1 s inner ws number s.drives f s.live why (own_drives_are s (so_far es) number h.2.drives))
+    (all_filter (AgreesSession es1) f s.live (still_sessions es b s.live (tt, tt) (asks_nothing es s inner ws e (begun_silently es outs s inner outer ws a.opens lives h) comes unbooted, tt) w)))
+
+-- A DRIVE IS ASKED FOR ITS FIRST BLOCK
+
+lost_still : (over : List Over) → AreStill (course.block_lost over)
+lost_still [] = tt
+lost_still (o ∷ over) = (tt, tt)
+
+lost_unsent : (over : List Over) → AreUnsent (course.block_lost over)
+lost_unsent [] = tt
+lost_unsent (o ∷ over) = (tt, tt)
+
+-- what it puts, and its command's RESULT, where it has ended by that
+pub reads_reasons : (es : List Event) (s : State) (inner : Running) (outer : List Running) (number : ℕ) (d : Option Drive) (put : List Out) (p : Standing) (r : course.ReadsBlock s inner outer number d put p) → OpenReasons es r.asked → OpenReasons es put
+reads_reasons es s inner outer number d put p r first =
+    subst (OpenReasons es) (sym r.all) (reasons_then es r.asked (course.block_lost r.over) first (still_reasons (es ++ told r.asked) (course.block_lost r.over) (lost_still r.over) (lost_unsent r.over) first.after))
+
+boots_reasons : (es : List Event) (outs : List Out) (s : State) (inner : Running) (outer : List Running) (ws : List (List ℕ)) (number : ℕ) (d : Drive) (put : List Out) (p : Standing) → OpensAgree es s → ArePlain es s.live →
+    doing s inner ws ≡ boots_one number → drive_numbered number s.drives ≡ Some d → course.ReadsBlock s (entered inner) outer d.open_number None put p → ScriptsAgree es outs (course.running s inner outer) →
+    OpenReasons es (command_record inner (shown_words s.table ws) ∷ put)
+boots_reasons es outs s inner outer ws number d put p o plain is got r h =
+    let b = command_record inner (shown_words s.table ws) ∷ [] in
+    reasons_then es b put (still_reasons es b (tt, tt) (tt, tt) o.advanced) (reads_reasons (es ++ told b) s (entered inner) outer d.open_number None put p r (boots_asked es outs s inner outer ws number d o plain h is got r.asked r.next r.over r.asks))
 
 -- EACH MOVE
 
@@ -276,24 +307,31 @@ move_reasons ins outs es m added m2 (course.concludes_there n s inner outer c cs
     let es1 = es ++ told b in
     let first = still_reasons es b (tt, tt) (tt, tt) t.advanced in
     let second = still_reasons es1 (conclusion_records x) (still_conclusion x) (unsent_conclusion x) first.after in
-    let there = there_boots es outs s inner outer (c ∷ cs) x t.base t.base.opens (lives_so es s t.base t.scripts.2.drives) is t.scripts in
+    let there = there_boots es outs s inner outer (c ∷ cs) x t.base t.sessions t.base.opens (lives_so es s t.base t.scripts.2.drives) is t.scripts in
     let device : AgreesDevice es1 s = device_stays es b s s refl refl refl t.device t.scripts.1 there.settings in
     let third = conclusion_reasons es1 s (entered inner) outer x put p leads (still_state es b s (tt, tt) t.base) device k second.after
     (λ list kernel same. boots_by es1 (outs ++ b) s (entered inner) outer list kernel (subst (Concluding es1 (outs ++ b) s (entered inner) outer) same there)) in
     reasons_then es b (conclusion_records x ++ put) first (reasons_then es1 (conclusion_records x) put second third)
 move_reasons ins outs es m added m2 (course.yields n s inner outer c cs comes full) t k = no_reasons es t.advanced
 move_reasons ins outs es m added m2 (course.does n s s2 inner outer c cs x comes few is stays) t k = command_reasons es inner (shown_words s.table (c ∷ cs)) x t.advanced
-move_reasons ins outs es m added m2 (course.closes_device n s s2 inner outer c cs put over comes few is all) t k = shuts_reasons es outs s s2 inner outer (c ∷ cs) put over t.base t.device t.scripts k is all t.advanced
+move_reasons ins outs es m added m2 (course.closes_device n s s2 inner outer c cs put over comes few is all) t k = shuts_reasons es outs s s2 inner outer (c ∷ cs) put over t.base t.device t.scripts k t.sessions is all t.advanced
 move_reasons ins outs es m added m2 (course.goes_to_hook n s s2 inner outer c cs hooking put next comes few is drops asks) t k =
-    drops_reasons es outs s s2 inner outer (c ∷ cs) (hooks_disk hooking) hooking.number put t.base t.device t.scripts (hooks_by s inner (c ∷ cs) hooking is) (up_stays s inner (hooks_disk hooking) (c ∷ cs) (hooks_by s inner (c ∷ cs) hooking is)) (λ e comes_so. by_hooking hooking comes_so refl) drops t.advanced
+    drops_reasons es outs s s2 inner outer (c ∷ cs) (hooks_disk hooking) hooking.number put t.base t.sessions refl t.device t.scripts (hooks_by s inner (c ∷ cs) hooking is)
+    (up_stays s inner (hooks_disk hooking) (c ∷ cs) (hooks_by s inner (c ∷ cs) hooking is)) (λ e comes_so. by_hooking hooking comes_so refl) drops t.advanced
 move_reasons ins outs es m added m2 (course.hooks_none n s s2 inner outer c cs hooking put cause comes few is drops asks) t k =
     let b = command_record inner (shown_words s.table (c ∷ cs)) ∷ put in
-    let first = drops_reasons es outs s s2 inner outer (c ∷ cs) (hooks_disk hooking) hooking.number put t.base t.device t.scripts (hooks_by s inner (c ∷ cs) hooking is) (up_stays s inner (hooks_disk hooking) (c ∷ cs) (hooks_by s inner (c ∷ cs) hooking is)) (λ e comes_so. by_hooking hooking comes_so refl) drops t.advanced in
+    let first =
+    drops_reasons es outs s s2 inner outer (c ∷ cs) (hooks_disk hooking) hooking.number put t.base t.sessions refl t.device t.scripts (hooks_by s inner (c ∷ cs) hooking is)
+    (up_stays s inner (hooks_disk hooking) (c ∷ cs) (hooks_by s inner (c ∷ cs) hooking is)) (λ e comes_so. by_hooking hooking comes_so refl) drops t.advanced in
     reasons_then es b (result cause ∷ []) first (still_reasons (es ++ told b) (result cause ∷ []) (tt, tt) (tt, tt) first.after)
 move_reasons ins outs es m added m2 (course.unhooks n s s2 inner outer c cs number put cause comes few is drops) t k =
     let b = command_record inner (shown_words s.table (c ∷ cs)) ∷ put in
-    let first = drops_reasons es outs s s2 inner outer (c ∷ cs) (unhooks_drive number cause) number put t.base t.device t.scripts (lets_by s inner (c ∷ cs) number cause is) (up_stays s inner (unhooks_drive number cause) (c ∷ cs) (lets_by s inner (c ∷ cs) number cause is)) (λ e comes_so. by_unhook cause comes_so) drops t.advanced in
+    let first =
+    drops_reasons es outs s s2 inner outer (c ∷ cs) (unhooks_drive number cause) number put t.base t.sessions refl t.device t.scripts (lets_by s inner (c ∷ cs) number cause is)
+    (up_stays s inner (unhooks_drive number cause) (c ∷ cs) (lets_by s inner (c ∷ cs) number cause is)) (λ e comes_so. by_unhook cause comes_so) drops t.advanced in
     reasons_then es b (result cause ∷ []) first (still_reasons (es ++ told b) (result cause ∷ []) (tt, tt) (tt, tt) first.after)
+move_reasons ins outs es m added m2 (course.boots_hooked n s inner outer c cs number d put p comes few is got reads) t k =
+    boots_reasons es outs s inner outer (c ∷ cs) number d put p (record { base = t.base; sessions = t.sessions; device = t.device; kept = k; ways = t.ways; advanced = t.advanced }) t.plain is got reads t.scripts
 move_reasons ins outs es m added m2 (course.leaves n s s2 inner outer c cs x comes few is away) t k =
     let b = command_records inner (shown_words s.table (c ∷ cs)) x in
     let first = command_reasons es inner (shown_words s.table (c ∷ cs)) x t.advanced in

@@ -39,6 +39,7 @@ use Rattle.nb_lawful.proofs.CommandEnds.{ended_so, HasEnded, ends_with}
 use Rattle.nb_lawful.proofs.Concluded.{asks_its_target, no_file_where_moved, open_brings}
 use Rattle.nb_lawful.proofs.Leading.{failed_so, Concluding, conclusion_goes}
 use Rattle.nb_lawful.proofs.Disks.{no_disk_where}
+use Rattle.nb_lawful.proofs.NoBlocks.{kept_disk, booted_disk, no_block_later}
 use Rattle.nb_settings.specs.Tables.{TableLists}
 
 -- the open, with the place to which its server has moved the file
@@ -127,7 +128,9 @@ fails_there es outs s inner outer moved l cause wanted place why x is =
       holds = λ given gives. by_move (refused why) (has_been_moved es outs s inner outer moved l cause wanted place x) (f.shown, f.said, comes_there es outs s inner outer moved l cause wanted place x ∙ ap next_effect is) gives;
       ended = subst HasEndedOpens (sym h.its_end) (cause, refl);
       unhooked = λ given gives. hooks_none es given f.shown f.said (asking_hooks (comes_by 0 m f.shown) asking.first asking.words);
-      no_disk = λ given gives left some disk. absurd (no_disk_where es f.shown f.said (asking_hooks (comes_by 0 m f.shown) asking.first asking.words) disk);
+      no_disk = λ given gives left some disk. absurd (no_disk_where es f.shown f.said (asking_hooks (comes_by 0 m f.shown) asking.first asking.words) (kept_disk es disk));
+      no_block = no_block_later es _ h.its_end (λ d bytes read. no_disk_where es f.shown f.said (asking_hooks (comes_by 0 m f.shown) asking.first asking.words) (booted_disk es d));
+      settled = h.settled;
       fits = tt;
     }
 

@@ -2,7 +2,7 @@
 use Rattle.std.specs.Prelude.{find}
 use Rattle.std.specs.List.{list_any}
 use Rattle.std.specs.Option.{option_and_then}
-use Rattle.std.proofs.Common.{◌≡◌, ℕ, ◌-◌, ◌<◌, ◌==◌, ◌||◌, cond, false, List, [], ◌∷◌, ◌++◌, Some, None, refl, sym, ◌∙◌, ap, subst, length, Ok}
+use Rattle.std.proofs.Common.{◌≡◌, ℕ, ◌-◌, ◌<◌, ◌==◌, ◌||◌, cond, false, List, [], ◌∷◌, ◌++◌, Some, None, refl, sym, ◌∙◌, ap, subst, length, Ok, Option, true}
 use Rattle.nb_defs.specs.Records.{Out, result}
 use Rattle.nb_stack.specs.Client.{Client}
 use Rattle.nb_machine.specs.Starting.{own_port}
@@ -19,7 +19,7 @@ use Rattle.nb_machine.specs.States.{State, with_opened, with_one_made}
 use Rattle.nb_machine.specs.Scripts.{transfer_for, live_onward, job_onward, awaited_onward}
 use Rattle.nb_machine.specs.Courses as course
 use Rattle.nb_laws.specs.Events.{Event, puts}
-use Rattle.nb_laws.specs.Lists.{hardware, port_offset, Opening, made, last_end, openings}
+use Rattle.nb_laws.specs.Lists.{hardware, port_offset, Opening, made, last_end, openings, came_ok}
 use Rattle.nb_laws.specs.CommandsSoFar.{CommandsSoFar, so_far, shown_table, comes_by, comes_after, ComesTo, conclusion_so_far, concluded_in, left_table}
 use Rattle.nb_laws.specs.Moves.{moves, MovedOpen}
 use Rattle.nb_laws.specs.Wanting.{wanted_by, wanted_of_host, target_kind}
@@ -32,23 +32,29 @@ use Rattle.nb_laws.proofs.Afterwards.{after_stays, after_keeps, after_none, host
 use Rattle.nb_laws.proofs.SoFar.{over_so_far, result_so_far, opened_no_file, hooks_failed}
 use Rattle.nb_laws.proofs.Stays.{IsAsking}
 use Rattle.nb_laws.specs.Frames.{by_full_next, HoldsOf, HoldsResult, by_full_hooking}
-use Rattle.nb_laws.specs.Hookings.{hooked_drives}
+use Rattle.nb_laws.specs.Hookings.{hooked_drives, BootsBy, HasRead}
 use Rattle.nb_openlaws.specs.Standings.{live_opening}
 use Rattle.nb_openlaws.proofs.NextOpens.{HooksRightly}
 use Rattle.nb_lawful.specs.Results.{CommandsSo}
-use Rattle.nb_lawful.specs.ScriptAgreement.{SettingsAre, IsToReach, reaches_host, reaches_place, ScriptsAgree, OpensNoDrive, ReachesDisk, reaches_disk, reaches_looked_up_disk, HasFreeNumber}
+use Rattle.nb_lawful.specs.ScriptAgreement.{SettingsAre, IsToReach, reaches_host, reaches_place, ScriptsAgree, OpensNoDrive, ReachesDisk, reaches_disk, reaches_looked_up_disk, HasFreeNumber, HooksBy}
 use Rattle.nb_lawful.proofs.AtOnce.{Goes, images_as}
-use Rattle.nb_lawful.proofs.Opened.{UnderWay, ConcludesNot, Purpose, for_file, for_query, begins_open, finds_none, awaited_of, for_disk, for_disk_host}
+use Rattle.nb_lawful.proofs.Opened.{UnderWay, ConcludesNot, Purpose, for_file, for_query, begins_open, finds_none, awaited_of, for_disk, for_disk_host, for_boot}
 use Rattle.nb_lawful.proofs.Opening.{Based, kind_is_for, transfer_is_for, live_is_for}
 use Rattle.nb_lawful.proofs.HookedLives.{LivesSo, drives_still}
-use Rattle.nb_lawful.proofs.Disks.{disk_leaves, no_drive_last}
+use Rattle.nb_lawful.proofs.Disks.{disk_leaves, no_drive_last, hooking_is}
 use Rattle.nb_lawful.proofs.Targets.{AsksTarget, asks_server, target_next, asks_address}
 use Rattle.nb_lawful.proofs.Fresh.{fresh_answers_none}
 use Rattle.nb_drivecmd.specs.HookedDrives.{is_drive}
 use Rattle.nb_drivecmd.specs.declared.outcome.Hooking.{Hooking}
+use Rattle.nb_terms.specs.declared.cause.Cause.{Cause}
+use Rattle.nb_lawful.proofs.NoBlocks.{made_some, no_block_later, no_block_last}
+use Rattle.nb_drivecmd.specs.declared.outcome.AfterHook.{AfterHook}
+use Rattle.nb_drivecmd.specs.declared.outcome.AfterHook.TheVariants.{Keep, Boot}
+use Rattle.nb_laws.specs.Drives.{hooks_to_boot, is_booted_then}
+use Rattle.nb_laws.specs.CommandOpens.{command_open}
 
 pub reached_under_way : (es : List Event) (outs : List Out) (s : State) (inner : Running) (outer : List Running) (next : Onward) → Based es s → ScriptsAgree es outs (course.reaching s inner outer next) → UnderWay es outs s inner outer
-reached_under_way es outs s inner outer next b a = record { script = a.0; settings = a.1; images = a.2; none_left = a.3; fewer = b.fewer }
+reached_under_way es outs s inner outer next b a = record { script = a.0; settings = a.1; images = a.2; none_left = a.3; fewer = b.fewer; none_yet = b.none_yet }
 
 next_number : (s : State) (next : Onward) → (live_onward s next).number ≡ s.opens
 next_number s (fetches_now wanted) = refl
@@ -175,13 +181,14 @@ place_purpose es s (looks_up_now errand name by) shown plain b said names =
 -- or the disk that is hooked, on its server
 disk_purpose : (es : List Event) (s : State) (hooking : Hooking) (server : ℕ) → Based es s → ComesTo es (made es) (hooks_disk hooking) → HasFreeNumber hooking s.drives →
     Purpose es s.drives (moves es) (live_onward s (hooks_now hooking server)) (job_onward (hooks_now hooking server))
-disk_purpose es s hooking server b (shown, said, names) gone = for_disk hooking refl (record {
-  shown = shown;
-  said = said;
-  names = subst (λ k. comes_after k (so_far es) shown (moves es) ≡ hooks_disk hooking) b.opens names;
-  is_drive = (_, _, refl);
-  early = fresh_answers_none s hooking server;
-}) gone
+disk_purpose es s hooking server b (shown, said, names) gone = by hooking.after refl
+  where
+    on : HooksBy (so_far es) (moves es) (live_onward s (hooks_now hooking server)) hooking
+    on = record { shown = shown; said = said; names = subst (λ k. comes_after k (so_far es) shown (moves es) ≡ hooks_disk hooking) b.opens names; is_drive = (_, _, refl) }
+
+    by : (after : AfterHook) → hooking.after ≡ after → Purpose es s.drives (moves es) (live_onward s (hooks_now hooking server)) (job_onward (hooks_now hooking server))
+    by Keep is = for_disk hooking refl is on (fresh_answers_none s hooking server) gone
+    by (Boot keep) is = for_boot hooking keep refl is on (ap hooks_to_boot (hooking_is es hooking (shown, said, names)) ∙ ap is_booted_then is) tt (fresh_answers_none s hooking server) gone
 
 -- or for its server's address
 disk_host_purpose : (es : List Event) (s : State) (hooking : Hooking) (name : List ℕ) (by : ℕ) → Based es s → ComesTo es (made es) (hooks_disk hooking) → LooksUpTarget (so_far es).table hooking name by → length hooking.disk.lun ≡ 8 → HasFreeNumber hooking s.drives →
@@ -292,6 +299,17 @@ next_rightly es s (hooks_now hooking server) table (reaches_disk r) = by (target
     by (asks_server other is more) = (table, subst (λ (h : Hooking). length h.disk.lun ≡ 8) (same_next hooking r.hooking server other is) r.unit)
     by (asks_address name at is asked more) = absurd (let clash : hooks_now hooking server ≡ looks_up_now (hooks_then r.hooking) name at = is in cc clash)
 
+-- the words of its command hook it
+pub next_hooks : (es : List Event) (hooking : Hooking) (server : ℕ) → IsToReach es (hooks_now hooking server) → ComesTo es (made es) (hooks_disk hooking)
+next_hooks es hooking server (reaches_host errand name by address (shown, said, names) finds is) = absurd (not_hooked errand hooking server address (made es - 1) (so_far es) shown (moves es) name by is names)
+next_hooks es hooking server (reaches_place moved names more plain) = absurd plain
+next_hooks es hooking server (reaches_looked_up_disk r) = subst (λ h. ComesTo es (made es) (hooks_disk h)) (same_next hooking r.hooking server r.address r.is_next) r.names
+next_hooks es hooking server (reaches_disk r) = by (target_asks es (hooks_now hooking server) r)
+  where
+    by : AsksTarget (made es) (so_far es).table r.hooking (hooks_now hooking server) → ComesTo es (made es) (hooks_disk hooking)
+    by (asks_server other is more) = subst (λ h. ComesTo es (made es) (hooks_disk h)) (same_next hooking r.hooking server other is) r.names
+    by (asks_address name at is asked more) = absurd (let clash : hooks_now hooking server ≡ looks_up_now (hooks_then r.hooking) name at = is in cc clash)
+
 -- THERE ARE TOO MANY
 
 -- what is known where one more open isn't made
@@ -302,11 +320,14 @@ record IsFull (es : List Event) : Type 0 where
   concludes : conclusion_so_far (last_end es) es (so_far es) ≡ None
   leaves : left_table es (so_far es).table (so_far es).shown ≡ shown_table (so_far es).table (so_far es).shown
   holds : HoldsResult es full_opens
+  ended : (cause : Cause) × (last_end es ≡ Some cause)
 
 full_so : (es : List Event) (outs : List Out) (s : State) (inner : Running) (outer : List Running) (next : Onward) → IsFull es → ScriptsAgree es outs (course.reaching s inner outer next) →
     Goes es outs (result full_opens ∷ []) (course.running s (with_result inner full_opens) outer)
 full_so es outs s inner outer next f a =
     let o = result full_opens in
+    let there = made_some (command_open es) f.ended.0 f.ended.1 in
+    let unread : (k : ℕ) (bytes : List ℕ) → BootsBy k es → HasRead k es bytes → ⊥ = no_block_later es there.0 there.1 (λ d bytes read. no_block_last es f.opening 4 f.opened f.kind refl bytes read) in
     let over_is : so_far (es ++ told (o ∷ [])) ≡ over_so_far None (so_far es) = result_so_far es full_opens None a.3 f.concludes f.leaves ∙ ap (over_so_far None) (hooks_failed es full_opens refl) in
     record {
       stands = (
@@ -314,6 +335,8 @@ full_so es outs s inner outer next f a =
           is_open = a.1.is_open;
           holds = subst (λ l. HoldsOf l es full_opens) (sym a.3) f.holds;
           hooks = λ none some disk answer. absurd (no_drive_last es f.opening 4 f.opened f.kind refl answer);
+          reads = λ none k bytes boots_it read. absurd (unread k bytes boots_it read);
+          frees = λ none some disk bytes read. absurd (no_block_last es f.opening 4 f.opened f.kind refl bytes read);
         },
         tt,
       );
@@ -324,6 +347,10 @@ full_so es outs s inner outer next f a =
         ap (λ (m : CommandsSoFar). m.left) over_is ∙ a.3,
       );
     }
+
+pub ended_well : (x : Option Cause) → came_ok x ≡ true → (cause : Cause) × (x ≡ Some cause)
+ended_well None well = absurd (let no : false ≡ true = well in cc no)
+ended_well (Some cause) well = (cause, refl)
 
 -- the last open has looked up a host
 full_concludes : (es : List Event) (name : List ℕ) (by address : ℕ) (shown : ShownWords) → FindsHost es name by address → (so_far es).shown ≡ Some shown → concluded_in (comes_by (made es) (so_far es) shown) ≡ None → conclusion_so_far (last_end es) es (so_far es) ≡ None
@@ -348,6 +375,7 @@ full_goes es outs s inner outer next b full a = by a.4
       concludes = (let asks = disk_asks es r.hooking r.names in full_concludes es r.name r.by r.address asks.shown r.finds asks.said (after_none asks.opens (made es) (so_far es) asks.shown (moves es) asks.asks));
       leaves = disk_leaves es r.hooking r.names;
       holds = by_full_hooking (record { hooking = r.hooking; names = r.names }) r.finds.ended (record { opening = r.finds.opening; opened = r.finds.opened; kind_is = r.finds.kind }) (b.opens ∙ full) refl;
+      ended = ended_well (last_end es) r.finds.ended;
     }) a
     by (reaches_host errand name server address (shown, said, names) finds is) = full_so es outs s inner outer next (record {
       opening = finds.opening;
@@ -356,4 +384,5 @@ full_goes es outs s inner outer next b full a = by a.4
       concludes = full_concludes es name server address shown finds said (after_none (made es - 1) (made es) (so_far es) shown (moves es) (subst IsAsking (sym names) tt));
       leaves = host_leaves es (so_far es) shown (moves es) errand name server said names;
       holds = by_full_next errand name server finds.ended (shown, said, names) (record { opening = finds.opening; opened = finds.opened; kind_is = finds.kind }) (b.opens ∙ full) refl;
+      ended = ended_well (last_end es) finds.ended;
     }) a

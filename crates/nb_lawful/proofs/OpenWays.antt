@@ -1,5 +1,5 @@
 -- Of each open that lives the history says that there was a way to its server when it was made.
-use Rattle.std.proofs.Common.{◌≡◌, ℕ, ◌+◌, Bool, true, false, cond, List, [], ◌∷◌, ◌++◌, Option, Some, None, refl, sym, ◌∙◌, ap, subst, append_assoc, append-nil, not}
+use Rattle.std.proofs.Common.{◌≡◌, ℕ, ◌+◌, Bool, true, false, cond, List, [], ◌∷◌, ◌++◌, Option, Some, None, refl, sym, ◌∙◌, ap, subst, append-nil, not}
 use Rattle.std.specs.Prelude.{slice_get, filter}
 use Rattle.std.specs.List.{AllByRecursion}
 use Rattle.std.proofs.lemmas.Option.{none-some}
@@ -19,9 +19,9 @@ use Rattle.nb_machine.specs.Kinds.{first_records}
 use Rattle.nb_machine.specs.States.{State, net0, with_images, with_opened}
 use Rattle.nb_machine.specs.Takings.{Over, AllTake, all_have, lives_on, is_over}
 use Rattle.nb_machine.specs.Network.{Network, passes_by, brings, brings_reply, brings_segment, passes_time}
-use Rattle.nb_machine.specs.Scripts.{Job, live_onward, Upshot, concludes, settles, goes_onward, upshot_records, concluded_by, hooks_drive}
+use Rattle.nb_machine.specs.Scripts.{Job, live_onward, Upshot, concludes, settles, goes_onward, upshot_records, concluded_by, hooks_drive, reads_drive, boots_drive_by}
 use Rattle.nb_machine.specs.Courses as course
-use Rattle.nb_machine.specs.Courses.{Standing, Progress, text_standing, ConclusionLeads, LeadsTo, StepBegins, Proceeds, DropsDrive, is_drives_own}
+use Rattle.nb_machine.specs.Courses.{Standing, Progress, text_standing, ConclusionLeads, LeadsTo, StepBegins, Proceeds, DropsDrive, is_drives_own, ReadsBlock, AsksBlock, block_standing}
 use Rattle.nb_laws.specs.Events.{Event}
 use Rattle.nb_laws.specs.Histories.{client}
 use Rattle.nb_laws.specs.Lists.{hardware}
@@ -37,6 +37,9 @@ use Rattle.nb_openlaws.proofs.LiveParts.{all_filter}
 use Rattle.nb_lawful.proofs.StepReasons.{last_lives}
 use Rattle.nb_lawful.proofs.Devices.{DeviceAgrees}
 use Rattle.nb_drivecmd.specs.HookedDrives.{is_drive}
+use Rattle.nb_lawful.proofs.Plain.{take_each, amid_all}
+use Rattle.nb_lawful.proofs.DriveSessions.{have_ways}
+use Rattle.nb_drivecmd.specs.declared.drive.Drive.{Drive}
 
 abbrev pub WaysAt : List Event → Standing → Type 0
 WaysAt es course.ready = Unit {0}
@@ -48,14 +51,6 @@ WaysAt es (course.handing s rest) = HaveWays es s.live
 WaysAt es (course.left s outer cause) = HaveWays es s.live
 WaysAt es (course.handed_off s) = HaveWays es s.live
 WaysAt es (course.stopped s) = HaveWays es s.live
-
--- they had it, and so they do after more events
-had_way : (es more : List Event) (l : Live) → HadWay l.number es (live_opening l) → HadWay l.number (es ++ more) (live_opening l)
-had_way es more l h = record { before = h.before; since = h.since ++ more; all = ap (λ z. z ++ more) h.all ∙ append_assoc h.before h.since more; opened = h.opened; goes = h.goes }
-
-pub have_ways : (es more : List Event) (ls : List Live) → HaveWays es ls → HaveWays (es ++ more) ls
-have_ways es more [] h = tt
-have_ways es more (l ∷ ls) h = (had_way es more l h.0, have_ways es more ls h.1)
 
 taken_ways : (es : List Event) (devices : List Client) (input : OpenInput) (ls : List Live) (put : List Out) (after : List Live) (over : List Over) → AllTake devices input ls put after over → HaveWays es ls → HaveWays es after
 taken_ways es devices input ls put after over all_have h = tt
@@ -125,11 +120,29 @@ conclusion_ways es s inner outer (boots list kernel) put p (over, all, is) h = s
 conclusion_ways es s inner outer (runs_script list image false) put p (puts_so, is) h = subst (WaysAt es) (sym is) (text_ways es (with_images s list) _ (inner ∷ outer) (text_refusal (script_reading image.text)) h)
 conclusion_ways es s inner outer (runs_script list image true) put p (puts_so, is) h = subst (WaysAt es) (sym is) (text_ways es (with_images s list) _ outer (text_refusal (script_reading image.text)) h)
 
+-- a drive is asked for its first block: its open had its way before, too
+reads_ways : (es : List Event) (s : State) (inner : Running) (outer : List Running) (number : ℕ) (d : Option Drive) (put : List Out) (p : Standing) → ReadsBlock s inner outer number d put p → HaveWays es s.live → WaysAt es p
+reads_ways es s inner outer number d put p r h = by r.over refl
+  where
+    a : AsksBlock s number r.asked r.next r.over
+    a = r.asks
+
+    lives : HaveWays es r.next.live
+    lives = subst (λ (z : State). HaveWays es z.live) (sym a.leaves)
+        (around (λ (l : Live). HadWay l.number es (live_opening l)) s.live a.before a.behind a.after a.l a.parted
+        (take_each (λ (l : Live). HadWay l.number es (live_opening l)) _ _ (λ l x came w. w) (a.l ∷ []) _ _ _ a.takes (amid_all (λ (l : Live). HadWay l.number es (live_opening l)) a.before a.behind a.l (subst (HaveWays es) a.parted h), tt)) h)
+
+    by : (over : List Over) → r.over ≡ over → WaysAt es p
+    by [] is = subst (WaysAt es) (sym (r.stands_so ∙ ap (block_standing r.next inner outer number d) is)) lives
+    by (o ∷ over) is = subst (WaysAt es) (sym (r.stands_so ∙ ap (block_standing r.next inner outer number d) is)) lives
+
 upshot_ways : (es : List Event) (s : State) (inner : Running) (outer : List Running) (u : Upshot) (put : List Out) (p : Standing) → LeadsTo s inner outer u put p → HaveWays es s.live → WaysAt es p
 upshot_ways es s inner outer (concludes c) put p leads h = conclusion_ways es s inner outer c put p leads h
 upshot_ways es s inner outer (settles x) put p (none, is) h = subst (WaysAt es) (sym is) h
 upshot_ways es s inner outer (hooks_drive d) put p (none, is) h = subst (WaysAt es) (sym is) h
 upshot_ways es s inner outer (goes_onward next) put p (none, is) h = subst (WaysAt es) (sym is) h
+upshot_ways es s inner outer (reads_drive d) put p leads h = reads_ways es s inner outer d.open_number (Some d) put p leads h
+upshot_ways es s inner outer (boots_drive_by d bytes) put p (over, all, is) h = subst (WaysAt es) (sym is) tt
 
 -- an event and the records after it
 further_ways : (es : List Event) (e : Event) (more : List Out) (ls : List Live) → HaveWays es ls → HaveWays ((es ++ e ∷ []) ++ told more) ls
@@ -167,6 +180,7 @@ move_ways es m added m2 (course.closes_device n s s2 inner outer c cs put over c
 move_ways es m added m2 (course.goes_to_hook n s s2 inner outer c cs hooking put next comes few is drops asks) h a d = drop_ways es added s s2 hooking.number put drops h
 move_ways es m added m2 (course.hooks_none n s s2 inner outer c cs hooking put cause comes few is drops asks) h a d = drop_ways es added s s2 hooking.number put drops h
 move_ways es m added m2 (course.unhooks n s s2 inner outer c cs number put cause comes few is drops) h a d = drop_ways es added s s2 number put drops h
+move_ways es m added m2 (course.boots_hooked n s inner outer c cs number d put p comes few is got reads) h a e = reads_ways (es ++ told added) s (entered inner) outer d.open_number None put p reads (have_ways es (told added) s.live h)
 move_ways es m added m2 (course.leaves n s s2 inner outer c cs x comes few is away) h a d = subst (λ (z : State). HaveWays (es ++ told added) z.live) (sym (ends_by s inner (c ∷ cs) x s2 is).1) (have_ways es (told added) s.live h)
 move_ways es m added m2 (course.jumps n s inner outer c cs name line comes few is there) h a d = have_ways es (told added) s.live h
 move_ways es m added m2 (course.finds_no_label n s inner outer c cs name comes few is none) h a d = have_ways es (told added) s.live h

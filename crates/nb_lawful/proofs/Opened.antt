@@ -1,5 +1,5 @@
 -- A command that is under way makes an open: it begins, and the command waits for it, or it finds no route and has ended.
-use Rattle.std.proofs.Common.{◌≡◌, ℕ, ◌+◌, Bool, true, false, cond, List, [], ◌∷◌, ◌++◌, Some, None, refl, sym, ◌∙◌, ap, subst, append_assoc, append-nil, add-zero}
+use Rattle.std.proofs.Common.{◌≡◌, ℕ, ◌+◌, ◌==◌, Bool, true, false, cond, List, [], ◌∷◌, ◌++◌, Some, None, refl, sym, ◌∙◌, ap, subst, append_assoc, append-nil, add-zero}
 use Rattle.std.specs.List.{AllByRecursion}
 use Rattle.std.specs.Option.{option_and_then}
 use Rattle.std.proofs.lemmas.Option.{none-some, same_Some}
@@ -23,7 +23,7 @@ use Rattle.nb_machine.specs.Lives.{OpenKind, tftp, http, iscsi, dns, dhcp, ping,
 use Rattle.nb_machine.specs.Connections.{connection_of, syn_message}
 use Rattle.nb_machine.specs.Kinds.{first_records}
 use Rattle.nb_machine.specs.States.{State, with_opened, with_one_made}
-use Rattle.nb_machine.specs.Scripts.{Job, fetch, job_for, answer, Waiting, Awaited, hooks, asks_on, drive, keeps_address, takes_lease, hears_echo, sleep}
+use Rattle.nb_machine.specs.Scripts.{Job, fetch, job_for, answer, Waiting, Awaited, hooks, asks_on, keeps_address, takes_lease, hears_echo, sleep}
 use Rattle.nb_machine.specs.Courses as course
 use Rattle.nb_laws.specs.Events.{Event, puts}
 use Rattle.nb_laws.specs.Lists.{hardware, port_offset, commands_begun, made, came_ok, last_end}
@@ -38,7 +38,7 @@ use Rattle.nb_laws.proofs.Moved.{moves_more, IsUnmoving, unmoved}
 use Rattle.nb_laws.proofs.SoFar.{so_far_more, over_so_far, left_quiet, result_so_far, hooks_failed}
 use Rattle.nb_laws.proofs.Settling.{concludes_same}
 use Rattle.nb_openlaws.proofs.Puts.{opens_quiet}
-use Rattle.nb_laws.specs.CommandOpens.{command_open_by, command_end, over_of}
+use Rattle.nb_laws.specs.CommandOpens.{command_open_by, command_end, over_of, command_open}
 use Rattle.nb_laws.specs.Frames.{by_failed_end, HoldsOf}
 use Rattle.nb_laws.specs.Webs.{brought_to}
 use Rattle.nb_lawful.specs.Results.{CommandsSo}
@@ -47,8 +47,21 @@ use Rattle.nb_lawful.proofs.Quiet.{quiet_so_far, quiet_begin, quiet_parts, quiet
 use Rattle.nb_lawful.proofs.Awaited.{opens_beside, beside_open}
 use Rattle.nb_lawful.proofs.AtOnce.{Goes, images_as}
 use Rattle.nb_lawful.proofs.HookedLives.{drives_made, drives_opened}
-use Rattle.nb_lawful.proofs.Fresh.{fresh_drive}
+use Rattle.nb_lawful.proofs.Fresh.{fresh_drive, fresh_block}
 use Rattle.nb_drivecmd.specs.declared.drive.Drive.{Drive}
+use Rattle.nb_drivecmd.specs.declared.outcome.AfterHook.TheVariants.{Keep, Boot}
+use Rattle.nb_laws.specs.CommandsSoFar.{hooking_so_far}
+use Rattle.nb_laws.specs.Drives.{hooks_to_boot, session_with, session_opening, session_at, sessions}
+use Rattle.nb_laws.specs.Hookings.{BootsBy, HasRead}
+use Rattle.nb_laws.specs.Lists.{Opening, time}
+use Rattle.nb_laws.proofs.Tellings.{sessions_more}
+use Rattle.nb_login.specs.declared.info.LoginInfo.{LoginInfo}
+use Rattle.nb_machine.specs.Kinds.{answered}
+use Rattle.nb_machine.specs.Lives.{kind_number}
+use Rattle.nb_machine.specs.Scripts.{boots, awaited_hook, block}
+use Rattle.nb_lawful.proofs.NoBlocks.{no_block_later, made_some}
+use Rattle.nb_lawful.specs.ScriptAgreement.{WasSession, AreUnasked, awaits_disk}
+use Rattle.std.specs.List.{flat_map}
 use Rattle.nb_drivecmd.specs.declared.outcome.Hooking.{Hooking}
 
 pub told_hardware : (es : List Event) (outs : List Out) → hardware (es ++ told outs) ≡ hardware es
@@ -88,6 +101,7 @@ pub record UnderWay (es : List Event) (outs : List Out) (s : State) (inner : Run
   pub images : HasImages es outs s
   pub none_left : NoneLeft es
   pub fewer : AllByRecursion (IsAnother s.opens) s.live
+  pub none_yet : sessions s.opens es ≡ []
 
 -- the command that began last concludes nothing at once
 abbrev pub ConcludesNot : CommandsSoFar → Type 0
@@ -101,7 +115,9 @@ pub data Purpose (es : List Event) (drives : List Drive) (moved : List MovedOpen
   for_file : (wanted : Wanted) → job ≡ fetch wanted → FetchesWith (hardware es) (so_far es) moved l wanted → Purpose es drives moved l job
   for_query : (query : Query) → job ≡ job_for query → AsksIn (hardware es) (so_far es) moved l query → Purpose es drives moved l job
   for_disk_host : (hooking : Hooking) → job ≡ asks_on (hooks_then hooking) → LooksUpDisk (hardware es) (so_far es) moved l hooking → HasFreeNumber hooking drives → Purpose es drives moved l job
-  for_disk : (hooking : Hooking) → job ≡ hooks hooking → HooksBy (so_far es) moved l hooking → HasFreeNumber hooking drives → Purpose es drives moved l job
+  for_disk : (hooking : Hooking) → job ≡ hooks hooking → hooking.after ≡ Keep → HooksBy (so_far es) moved l hooking → answered l ≡ None → HasFreeNumber hooking drives → Purpose es drives moved l job
+  for_boot : (hooking : Hooking) (keep : Bool) → job ≡ hooks hooking → hooking.after ≡ Boot keep → HooksBy (so_far es) moved l hooking → hooks_to_boot (hooking_so_far (so_far es)) ≡ true → AreUnasked l.exchanges → answered l ≡ None →
+      HasFreeNumber hooking drives → Purpose es drives moved l job
 
 purpose_of_disk : (es es3 : List Event) (a b : List MovedOpen) (l : Live) (job : Job) → so_far es3 ≡ so_far es → hardware es3 ≡ hardware es → b ≡ a → (hooking : Hooking) → LooksUpDisk (hardware es) (so_far es) a l hooking → LooksUpDisk (hardware es3) (so_far es3) b l hooking
 purpose_of_disk es es3 a b l job same hard moved hooking f =
@@ -114,17 +130,24 @@ purpose_as es es3 drives a b l job same hard moved (for_file wanted is f) =
 purpose_as es es3 drives a b l job same hard moved (for_query query is f) =
     for_query query is (subst (λ z. AsksIn (hardware es3) (so_far es3) z l query) (sym moved) (subst (λ m. AsksIn (hardware es3) m a l query) (sym same) (subst (λ h. AsksIn h (so_far es) a l query) (sym hard) f)))
 purpose_as es es3 drives a b l job same hard moved (for_disk_host hooking is f gone) = for_disk_host hooking is (purpose_of_disk es es3 a b l job same hard moved hooking f) gone
-purpose_as es es3 drives a b l job same hard moved (for_disk hooking is f gone) = for_disk hooking is (subst (λ z. HooksBy (so_far es3) z l hooking) (sym moved) (subst (λ m. HooksBy m a l hooking) (sym same) f)) gone
+purpose_as es es3 drives a b l job same hard moved (for_disk hooking is keeps f early gone) = for_disk hooking is keeps (subst (λ z. HooksBy (so_far es3) z l hooking) (sym moved) (subst (λ m. HooksBy m a l hooking) (sym same) f)) early gone
+purpose_as es es3 drives a b l job same hard moved (for_boot hooking keep is boots_it f asks unasked early gone) =
+    for_boot hooking keep is boots_it (subst (λ z. HooksBy (so_far es3) z l hooking) (sym moved) (subst (λ m. HooksBy m a l hooking) (sym same) f)) (ap (λ m. hooks_to_boot (hooking_so_far m)) same ∙ asks) unasked early gone
 
 -- what is awaited of an open, by what it is for: that a disk answers, or its end
 abbrev pub awaited_of : Job → ℕ → Awaited
-awaited_of (hooks hooking) number = drive number
+awaited_of (hooks hooking) number = awaited_hook hooking.after number
+awaited_of (boots d) number = block number
 awaited_of (fetch wanted) number = answer number
 awaited_of takes_lease number = answer number
 awaited_of hears_echo number = answer number
 awaited_of (keeps_address setting) number = answer number
 awaited_of (asks_on errand) number = answer number
 awaited_of sleep number = answer number
+
+-- it is a drive's
+abbrev pub HasSession : Live → Type 0
+HasSession l = (isn : ℕ) × (i : LoginInfo) × (l.kind ≡ iscsi isn i)
 
 abbrev pub Awaits : Live → Job → Awaited → Type 0
 Awaits l job awaited = awaited ≡ awaited_of job l.number
@@ -135,11 +158,14 @@ query_awaits (for_echo server) number = refl
 query_awaits (for_host errand name by) number = refl
 query_awaits (for_address setting name by) number = refl
 
-awaits_so : (es : List Event) (s : State) (w : Waiting) (l : Live) → IsAwaited es s w l → Awaits l w.job w.awaited → Purpose es s.drives (moves es) l w.job → AwaitsSo es s w
-awaits_so es s w l at awaits (for_file wanted is f) = awaits_file l wanted at (awaits ∙ ap (λ j. awaited_of j l.number) is) is f
-awaits_so es s w l at awaits (for_query query is f) = awaits_query l query at (awaits ∙ ap (λ j. awaited_of j l.number) is ∙ query_awaits query l.number) is f
-awaits_so es s w l at awaits (for_disk_host hooking is f gone) = awaits_host l hooking at (awaits ∙ ap (λ (j : Job). awaited_of j l.number) is) is f gone
-awaits_so es s w l at awaits (for_disk hooking is f gone) = awaits_drive l hooking at (awaits ∙ ap (λ j. awaited_of j l.number) is) is f gone
+awaits_so : (es : List Event) (s : State) (w : Waiting) (l : Live) → IsAwaited es s w l → Awaits l w.job w.awaited → (HasSession l → hooks_to_boot (hooking_so_far (so_far es)) ≡ true → WasSession true l.number es) →
+    Purpose es s.drives (moves es) l w.job → AwaitsSo es s w
+awaits_so es s w l at awaits was (for_file wanted is f) = awaits_file l wanted at (awaits ∙ ap (λ j. awaited_of j l.number) is) is f
+awaits_so es s w l at awaits was (for_query query is f) = awaits_query l query at (awaits ∙ ap (λ j. awaited_of j l.number) is ∙ query_awaits query l.number) is f
+awaits_so es s w l at awaits was (for_disk_host hooking is f gone) = awaits_host l hooking at (awaits ∙ ap (λ (j : Job). awaited_of j l.number) is) is f gone
+awaits_so es s w l at awaits was (for_disk hooking is keeps f early gone) = awaits_drive l hooking at (awaits ∙ ap (λ j. awaited_of j l.number) is ∙ ap (λ x. awaited_hook x l.number) keeps) is keeps f early gone
+awaits_so es s w l at awaits was (for_boot hooking keep is boots_it f asks unasked early gone) =
+    awaits_disk l hooking keep at (awaits ∙ ap (λ j. awaited_of j l.number) is ∙ ap (λ x. awaited_hook x l.number) boots_it) is boots_it f (was f.is_drive asks) unasked early gone
 
 -- FRAMEs, TRYs and ADVANCEs move no file
 opens_move : (o : Out) → IsOpens o → IsUnmoving o
@@ -152,6 +178,26 @@ opens_move _ h = absurd h
 opens_move_none : (outs : List Out) → AreOpens outs → AllByRecursion IsUnmoving outs
 opens_move_none [] h = tt
 opens_move_none (o ∷ outs) h = (opens_move o h.0, opens_move_none outs h.1)
+
+-- an open is a session's that was so before
+pub was_on : (boots_it : Bool) (k : ℕ) (es more : List Event) → WasSession boots_it k es → WasSession boots_it k (es ++ more)
+was_on boots_it k es more w = record { before = w.before; since = w.since ++ more; all = ap (λ z. z ++ more) w.all ∙ append_assoc w.before w.since more; session = w.session; is = w.is; so = w.so }
+
+-- its session is begun by its OPEN
+pub was_opened : (boots_it : Bool) (es : List Event) (l : Live) → HasSession l → sessions l.number es ≡ [] → hooks_to_boot (hooking_so_far (so_far es)) ≡ boots_it → WasSession boots_it l.number (es ++ puts (open_record l) ∷ [])
+was_opened boots_it es l (isn, i, kind) none asks =
+    let k = l.number in
+    let e = puts (open_record l) in
+    let x : Opening = record { kind = kind_number l.kind; server = l.server; port = l.port; own = l.own; target = l.target; since = time es } in
+    record {
+      before = es ++ e ∷ [];
+      since = [];
+      all = sym (append-nil (es ++ e ∷ []));
+      session = session_with k es x;
+      is = sessions_more k es e ∙ ap (λ z. z ++ session_at k es e) none ∙ ap (λ b. flat_map (session_opening k es) (cond b (x ∷ []) [])) (same_number k)
+          ∙ ap (λ n. cond (n == 3) (session_with k es x ∷ []) [] ++ []) (ap kind_number kind);
+      so = asks;
+    }
 
 abbrev waiting_for : Running → List Running → Awaited → Job → Waiting
 waiting_for inner outer awaited job = record { script = inner; outer = outer; awaited = awaited; job = job }
@@ -181,7 +227,8 @@ begins_open es outs s inner outer l link put awaited job u first number stands a
           others = subst (λ k. AllByRecursion (IsAnother k) s.live) (sym number) u.fewer;
           number = ap (λ k. k + 1) (sym number);
           its = beside_open es2 l.number None put (opens_beside l.number put opens) (command_open_more es (puts o));
-        }) awaits (purpose_as es es3 s.drives (moves es) (moves es3) l job same hard (unmoved es2 put (opens_move_none put opens) ∙ moves_more es (puts o)) purpose),
+        }) awaits (λ its asks. was_on true l.number es2 (told put) (was_opened true es l its (ap (λ k. sessions k es) number ∙ u.none_yet) (sym (ap (λ m. hooks_to_boot (hooking_so_far m)) same) ∙ asks)))
+            (purpose_as es es3 s.drives (moves es) (moves es3) l job same hard (unmoved es2 put (opens_move_none put opens) ∙ moves_more es (puts o)) purpose),
       );
     }
 
@@ -205,9 +252,26 @@ finds_none es outs s inner outer l u stands keeps quiet silent =
     ∙ ap (λ (m : CommandsSoFar). option_and_then (λ x. concluded_in (comes_by (made es3) m x)) m.shown) same ∙ quiet (made es3) in
     let many : made es3 ≡ made es + 1 = made_more es2 (puts e) ∙ add-zero (made es2) ∙ made_more es (puts o) in
     let none_left : (so_far es3).left ≡ None = ap (λ (m : CommandsSoFar). m.left) same ∙ u.none_left in
+    let made_it = made_some (command_open es3) cause its_end in
+    let unread : (k : ℕ) (bytes : List ℕ) → BootsBy k es3 → HasRead k es3 bytes → ⊥ = no_block_later es3 made_it.0 made_it.1 (λ d bytes read. fresh_block es es2 es3 o e refl refl many silent bytes read) in
     let over_is : so_far (es3 ++ puts (result cause) ∷ []) ≡ over_so_far None (so_far es) = result_so_far es3 cause None none_left none (left_quiet es3 (so_far es3).table (so_far es3).shown failed) ∙ ap (over_so_far None) (hooks_failed es3 cause refl ∙ same) in
     record {
-      stands = (stands, (tt, (record { is_open = ap (λ (m : CommandsSoFar). m.is_open) same ∙ u.settings.is_open; holds = subst (λ l. HoldsOf l es3 cause) (sym none_left) (by_failed_end its_end refl); hooks = λ left some disk answers. absurd (fresh_drive es es2 es3 o e refl refl many silent answers) }, tt)));
+      stands = (
+        stands,
+        (
+          tt,
+          (
+            record {
+              is_open = ap (λ (m : CommandsSoFar). m.is_open) same ∙ u.settings.is_open;
+              holds = subst (λ l. HoldsOf l es3 cause) (sym none_left) (by_failed_end its_end refl);
+              hooks = λ left some disk answers. absurd (fresh_drive es es2 es3 o e refl refl many silent answers);
+              reads = λ left k bytes boots_it read. absurd (unread k bytes boots_it read);
+              frees = λ left some d bytes read. absurd (fresh_block es es2 es3 o e refl refl many silent bytes read);
+            },
+            tt,
+          ),
+        ),
+      );
       agrees = subst (λ z. ScriptsAgree z (outs ++ all) (course.running (with_one_made s) (with_result inner cause) outer)) (sym at) (
         script_as (es3 ++ puts (result cause) ∷ []) inner (with_result inner cause) outer (record { same = refl; depth = refl; begun = refl })
             (script_told es3 (result cause ∷ []) inner outer (tt, tt) refl (script_told es2 (e ∷ []) inner outer (tt, tt) refl (script_told es (o ∷ []) inner outer (tt, tt) refl u.script))),

@@ -28,7 +28,7 @@ use Rattle.nb_laws.specs.Openings.{inquiry_fields, open_fields, opens_for_file, 
 use Rattle.nb_laws.specs.Agreement.{asks_at_once}
 use Rattle.nb_laws.proofs.Histories.{offset_more, hardware_more}
 use Rattle.nb_laws.proofs.Moved.{moves_more}
-use Rattle.nb_laws.proofs.Tellings.{told, made_more, came_more}
+use Rattle.nb_laws.proofs.Tellings.{told, made_more, came_more, sessions_stay}
 use Rattle.nb_laws.proofs.Commands.{may_begin, script_begins}
 use Rattle.nb_laws.proofs.Settling.{comes_keeps}
 use Rattle.nb_laws.proofs.SoFar.{begun_so_far, begins_so_far, shown_table_is, found_so_far}
@@ -42,6 +42,7 @@ use Rattle.nb_lawful.proofs.Begun.{running_finds, comes_is, command_comes, begin
 use Rattle.nb_lawful.proofs.AtOnce.{Goes, images_as}
 use Rattle.nb_lawful.proofs.Opened.{UnderWay, ConcludesNot, concludes_not, Purpose, for_file, for_query, begins_open, finds_none, Awaits, query_awaits}
 use Rattle.nb_lawful.proofs.HookedLives.{LivesSo, drives_still}
+use Rattle.nb_laws.specs.Drives.{sessions}
 
 -- what the history says of a state besides its scripts
 pub record Based (es : List Event) (s : State) : Type 0 where
@@ -50,6 +51,7 @@ pub record Based (es : List Event) (s : State) : Type 0 where
   pub offset_is : port_offset es ≡ s.w
   pub fewer : AllByRecursion (IsAnother s.opens) s.live
   pub silent : brought_to (made es) es ≡ []
+  pub none_yet : sessions s.opens es ≡ []
 
 -- COMMAND first
 goes_after : (es : List Event) (outs : List Out) (o : Out) (more : List Out) (p : Standing) → CommandsSo es (puts o) → Goes (es ++ puts o ∷ []) (outs ++ o ∷ []) more p → Goes es outs (o ∷ more) p
@@ -115,6 +117,7 @@ begins_by es outs s s' inner outer ws l job b lives a (opens_transfer wanted e s
         images = images_as es (es ++ puts command ∷ []) outs (command ∷ []) s s (ap (λ (m : CommandsSoFar). m.images) began) refl (drives_still (so_far es) (so_far (es ++ puts command ∷ [])) s s (ap (λ (m : CommandsSoFar). m.hooked) began) refl refl refl a.2.drives) (tt, tt) a.2;
         none_left = ap (λ (m : CommandsSoFar). m.left) began ∙ a.3;
         fewer = b.fewer;
+        none_yet = sessions_stay _ es (puts command) refl ∙ b.none_yet;
       };
       number = refl;
       stands = record {
@@ -168,6 +171,7 @@ begins_by es outs s s' inner outer ws l job b lives a (opens_query query e state
         images = images_as es (es ++ puts command ∷ []) outs (command ∷ []) s v (ap (λ (m : CommandsSoFar). m.images) began) refl (drives_still (so_far es) (so_far (es ++ puts command ∷ [])) s v (ap (λ (m : CommandsSoFar). m.hooked) began) refl refl refl a.2.drives) (tt, tt) a.2;
         none_left = ap (λ (m : CommandsSoFar). m.left) began ∙ a.3;
         fewer = b.fewer;
+        none_yet = sessions_stay _ es (puts command) refl ∙ b.none_yet;
       };
       number = number_of v query;
       stands = record {

@@ -1,5 +1,5 @@
 -- No command oversleeps: one that has its result doesn't, nor one that waits for an open, nor one whose time hasn't come.
-use Rattle.std.proofs.Common.{◌≡◌, ℕ, ◌+◌, ◌*◌, ◌<◌, true, Some, List, sym, ◌∙◌, ap, subst, add-zero}
+use Rattle.std.proofs.Common.{◌≡◌, ℕ, ◌+◌, ◌*◌, ◌<◌, true, Some, List, sym, ◌∙◌, ap, subst, add-zero, refl}
 use Rattle.nb_machine.specs.Effects.{Effect, sleeps, ShownWords}
 use Rattle.nb_machine.specs.Errands.{Wanted}
 use Rattle.nb_machine.specs.Queries.{Query}
@@ -16,7 +16,9 @@ use Rattle.nb_laws.proofs.Afterwards.{after_by_words, sleeps_after}
 use Rattle.nb_laws.proofs.Settling.{comes_sleeps, same_shown, same_seconds}
 use Rattle.nb_laws.proofs.Stays.{IsAsking}
 use Rattle.nb_openlaws.specs.Standings.{live_opening}
-use Rattle.nb_lawful.specs.ScriptAgreement.{SleepsUntil, FetchesWith, AsksIn, AwaitsSo, awaits_time, awaits_file, awaits_query, awaits_host, awaits_drive}
+use Rattle.nb_lawful.specs.ScriptAgreement.{SleepsUntil, FetchesWith, AsksIn, AwaitsSo, awaits_time, awaits_file, awaits_query, awaits_host, awaits_drive, awaits_disk, awaits_block, awaits_hooked}
+use Rattle.nb_lawful.proofs.NoBlocks.{words_boot_none}
+use Rattle.std.proofs.lemmas.Option.{none-some}
 
 -- a command sleeps by its words alone, however many opens were made
 asleep_by_words : (k j : ℕ) (m : CommandsSoFar) (shown : ShownWords) (moved : List MovedOpen) (n : ℕ) → comes_after k m shown moved ≡ sleeps n → comes_by j m shown ≡ sleeps n
@@ -68,7 +70,10 @@ waiting_rests es s w opens now (awaits_time until at job none a) = sleep_rests e
 waiting_rests es s w opens now (awaits_file l wanted at number job a) = fetch_rests es l wanted a
 waiting_rests es s w opens now (awaits_query l query at number job a) = query_rests es l query a
 waiting_rests es s w opens now (awaits_host l hooking at number job a gone) = asking_rests es l.number a.shown a.said (subst IsAsking (sym a.names) tt)
-waiting_rests es s w opens now (awaits_drive l hooking at number job a gone) = asking_rests es l.number a.shown a.said (subst IsAsking (sym a.names) tt)
+waiting_rests es s w opens now (awaits_drive l hooking at number job keeps a early gone) = asking_rests es l.number a.shown a.said (subst IsAsking (sym a.names) tt)
+waiting_rests es s w opens now (awaits_disk l hooking keep at number job boots_it a was unasked early gone) = asking_rests es l.number a.shown a.said (subst IsAsking (sym a.names) tt)
+waiting_rests es s w opens now (awaits_block l hooking keep at number job boots_it a known unread gone) = asking_rests es l.number a.shown a.said (subst IsAsking (sym a.names) tt)
+waiting_rests es s w opens now (awaits_hooked l d b number job unread) = λ seconds still comes. absurd (none-some d (sym (words_boot_none es (made es) (sleeps seconds) refl comes) ∙ b.names))
 
 -- and it is that command that sleeps
 pub sleeping_comes : (es : List Event) (s : State) (until : ℕ) (a : SleepsUntil (so_far es) s until) → ComesTo es (made es) (sleeps a.seconds)

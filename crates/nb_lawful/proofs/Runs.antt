@@ -1,5 +1,5 @@
 -- Each course has a history, and it keeps the laws.
-use Rattle.std.proofs.Common.{◌≡◌, inl, inr, ℕ, List, [], ◌∷◌, ◌++◌, length, refl, sym, ◌∙◌, ap, subst, false, true, Some, None, ◌-◌}
+use Rattle.std.proofs.Common.{◌≡◌, inl, inr, ℕ, List, [], ◌∷◌, ◌++◌, length, refl, sym, ◌∙◌, ap, subst}
 use Rattle.std.proofs.lemmas.Option.{none-some}
 use Rattle.nb_defs.specs.Records.{In, Out, step}
 use Rattle.std.specs.List.{AllByRecursion}
@@ -8,10 +8,9 @@ use Rattle.nb_machine.specs.States.{State}
 use Rattle.nb_machine.specs.Scripts.{Waiting}
 use Rattle.nb_machine.specs.Courses as course
 use Rattle.nb_machine.specs.Courses.{Standing, Progress, StepBegins, Proceeds, Course}
-use Rattle.nb_machine.specs.Errands.{Onward}
 use Rattle.nb_laws.specs.Events.{Event, puts, inputs, outputs, used_by, written_by, EachEvent, EachThen}
 use Rattle.nb_laws.specs.Histories.{IsRead, IsHistory}
-use Rattle.nb_laws.specs.Lists.{last_place, calls, openings, gathered, made, came_ok}
+use Rattle.nb_laws.specs.Lists.{last_place, calls, openings, gathered}
 use Rattle.nb_laws.specs.Drives.{sessions}
 use Rattle.nb_laws.specs.Frames.{TriesSo}
 use Rattle.nb_laws.specs.Progress.{StepsSo, AdvancesSo, IsAdvanced, NoneOversleeps}
@@ -21,7 +20,6 @@ use Rattle.nb_laws.proofs.Settling.{over_rests}
 use Rattle.nb_laws.proofs.Tellings.{told, tries_later}
 use Rattle.nb_laws.specs.CommandsSoFar.{CommandsSoFar}
 use Rattle.nb_laws.specs.Hookings.{NoneIsHooked}
-use Rattle.nb_laws.specs.CommandOpens.{command_open, over_of}
 use Rattle.nb_openlaws.specs.Standings.{live_opening, AreLive, AgreesStanding}
 use Rattle.nb_openlaws.specs.OpenEndings.{OpensEndSo, FramesSo}
 use Rattle.nb_openlaws.specs.OpenReasons.{OpenReasons}
@@ -32,23 +30,29 @@ use Rattle.nb_openlaws.proofs.CourseEvents.{standing_unanswered}
 use Rattle.nb_openlaws.proofs.NextOpens.{MayHook}
 use Rattle.nb_lawful.specs.StateByLists.{IsLiveBy, IsStateBy}
 use Rattle.nb_lawful.specs.Results.{CommandsSo}
-use Rattle.nb_lawful.specs.ScriptAgreement.{HandsOver, HandsWhatCame, ScriptsAgree, IsToReach, reaches_host, reaches_place, reaches_disk, reaches_looked_up_disk}
+use Rattle.nb_lawful.specs.ScriptAgreement.{HandsEither, HandsWhatCame, ScriptsAgree}
 use Rattle.nb_lawful.specs.Lawful.{KeepsLaws}
 use Rattle.nb_lawful.proofs.Stepping.{used_stands}
-use Rattle.nb_lawful.proofs.Scripted.{AnswersAt, step_scripts, move_scripts}
+use Rattle.nb_lawful.proofs.Scripted.{AnswersAt, step_scripts, move_scripts, MayBoot}
 use Rattle.nb_lawful.proofs.Onward.{reached_asks, next_rightly}
 use Rattle.nb_lawful.proofs.Resting.{asking_rests, waiting_rests}
 use Rattle.nb_lawful.proofs.StepReasons.{course_counts, step_stands}
 use Rattle.nb_lawful.proofs.OpenWays.{WaysAt, step_ways, move_ways}
 use Rattle.nb_lawful.proofs.Devices.{DeviceAgrees, told_read, move_device}
 use Rattle.nb_lawful.proofs.DeviceSteps.{step_device}
-use Rattle.nb_lawful.proofs.Unhooked.{over_unhooked, waiting_unhooked}
+use Rattle.nb_lawful.proofs.Unhooked.{over_unhooked, left_unhooked, reached_unhooked, waiting_unhooked}
+use Rattle.nb_lawful.proofs.DriveAnswers.{says_all}
+use Rattle.nb_openlaws.specs.Sessions.{SessionsStand}
+use Rattle.nb_lawful.proofs.Plain.{PlainAt, move_plain}
+use Rattle.nb_lawful.proofs.StepPlain.{step_plain}
 
 -- what the history says of where a course stands, and of each of its events
 pub record Story (ins : List In) (outs : List Out) (es : List Event) (p : Standing) : Type 0 where
   pub used : ins ≡ inputs es
   pub written : outs ≡ outputs es
   pub base : AgreesStanding es p
+  pub sessions : SessionsStand es p
+  pub plain : PlainAt es p
   pub scripts : ScriptsAgree es outs p
   pub device : DeviceAgrees es p
   pub ways : WaysAt es p
@@ -60,13 +64,6 @@ pub record Story (ins : List In) (outs : List Out) (es : List Event) (p : Standi
   pub tries : EachThen TriesSo [] es
   pub advances : EachEvent AdvancesSo [] es
   pub advanced : IsAdvanced es
-
--- where an open is next, the command's last one has ended, or there was none
-reached_none : (es : List Event) (next : Onward) → IsToReach es next → command_open es ≡ Some (record { number = made es - 1; over = None }) → ⊥
-reached_none es next (reaches_host errand name by address names finds is) at = let no : false ≡ true = sym (ap (λ x. came_ok (over_of x)) at) ∙ finds.ended in cc no
-reached_none es next (reaches_place moved names more plain) at = let no : false ≡ true = sym (ap (λ x. came_ok (over_of x)) at) ∙ moved.ended in cc no
-reached_none es next (reaches_disk r) at = none-some _ (sym r.first ∙ at)
-reached_none es next (reaches_looked_up_disk r) at = let no : false ≡ true = sym (ap (λ x. came_ok (over_of x)) at) ∙ r.finds.ended in cc no
 
 -- WHERE A COURSE STANDS
 
@@ -83,17 +80,17 @@ standing_rests es outs (course.handed_off s) a h = over_rests es h.0
 standing_rests es outs (course.stopped s) a h = h.0
 
 -- no disk that a command hooks has answered
-pub standing_unhooked : (es : List Event) (outs : List Out) (p : Standing) → AgreesStanding es p → ScriptsAgree es outs p → NoneIsHooked es
-standing_unhooked es outs course.ready a h = over_unhooked es (ap (λ (x : CommandsSoFar). x.is_open) (nothing_so_far es h.0))
-standing_unhooked es outs (course.running s inner outer) a h = over_unhooked es h.1.is_open
-standing_unhooked es outs (course.waiting s w) a h = waiting_unhooked es s w a h.4
-standing_unhooked es outs (course.reaching s inner outer next) a h = λ on left its answers. absurd (reached_none es next h.4 its)
-standing_unhooked es outs (course.yielded s inner outer) a h = over_unhooked es h.1.is_open
-standing_unhooked es outs (course.handing s rest) a h = over_unhooked es h.1
-standing_unhooked es outs (course.left s [] cause) a h = over_unhooked es h.2.0
-standing_unhooked es outs (course.left s (inner ∷ outer) cause) a h = λ on left its answers. absurd (none-some cause (sym left ∙ h.2.1))
-standing_unhooked es outs (course.handed_off s) a h = over_unhooked es h.0
-standing_unhooked es outs (course.stopped s) a h = h.2
+pub standing_unhooked : (es : List Event) (outs : List Out) (p : Standing) → AgreesStanding es p → SessionsStand es p → ScriptsAgree es outs p → NoneIsHooked es
+standing_unhooked es outs course.ready a t h = over_unhooked es (ap (λ (x : CommandsSoFar). x.is_open) (nothing_so_far es h.0))
+standing_unhooked es outs (course.running s inner outer) a t h = over_unhooked es h.1.is_open
+standing_unhooked es outs (course.waiting s w) a t h = waiting_unhooked es s w a (says_all es s.live t) h.4
+standing_unhooked es outs (course.reaching s inner outer next) a t h = reached_unhooked es next h.4
+standing_unhooked es outs (course.yielded s inner outer) a t h = over_unhooked es h.1.is_open
+standing_unhooked es outs (course.handing s rest) a t h = over_unhooked es h.1
+standing_unhooked es outs (course.left s [] cause) a t h = over_unhooked es h.2.0
+standing_unhooked es outs (course.left s (inner ∷ outer) cause) a t h = left_unhooked es cause h.2.1
+standing_unhooked es outs (course.handed_off s) a t h = over_unhooked es h.0
+standing_unhooked es outs (course.stopped s) a t h = h.2
 
 pub standing_hands : (es : List Event) (outs : List Out) (p : Standing) → ScriptsAgree es outs p → HandsWhatCame es outs
 standing_hands es outs course.ready h = inl h.1
@@ -111,6 +108,11 @@ standing_hands es outs (course.stopped s) h = inl h.1
 -- the reasons of the records of opens, at each step and at each move
 pub record OpensGive : Type 0 where
   pub answers : (ins : List In) (outs : List Out) (es : List Event) (m : Progress) → Story ins outs es m.standing → KeptAt m.standing → AnswersAt es m.standing
+  -- where a hooked drive is booted, and what each step and each move leaves of the drives' sessions
+  pub may_boot : (ins : List In) (outs : List Out) (es : List Event) (m : Progress) → Story ins outs es m.standing → KeptAt m.standing → MayBoot es m.standing
+  pub step_sessions : (ins : List In) (outs : List Out) (es : List Event) (m : Progress) (r : In) (added : List Out) (m2 : Progress) (begins : StepBegins m r added m2) (t : Story ins outs es m.standing) → KeptAt m.standing →
+      SessionsStand ((es ++ step_event es m r added m2 begins t.base ∷ []) ++ told (step_more m r added m2 begins)) m2.standing
+  pub move_sessions : (ins : List In) (outs : List Out) (es : List Event) (m : Progress) (added : List Out) (m2 : Progress) → Proceeds m added m2 → Story ins outs es m.standing → KeptAt m.standing → SessionsStand (es ++ told added) m2.standing
   pub at_step : (ins : List In) (outs : List Out) (es : List Event) (m : Progress) (r : In) (added : List Out) (m2 : Progress) (begins : StepBegins m r added m2) (t : Story ins outs es m.standing) → KeptAt m.standing →
       AdvancesSo es (step_event es m r added m2 begins t.base) × OpensEndSo es (step_event es m r added m2 begins t.base) × FramesSo es (step_event es m r added m2 begins t.base)
       × TriesSo es (step_event es m r added m2 begins t.base) [] × OpenReasons (es ++ step_event es m r added m2 begins t.base ∷ []) (step_more m r added m2 begins)
@@ -126,7 +128,7 @@ unfolding last_place calls openings gathered sessions
 advanced_at_start = λ k. refl
 
 story_first : Story [] [] [] course.ready
-story_first = record { used = refl; written = refl; base = refl; scripts = (refl, tt); device = tt; ways = tt; read = tt; commands = tt; steps = tt; ends = tt; frames = tt; tries = tt; advances = tt; advanced = advanced_at_start }
+story_first = record { used = refl; written = refl; base = refl; sessions = tt; plain = tt; scripts = (refl, tt); device = tt; ways = tt; read = tt; commands = tt; steps = tt; ends = tt; frames = tt; tries = tt; advances = tt; advanced = advanced_at_start }
 
 -- A STEP
 
@@ -158,7 +160,8 @@ step_story give ins outs es m r added m2 begins t kept counted is =
     let e = step_event es m r added m2 begins t.base in
     let more = step_more m r added m2 begins in
     let b = step_base es m r added m2 begins t.base in
-    let g = step_scripts es outs m r added m2 begins t.base (give.answers ins outs es m t kept) t.scripts in
+    let answers = give.answers ins outs es m t kept in
+    let g = step_scripts es outs m r added m2 begins t.base answers t.sessions t.scripts in
     let x = give.at_step ins outs es m r added m2 begins t kept in
     let scripts : ScriptsAgree ((es ++ e ∷ []) ++ told more) (outs ++ added) m2.standing = subst (λ z. ScriptsAgree ((es ++ e ∷ []) ++ told more) (outs ++ z) m2.standing) (sym is) g.agrees in
     let d = step_device es outs (outs ++ added) m r added m2 begins t.base t.device t.scripts scripts in
@@ -166,12 +169,14 @@ step_story give ins outs es m r added m2 begins t kept counted is =
       used = uses_none (ins ++ r ∷ []) (es ++ e ∷ []) more (uses_one ins es e r t.used b.0);
       written = writes_one outs es e added more t.written b.1;
       base = b.2;
+      sessions = give.step_sessions ins outs es m r added m2 begins t kept;
+      plain = step_plain es outs m r added m2 begins t.base answers t.scripts t.plain;
       scripts = scripts;
       device = d.device;
       ways = step_ways es m r added m2 begins t.base t.ways;
       read = each_one IsRead es e more t.read d.read (told_read (es ++ e ∷ []) more g.stands);
       commands = each_one CommandsSo es e more t.commands (used_stands es e (step_used es m r added m2 begins t.base)) g.stands;
-      steps = each_one StepsSo es e more t.steps (step_stands es outs m r added m2 begins t.base (counted ∙ ap length t.used) (standing_unanswered es m.standing t.base kept) (standing_unhooked es outs m.standing t.base t.scripts) t.scripts) (told_steps (es ++ e ∷ []) more);
+      steps = each_one StepsSo es e more t.steps (step_stands es outs m r added m2 begins t.base (counted ∙ ap length t.used) (standing_unanswered es m.standing t.base kept) (standing_unhooked es outs m.standing t.base t.sessions t.scripts) t.scripts) (told_steps (es ++ e ∷ []) more);
       ends = each_one OpensEndSo es e more t.ends x.1 x.4.ends;
       frames = each_one FramesSo es e more t.frames x.2 x.4.frames;
       tries = each_then_append TriesSo [] (es ++ e ∷ []) (told more) tries_later (each_then_append TriesSo [] es (e ∷ []) tries_later t.tries (x.3, tt)) x.4.tries;
@@ -206,13 +211,15 @@ may_hook es outs (course.stopped s) h = tt
 move_story : OpensGive → (ins : List In) (outs : List Out) (es : List Event) (m : Progress) (added : List Out) (m2 : Progress) → Proceeds m added m2 → Story ins outs es m.standing → KeptAt m.standing → Story ins (outs ++ added) (es ++ told added) m2.standing
 move_story give ins outs es m added m2 moves t kept =
     let base = move_told es m added m2 moves t.base (may_hook es outs m.standing t.scripts) in
-    let g = move_scripts es outs m added m2 moves t.base base t.scripts in
+    let g = move_scripts es outs m added m2 moves (record { tells = t.sessions; plain = t.plain; boots = give.may_boot ins outs es m t kept }) t.base base t.scripts in
     let x = give.at_move ins outs es m added m2 moves t kept in
     let device = move_device es outs m added m2 moves t.device t.scripts g.agrees in
     record {
       used = uses_none ins es added t.used;
       written = writes_more outs es added t.written;
       base = base;
+      sessions = give.move_sessions ins outs es m added m2 moves t kept;
+      plain = move_plain es outs m added m2 moves t.base t.scripts t.plain;
       scripts = g.agrees;
       device = device;
       ways = move_ways es m added m2 moves t.ways base device;
@@ -252,7 +259,7 @@ lawful_course give ins outs p c =
         advances = t.advances;
         advanced = t.advanced;
         unfinished = standing_unanswered es p.standing t.base (course_kept ins outs p c);
-        unhooked = standing_unhooked es outs p.standing t.base t.scripts;
+        unhooked = standing_unhooked es outs p.standing t.base t.sessions t.scripts;
         rested = standing_rests es outs p.standing t.base t.scripts;
         parts = subst (λ z. HandsWhatCame es z) t.written (standing_hands es outs p.standing t.scripts);
       },
@@ -265,9 +272,9 @@ pub lawful_history : OpensGive → (ins : List In) (outs : List Out) (p : Progre
 lawful_history give ins outs p es c h = let t = lawful_course give ins outs p c in subst KeepsLaws (one_history ins outs t.0 es t.1 h) t.2
 
 -- where all was handed off, it is what commands have brought
-pub handed_off_all : OpensGive → (ins : List In) (outs : List Out) (n : ℕ) (s : State) (es : List Event) → Course ins outs (course.stands n (course.handed_off s)) → IsHistory ins outs es → HandsOver es outs []
+pub handed_off_all : OpensGive → (ins : List In) (outs : List Out) (n : ℕ) (s : State) (es : List Event) → Course ins outs (course.stands n (course.handed_off s)) → IsHistory ins outs es → HandsEither es outs []
 handed_off_all give ins outs n s es c h =
-    let t = lawful_course give ins outs (course.stands n (course.handed_off s)) c in subst (λ z. HandsOver z outs []) (one_history ins outs t.0 es t.1 h) t.4.1
+    let t = lawful_course give ins outs (course.stands n (course.handed_off s)) c in subst (λ z. HandsEither z outs []) (one_history ins outs t.0 es t.1 h) t.4.1
 
 -- THE STATE BY THE LISTS
 

@@ -8,7 +8,7 @@ use Rattle.nb_command.specs.declared.error.ApplyError.{ApplyError}
 use Rattle.nb_imagecmd.specs.declared.error.PlanError.{PlanError}
 use Rattle.nb_command.specs.Device.{device_change}
 use Rattle.nb_command.specs.Planning.{planned}
-use Rattle.nb_machine.specs.Effects.{Effect, says, asks, goes, sleeps, shuts_device, inquires, on_images, on_drives, hooks_disk, unhooks_drive, concludes_at_once, unless_full, device_effect, ShownWords, shown_as, effect, effect_in, Surroundings, settled_effect, words_effect, words_table, expansion, expanded_effect, expanded_table, plan_effect, plan_table, planned_effect, planned_table, table_after}
+use Rattle.nb_machine.specs.Effects.{Effect, says, asks, goes, sleeps, shuts_device, inquires, on_images, on_drives, hooks_disk, unhooks_drive, boots_drive, concludes_at_once, unless_full, device_effect, ShownWords, shown_as, effect, effect_in, Surroundings, settled_effect, words_effect, words_table, expansion, expanded_effect, expanded_table, plan_effect, plan_table, planned_effect, planned_table, table_after}
 use Rattle.nb_machine.specs.Queries.{for_lease}
 use Rattle.nb_machine.specs.Running.{Running}
 use Rattle.nb_machine.specs.Scripts.{surroundings}
@@ -29,6 +29,7 @@ IsUpOn (on_images c) = Unit {0}
 IsUpOn (on_drives c) = Unit {0}
 IsUpOn (hooks_disk hooking) = Unit {0}
 IsUpOn (unhooks_drive number cause) = Unit {0}
+IsUpOn (boots_drive number) = Unit {0}
 IsUpOn (concludes_at_once c) = Unit {0}
 
 device_up_on : (e : Effect) → IsUpOn e → (r : Result Bool ApplyError) → IsUpOn (device_effect e r)
@@ -122,9 +123,10 @@ written_keeps k table ws e = expanded_keeps k table (expansion table ws) e
 
 settled_shuts : (x : Surroundings) (e : Effect) → settled_effect x e ≡ shuts_device → e ≡ shuts_device
 settled_shuts x (on_images c) is = absurd (subst IsUpOn is (images_either IsUpOn (λ o. tt) (λ y. tt) (λ wanted. tt) (λ q. tt) x c))
-settled_shuts x (on_drives c) is = absurd (subst IsUpOn is (drives_either IsUpOn (λ o. tt) (λ hooking. tt) (λ number cause. tt) x c))
+settled_shuts x (on_drives c) is = absurd (subst IsUpOn is (drives_either IsUpOn (λ o. tt) (λ hooking. tt) (λ number cause. tt) (λ number. tt) x c))
 settled_shuts x (hooks_disk hooking) is = is
 settled_shuts x (unhooks_drive number cause) is = is
+settled_shuts x (boots_drive number) is = is
 settled_shuts x (says o) is = is
 settled_shuts x (asks wanted) is = is
 settled_shuts x (goes name) is = is

@@ -15,18 +15,18 @@ use Rattle.nb_laws.specs.Moves.{moves}
 use Rattle.nb_image.specs.Images.{ImageList}
 use Rattle.nb_settings.specs.Tables.{TableLists}
 use Rattle.nb_laws.specs.Lists.{made, opens_by, Opening, opening_at, openings, is_end_of, open_has_ended, live, came_ok}
-use Rattle.nb_laws.specs.Hookings.{is_on_open, OnlyDrivesLive}
+use Rattle.nb_laws.specs.Hookings.{is_on_open, OnlyDrivesLive, boots_hooking, boots_hooked, HasRead}
 use Rattle.nb_laws.proofs.Afterwards.{asks_by_words}
 use Rattle.nb_laws.proofs.SoFar.{so_far_more}
 use Rattle.nb_laws.proofs.Stays.{IsAsking}
 use Rattle.nb_laws.proofs.Tellings.{made_more, openings_more, over_more, no_more, live_same}
 use Rattle.nb_laws.specs.CommandOpens.{CommandOpen, command_open_by, command_open, over_of}
 use Rattle.nb_laws.specs.Openings.{OpensFor, opens_for_file, opens_for_query, opens_onward, opens_moved, opens_for_disk, opens_disk_onward}
-use Rattle.nb_laws.specs.Frames.{HoldsResult, by_words, by_jump, by_no_label, by_shut, by_sleep, by_failed_end, by_found, by_images, by_file, by_move, by_full_next, by_echo_of_host, by_unhook, by_no_hooking, by_full_hooking, by_hooking}
+use Rattle.nb_laws.specs.Frames.{HoldsResult, by_words, by_jump, by_no_label, by_shut, by_sleep, by_failed_end, by_found, by_images, by_file, by_move, by_full_next, by_echo_of_host, by_unhook, by_no_hooking, by_full_hooking, by_hooking, by_booting, by_lost_drive}
 use Rattle.nb_lawful.specs.Results.{HasEndedOpens}
 use Rattle.nb_lawful.proofs.Quiet.{command_open_more}
 use Rattle.nb_lawful.proofs.Awaited.{its, last_view, snoc_both}
-use Rattle.nb_lawful.proofs.HookWords.{Hooks, HookedOn, serves}
+use Rattle.nb_lawful.proofs.HookWords.{Hooks, HookedOn, serves, keeps_by, reads_by}
 
 -- WHAT HOLDS AFTER ANY EVENTS
 
@@ -140,7 +140,7 @@ settled_well (Some o) e = by o.over e
     by None e = let no : false ≡ true = e in cc no
     by (Some cause) e = tt
 
--- the command's open has ended, or its disk has answered on it
+-- the command's open has ended, or its disk has answered on it, as the command wants it
 pub over_by : (es : List Event) (cause : Cause) → HoldsResult es cause → IsSettled (command_open es) ⊎ Hooks es cause
 over_by es cause (by_words o none comes is) = inl (settled_none es none)
 over_by es cause (by_jump name line none comes there is) = inl (settled_none es none)
@@ -157,7 +157,10 @@ over_by es cause (by_echo_of_host name by well comes kind is) = inl (settled_wel
 over_by es cause (by_unhook number why none comes is) = inl (settled_none es none)
 over_by es cause (by_no_hooking hooking none comes err) = inl (settled_none es none)
 over_by es cause (by_full_hooking disk well kind full is) = inl (settled_well (command_open es) well)
-over_by es cause (by_hooking disk has answer is) = inr (record { disk = disk; has_open = has; answer = answer; is = is })
+over_by es cause (by_hooking disk has answer is) = inr (keeps_by es cause disk has answer is)
+over_by es cause (by_booting k bytes (boots_hooking disk has own) read is) = inr (reads_by es cause disk bytes has (subst (λ j. HasRead j es bytes) own read) is)
+over_by es cause (by_booting k bytes (boots_hooked drive none names own) read is) = inl (settled_none es none)
+over_by es cause (by_lost_drive drive none names ended) = inl (settled_none es none)
 
 pub settled_opens : (x : Option CommandOpen) → HasEndedOpens x → IsSettled x
 settled_opens None h = tt

@@ -8,17 +8,18 @@ use Rattle.nb_machine.specs.Scripts.{Waiting}
 use Rattle.nb_machine.specs.Courses as course
 use Rattle.nb_machine.specs.Courses.{Progress, StepBegins, Proceeds, Course}
 use Rattle.nb_laws.specs.Events.{Event, starts, hears, waits, stops, puts, inputs, written_by}
-use Rattle.nb_laws.specs.Progress.{NoneIsAnswered, IsStep, IsResumed, by_live, by_count, by_sleep, StepsSo}
+use Rattle.nb_laws.specs.Progress.{NoneIsAnswered, IsStep, IsResumed, by_live, by_count, by_sleep, StepsSo, by_reading}
 use Rattle.nb_laws.proofs.SoFar.{nothing_so_far}
 use Rattle.nb_laws.proofs.Settling.{over_rests}
 use Rattle.nb_laws.specs.CommandsSoFar.{CommandsSoFar, so_far}
-use Rattle.nb_laws.specs.Hookings.{NoneIsHooked}
+use Rattle.nb_laws.specs.Hookings.{NoneIsHooked, boots_hooked}
 use Rattle.nb_openlaws.specs.Standings.{AgreesLive, AreLive, live_opening, AgreesState, AgreesStanding}
 use Rattle.nb_openlaws.proofs.UsedEvents.{IsUsed, IsFurther, live_one}
 use Rattle.nb_openlaws.proofs.Networks.{network_agrees}
 use Rattle.nb_openlaws.proofs.Courses.{step_event}
-use Rattle.nb_lawful.specs.ScriptAgreement.{IsAwaited, AwaitsSo, awaits_time, awaits_file, awaits_query, ScriptsAgree, awaits_host, awaits_drive}
+use Rattle.nb_lawful.specs.ScriptAgreement.{IsAwaited, AwaitsSo, awaits_time, awaits_file, awaits_query, ScriptsAgree, awaits_host, awaits_drive, awaits_disk, awaits_block, awaits_hooked}
 use Rattle.nb_lawful.proofs.Resting.{waiting_rests, sleeping_comes}
+use Rattle.nb_lawful.proofs.Plain.{amid_all}
 
 -- THE COUNT
 
@@ -42,6 +43,7 @@ move_counts m added m2 (course.closes_device n s s2 inner outer c cs put over co
 move_counts m added m2 (course.goes_to_hook n s s2 inner outer c cs hooking put next comes few is drops asks) = refl
 move_counts m added m2 (course.hooks_none n s s2 inner outer c cs hooking put cause comes few is drops asks) = refl
 move_counts m added m2 (course.unhooks n s s2 inner outer c cs number put cause comes few is drops) = refl
+move_counts m added m2 (course.boots_hooked n s inner outer c cs number d put p comes few is got reads) = refl
 move_counts m added m2 (course.leaves n s s2 inner outer c cs x comes few is away) = refl
 move_counts m added m2 (course.jumps n s inner outer c cs name line comes few is there) = refl
 move_counts m added m2 (course.finds_no_label n s inner outer c cs name comes few is none) = refl
@@ -79,7 +81,12 @@ waiting_resumes es outs s w a h = by h.4
     by (awaits_file l wanted at number job f) = awaited_lives es s w l a h.1.is_open at
     by (awaits_query l query at number job q) = awaited_lives es s w l a h.1.is_open at
     by (awaits_host l hooking at number job q gone) = awaited_lives es s w l a h.1.is_open at
-    by (awaits_drive l hooking at number job q gone) = awaited_lives es s w l a h.1.is_open at
+    by (awaits_drive l hooking at number job keeps q early gone) = awaited_lives es s w l a h.1.is_open at
+    by (awaits_disk l hooking keep at number job boots_it q was unasked early gone) = awaited_lives es s w l a h.1.is_open at
+    by (awaits_block l hooking keep at number job boots_it q known unread gone) = awaited_lives es s w l a h.1.is_open at
+    by (awaits_hooked l d b number job unread) =
+        let k = amid_all (AgreesLive es) b.lives.earlier b.lives.later l (subst (AreLive es) b.lives.parted a.each) in
+        by_reading l.number (live_opening l) (live_one l.number es (live_opening l) k.opening k.lives) h.1.is_open (boots_hooked d b.none b.names b.own)
 
 -- an event of this number that is used after START's
 further_step : (es : List Event) (e : Event) (n : ℕ) → IsUsed e → IsFurther e → written_by e ≡ step n → IsStep es n → IsResumed es → StepsSo es e

@@ -27,11 +27,14 @@ use Rattle.nb_openlaws.specs.Standings.{AgreesState}
 use Rattle.nb_openlaws.proofs.OpenStates.{still_state}
 use Rattle.nb_lawful.specs.Results.{HasEndedOpens}
 use Rattle.nb_lawful.specs.ScriptAgreement.{SettingsAre, HasImages, ScriptsAgree}
-use Rattle.nb_lawful.proofs.Begun.{HasBegun, has_begun_comes, begun_silently, begun_printing, begins_so, settings_begun, opened_none}
+use Rattle.nb_lawful.proofs.Begun.{HasBegun, has_begun_comes, begun_silently, begun_printing, begins_so, settings_begun, opened_none, asks_nothing}
+use Rattle.nb_openlaws.proofs.SessionSteps.{still_sessions}
+use Rattle.nb_lawful.proofs.NoBlocks.{words_boot_none, no_block_first}
 use Rattle.nb_lawful.proofs.AtOnce.{Goes, goes_two, images_as}
 use Rattle.nb_lawful.proofs.Fits.{comes_fit}
 use Rattle.nb_lawful.proofs.Leading.{concluded_so, Concluding, result_goes, with_list, conclusion_goes}
 use Rattle.nb_lawful.proofs.HookedLives.{LivesSo, drives_still}
+use Rattle.nb_openlaws.specs.Sessions.{SessionsAgree}
 
 -- a command that has begun, and concludes by its words
 pub record ConcludesThere (es : List Event) (outs : List Out) (s : State) (inner : Running) (outer : List Running) (ws : List (List ℕ)) (c : Conclusion) : Type 0 where
@@ -41,6 +44,7 @@ pub record ConcludesThere (es : List Event) (outs : List Out) (s : State) (inner
   script : AgreesScript es (entered inner) outer
   settings : SettingsAre (so_far es) s true
   images : HasImages es outs s
+  settled : SessionsAgree es s.live
 
 concluding_there : (es : List Event) (outs : List Out) (s : State) (inner : Running) (outer : List Running) (ws : List (List ℕ)) (c : Conclusion) → ConcludesThere es outs s inner outer ws c → Concluding es outs s (entered inner) outer c
 concluding_there es outs s inner outer ws c k =
@@ -60,6 +64,8 @@ concluding_there es outs s inner outer ws c k =
       fits = comes_fit (made es) (so_far es) shown c words;
       unhooked = λ cause gives. hooks_none es cause shown said (hooks_same 0 (made es) (so_far es) shown ∙ ap hooking_in words);
       no_disk = λ cause gives left some. absurd (opened_none (command_open es) k.begun.none some);
+      no_block = no_block_first es k.begun.none (words_boot_none es (made es) (concludes_at_once c) refl (shown, said, comes));
+      settled = k.settled;
     }
 
 -- what it prints stands before its result
@@ -77,6 +83,7 @@ tells_goes es outs s inner outer ws list all (line ∷ lines) k =
       script = script_told es (o ∷ []) (entered inner) outer (tt, tt) refl k.script;
       settings = subst (λ m. SettingsAre m s true) (sym same) k.settings;
       images = images_as es (es ++ puts o ∷ []) outs (o ∷ []) s s (ap (λ (m : CommandsSoFar). m.images) same) refl (drives_still (so_far es) (so_far (es ++ puts o ∷ [])) s s (ap (λ (m : CommandsSoFar). m.hooked) same) refl refl refl k.images.drives) (tt, tt) k.images;
+      settled = still_sessions es (o ∷ []) s.live (tt, tt) ((λ j. refl), tt) k.settled;
     }))
 
 leads_there : (es : List Event) (outs : List Out) (s : State) (inner : Running) (outer : List Running) (ws : List (List ℕ)) (c : Conclusion) (put : List Out) (p : Standing) → ConcludesThere es outs s inner outer ws c → ConclusionLeads s (entered inner) outer c put p →
@@ -92,9 +99,10 @@ leads_there es outs s inner outer ws (runs_script list image replaces) put p k l
     conclusion_goes es outs s (entered inner) outer (runs_script list image replaces) put p (λ l x e. absurd (cc e)) (concluding_there es outs s inner outer ws (runs_script list image replaces) k) leads
 
 -- COMMAND has begun
-pub began_there : (es : List Event) (outs : List Out) (s : State) (inner : Running) (outer : List Running) (ws : List (List ℕ)) (c : Conclusion) → AgreesState es s → made es ≡ s.opens → LivesSo es s → doing s inner ws ≡ concludes_now c → ScriptsAgree es outs (course.running s inner outer) →
+pub began_there : (es : List Event) (outs : List Out) (s : State) (inner : Running) (outer : List Running) (ws : List (List ℕ)) (c : Conclusion) → AgreesState es s → SessionsAgree es s.live → made es ≡ s.opens → LivesSo es s →
+    doing s inner ws ≡ concludes_now c → ScriptsAgree es outs (course.running s inner outer) →
     ConcludesThere (es ++ puts (command_record inner (shown_words s.table ws)) ∷ []) (outs ++ command_record inner (shown_words s.table ws) ∷ []) s inner outer ws c
-began_there es outs s inner outer ws c base opens lives is a =
+began_there es outs s inner outer ws c base settled opens lives is a =
     let command = command_record inner (shown_words s.table ws) in
     let began = begins_so_far es inner (shown_words s.table ws) in
     let comes = concludes_by s inner ws c is in
@@ -105,17 +113,20 @@ began_there es outs s inner outer ws c base opens lives is a =
       script = script_begins es (command ∷ []) inner (entered inner) outer (tt, tt) refl refl refl refl a.0;
       settings = settings_begun es s s ws began refl (up_stays s inner (concludes_at_once c) ws comes) refl a.1;
       images = images_as es (es ++ puts command ∷ []) outs (command ∷ []) s s (ap (λ (m : CommandsSoFar). m.images) began) refl (drives_still (so_far es) (so_far (es ++ puts command ∷ [])) s s (ap (λ (m : CommandsSoFar). m.hooked) began) refl refl refl a.2.drives) (tt, tt) a.2;
+      settled = still_sessions es (command ∷ []) s.live (tt, tt) (asks_nothing es s inner ws (concludes_at_once c) (begun_silently es outs s inner outer ws opens lives a) comes refl, tt) settled;
     }
 
 -- a command that concludes at once
-pub there_goes : (es : List Event) (outs : List Out) (s : State) (inner : Running) (outer : List Running) (ws : List (List ℕ)) (c : Conclusion) (put : List Out) (p : Standing) → AgreesState es s → made es ≡ s.opens → LivesSo es s → inner.begun < 4096 → doing s inner ws ≡ concludes_now c →
+pub there_goes : (es : List Event) (outs : List Out) (s : State) (inner : Running) (outer : List Running) (ws : List (List ℕ)) (c : Conclusion) (put : List Out) (p : Standing) → AgreesState es s → SessionsAgree es s.live →
+    made es ≡ s.opens → LivesSo es s → inner.begun < 4096 → doing s inner ws ≡ concludes_now c →
     ConclusionLeads s (entered inner) outer c put p → ScriptsAgree es outs (course.running s inner outer) → Goes es outs (command_record inner (shown_words s.table ws) ∷ conclusion_records c ++ put) p
-there_goes es outs s inner outer ws c put p base opens lives few is leads a =
+there_goes es outs s inner outer ws c put p base settled opens lives few is leads a =
     let command = command_record inner (shown_words s.table ws) in
     goes_two es outs (command ∷ []) (conclusion_records c ++ put) p (begins_so es s inner ws a.1 (may_begin es inner outer a.0 few), tt)
-    (leads_there (es ++ puts command ∷ []) (outs ++ command ∷ []) s inner outer ws c put p (began_there es outs s inner outer ws c base opens lives is a) leads)
+    (leads_there (es ++ puts command ∷ []) (outs ++ command ∷ []) s inner outer ws c put p (began_there es outs s inner outer ws c base settled opens lives is a) leads)
 
 -- what it boots, by the history
-pub there_boots : (es : List Event) (outs : List Out) (s : State) (inner : Running) (outer : List Running) (ws : List (List ℕ)) (c : Conclusion) → AgreesState es s → made es ≡ s.opens → LivesSo es s → doing s inner ws ≡ concludes_now c → ScriptsAgree es outs (course.running s inner outer) →
+pub there_boots : (es : List Event) (outs : List Out) (s : State) (inner : Running) (outer : List Running) (ws : List (List ℕ)) (c : Conclusion) → AgreesState es s → SessionsAgree es s.live → made es ≡ s.opens → LivesSo es s →
+    doing s inner ws ≡ concludes_now c → ScriptsAgree es outs (course.running s inner outer) →
     Concluding (es ++ puts (command_record inner (shown_words s.table ws)) ∷ []) (outs ++ command_record inner (shown_words s.table ws) ∷ []) s (entered inner) outer c
-there_boots es outs s inner outer ws c base opens lives is a = concluding_there _ _ s inner outer ws c (began_there es outs s inner outer ws c base opens lives is a)
+there_boots es outs s inner outer ws c base settled opens lives is a = concluding_there _ _ s inner outer ws c (began_there es outs s inner outer ws c base settled opens lives is a)

@@ -1,5 +1,5 @@
 -- A history that keeps the laws of courses keeps those of nb_laws, as long as no open outlives its command but a drive's.
-use Rattle.std.proofs.Common.{◌≡◌, ◌||◌, inl, inr, ℕ, ◌==◌, Bool, cond, true, false, List, [], ◌∷◌, ◌++◌, Option, Some, None, if◌then◌else◌, refl, sym, ◌∙◌, ap, subst, append_assoc, append-nil}
+use Rattle.std.proofs.Common.{◌≡◌, ◌⊎◌, ◌||◌, inl, inr, ℕ, ◌==◌, Bool, cond, true, false, List, [], ◌∷◌, ◌++◌, Option, Some, None, if◌then◌else◌, refl, sym, ◌∙◌, ap, subst, append_assoc, append-nil}
 use Rattle.nb_terms.specs.declared.cause.Cause.{Cause}
 use Rattle.nb_command.specs.SettingAddresses.{host}
 use Rattle.nb_defs.specs.Causes.{ok}
@@ -16,12 +16,12 @@ use Rattle.nb_machine.specs.Link.{address_in_table}
 use Rattle.nb_machine.specs.Effects.{shuts_device}
 use Rattle.nb_laws.specs.Events.{Event, starts, hears, waits, stops, puts, outputs, EachEvent}
 use Rattle.nb_laws.specs.CommandsSoFar.{CommandsSoFar, so_far, so_far_by, comes_by, ComesTo}
-use Rattle.nb_laws.specs.Endings.{fate_to, Holds, EndsSo, HadWay, IsKind, MayStandBehind, ClosesToBoot, closes_off, closes_down, closes_booted, by_lost_drive, by_drive_down, by_drive_boot}
+use Rattle.nb_laws.specs.Endings.{fate_to, Holds, EndsSo, HadWay, IsKind, MayStandBehind, ClosesToBoot, ClosesToBootDisk, closes_off, closes_down, closes_booted, closes_booted_disk, by_lost_drive, by_drive_down, by_drive_boot, by_disk_boot}
 use Rattle.nb_laws.specs.Hookings.{LivesOn, as_drive, as_hooked}
-use Rattle.nb_lawful.specs.ScriptAgreement.{HandsOver, HandsWhatCame}
+use Rattle.nb_lawful.specs.ScriptAgreement.{HandsOver, HandsEither, HandsWhatCame}
 use Rattle.nb_laws.specs.Frames.{IsPut, by_closing, by_drive_end, HoldsResult, HoldsOf, WritesSo}
 use Rattle.nb_laws.specs.Webs.{opens_connection}
-use Rattle.nb_laws.specs.HandOff.{HandsOff}
+use Rattle.nb_laws.specs.HandOff.{HandsOff, HandsDiskOff}
 use Rattle.nb_laws.specs.Histories.{client}
 use Rattle.nb_laws.specs.Lawful.{HandsAsBrought, IsLawful}
 use Rattle.nb_laws.specs.Lists.{made, Opening, openings, open_has_ended, live}
@@ -33,7 +33,7 @@ use Rattle.nb_laws.proofs.SoFar.{so_far_more}
 use Rattle.nb_laws.proofs.Stays.{IsAsking}
 use Rattle.nb_laws.proofs.Settling.{same_shown}
 use Rattle.nb_laws.proofs.Tellings.{told}
-use Rattle.nb_openlaws.specs.OpenEndings.{EndsBecause, by_itself, by_lost_way, by_device, by_hand_off, IsPutOrCloses, by_reason, by_close, by_drive_close, OpensEndSo, FramesSo}
+use Rattle.nb_openlaws.specs.OpenEndings.{EndsBecause, by_itself, by_lost_way, by_device, by_hand_off, by_disk_off, IsPutOrCloses, by_reason, by_close, by_drive_close, OpensEndSo, FramesSo}
 use Rattle.nb_laws.specs.CommandOpens.{command_open}
 use Rattle.nb_lawful.specs.Lawful.{KeepsLaws}
 use Rattle.nb_lawful.specs.Results.{ResultStands, CommandsSo}
@@ -81,14 +81,21 @@ alone_over es (o ∷ outs) h =
     ap (λ (z : List Event). (so_far z).is_open) (sym (append_assoc es (puts o ∷ []) (told outs))) ∙ alone_over (es ++ puts o ∷ []) outs h.1
     ∙ ap (λ (m : CommandsSoFar). m.is_open) (so_far_more es (puts o) ∙ one_alone es (so_far es) o h.0)
 
--- so is one that lives where a command has booted
-booted_hooked : (es : List Event) (k : ℕ) (o : Opening) → Solitude es → live k es ≡ o ∷ [] → ClosesToBoot es → HookedOn k (so_far es).hooked
-booted_hooked es k o a lives b =
-    let at : es ≡ (b.before ++ puts (result ok) ∷ []) ++ told b.since = b.ends ∙ sym (append_assoc b.before (puts (result ok) ∷ []) (told b.since)) in
+-- so is one that lives after a RESULT
+over_hooked : (es : List Event) (k : ℕ) (o : Opening) (before : List Event) (since : List Out) → Solitude es → live k es ≡ o ∷ [] → es ≡ before ++ puts (result ok) ∷ told since → AllByRecursion MayStandBehind since → HookedOn k (so_far es).hooked
+over_hooked es k o before since a lives ends behind =
+    let at : es ≡ (before ++ puts (result ok) ∷ []) ++ told since = ends ∙ sym (append_assoc before (puts (result ok) ∷ []) (told since)) in
     let off : (so_far es).is_open ≡ false =
-    ap (λ (z : List Event). (so_far z).is_open) at ∙ alone_over (b.before ++ puts (result ok) ∷ []) b.since b.behind ∙ ap (λ (m : CommandsSoFar). m.is_open) (so_far_more b.before (puts (result ok)))
-    ∙ result_over (so_far b.before).left b.before (so_far b.before) in
+    ap (λ (z : List Event). (so_far z).is_open) at ∙ alone_over (before ++ puts (result ok) ∷ []) since behind ∙ ap (λ (m : CommandsSoFar). m.is_open) (so_far_more before (puts (result ok)))
+    ∙ result_over (so_far before).left before (so_far before) in
     a.idle off k o lives
+
+-- where a command has booted what was brought, or a disk
+booted_hooked : (es : List Event) (k : ℕ) (o : Opening) → Solitude es → live k es ≡ o ∷ [] → ClosesToBoot es → HookedOn k (so_far es).hooked
+booted_hooked es k o a lives b = over_hooked es k o b.before b.since a lives b.ends b.behind
+
+disk_hooked : (es : List Event) (k : ℕ) (o : Opening) → Solitude es → live k es ≡ o ∷ [] → ClosesToBootDisk es → HookedOn k (so_far es).hooked
+disk_hooked es k o a lives b = over_hooked es k o b.before b.since a lives b.ends b.behind
 
 -- whether there is a way hangs on the device's state and its address alone
 on_its_way : (f : Fate) → is_on_its_way f ≡ false → f ≡ fate.NoRoute
@@ -148,6 +155,7 @@ holds_by es k cause x a lives (by_lost_way o opening is lost way) =
     by_lost_drive o (record { opening = opening; kind_is = hooked_kind es a k o opening (lost_hooked es k o x a lives lost way) }) is lost way
 holds_by es k cause x a lives (by_device is still comes) = by_drive_down x (drive_kind es k x a lives (shut_hooked es k x a lives still comes)) is still comes
 holds_by es k cause x a lives (by_hand_off is booted) = by_drive_boot x (drive_kind es k x a lives (booted_hooked es k x a lives booted)) is booted
+holds_by es k cause x a lives (by_disk_off is booted) = by_disk_boot x (drive_kind es k x a lives (disk_hooked es k x a lives booted)) is booted
 
 ends_so : (es : List Event) (e : Event) → Solitude es → OpensEndSo es e → EndsSo es e
 ends_so es (puts (ended k cause)) a (because, o, lives, well) = (holds_by es k cause o a lives because, o, lives, well)
@@ -179,6 +187,7 @@ frames_so es bytes a (by_reason is) = is
 frames_so es bytes a (by_close k sends kind closes (closes_off off)) = by_closing k sends kind closes off
 frames_so es bytes a (by_close k sends kind closes (closes_down still comes)) = absurd (not_web es k sends.opening a sends.lives kind (shut_hooked es k sends.opening a sends.lives still comes))
 frames_so es bytes a (by_close k sends kind closes (closes_booted booted)) = absurd (not_web es k sends.opening a sends.lives kind (booted_hooked es k sends.opening a sends.lives booted))
+frames_so es bytes a (by_close k sends kind closes (closes_booted_disk booted)) = absurd (not_web es k sends.opening a sends.lives kind (disk_hooked es k sends.opening a sends.lives booted))
 frames_so es bytes a (by_drive_close k sends kind closes why) = by_drive_end k sends kind closes why
 
 -- where a RESULT stands, what lives is a drive's, or the disk that the command hooks
@@ -201,7 +210,7 @@ lives_on es cause a r k o lives = by (so_far es).left refl
 writes_so : (es : List Event) (e : Event) → Solitude es → CommandsSo es e → FramesSo es e → WritesSo es e
 writes_so es (puts (sent bytes)) a c f = frames_so es bytes a f
 writes_so es (puts (command depth line place expanded words)) a c f = c
-writes_so es (puts (result cause)) a c f = record { is_open = c.is_open; beside = lives_on es cause a c; holds = c.holds; hooks = λ none has disk answer. (c.hooks none has disk answer).0 }
+writes_so es (puts (result cause)) a c f = record { is_open = c.is_open; beside = lives_on es cause a c; holds = c.holds; hooks = λ none has disk answer. (c.hooks none has disk answer).0; reads = c.reads }
 writes_so es (puts (opened number kind server port own target)) a c f =
     record {
       next = c.next;
@@ -228,6 +237,10 @@ writes_so es (stops n) a c f = tt
 
 pub handed_as_brought : (es : List Event) (outs rest : List Out) → HandsOver es outs rest → HandsOff es outs rest
 handed_as_brought es outs rest hands = record { booted = hands.booted; place = hands.place; list_is = hands.list_is; before = hands.before; none = hands.none; ends = hands.ends }
+
+pub handed_so : (es : List Event) (outs rest : List Out) → HandsEither es outs rest → HandsOff es outs rest ⊎ HandsDiskOff es outs rest
+handed_so es outs rest (inl hands) = inl (handed_as_brought es outs rest hands)
+handed_so es outs rest (inr hands) = inr hands
 
 -- EACH EVENT
 
@@ -256,4 +269,5 @@ todays_laws es k =
   where
     parts_so : (outs : List Out) → HandsWhatCame es outs → HandsAsBrought es outs
     parts_so outs (inl none) = inl none
-    parts_so outs (inr (rest, hands)) = inr (rest, handed_as_brought es outs rest hands)
+    parts_so outs (inr (rest, inl hands)) = inr (inl (rest, handed_as_brought es outs rest hands))
+    parts_so outs (inr (rest, inr hands)) = inr (inr (rest, hands))

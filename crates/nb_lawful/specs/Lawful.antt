@@ -10,7 +10,7 @@ use Rattle.nb_lawful.specs.Results.{CommandsSo}
 
 pub record KeepsLaws (es : List Event) : Type 0 where
   -- each STEP has its record's place among those used, and when a record is used what no live open asks for has come, as a whole
-  -- file, no disk has answered that a command hooks, and no sleep is over;
+  -- file, no disk has answered that a command hooks, no block of a disk has come that a command boots, and no sleep is over;
   -- START is used first, and each other record while an open of a command lives or a command sleeps, or where the step before had 4,096 COMMANDs
   pub steps : EachEvent StepsSo [] es
   -- each ENDED has its cause in the records so far, and is Ok exactly where what the open asks for has come: its file is whole, or was
@@ -30,9 +30,10 @@ pub record KeepsLaws (es : List Event) : Type 0 where
   pub advanced : IsAdvanced es
   -- and what no live open asks for has come: it ended in that step
   pub unfinished : NoneIsAnswered es
-  -- nor has a disk answered that a command hooks: that had its result in that step
+  -- nor has a disk answered that a command hooks, nor has the block of one come that it boots: that had its result in that step
   pub unhooked : NoneIsHooked es
   -- nor is a sleep over: its command ended in that step
   pub rested : NoneOversleeps es
-  -- all PARTs are the hand-off's, of the images that the commands have left in the list, the selected one first
+  -- all PARTs are the hand-off's, of the images that the commands have left in the list, the selected one first, or of the first
+  -- block of a disk, as it was read
   pub parts : HandsWhatCame es (outputs es)

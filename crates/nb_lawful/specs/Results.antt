@@ -1,5 +1,5 @@
 -- Why a command has its result, and each COMMAND, RESULT and OPEN its place.
-use Rattle.std.specs.Prelude.{◌≡◌, ℕ, List, Option, Some, None, IsSome, true, false}
+use Rattle.std.specs.Prelude.{◌≡◌, ℕ, ◌-◌, List, Option, Some, None, IsSome, true, false}
 use Rattle.std.specs.List.{list_any}
 use Rattle.nb_drivecmd.specs.HookedDrives.{is_drive}
 use Rattle.nb_terms.specs.declared.cause.Cause.{Cause}
@@ -10,7 +10,7 @@ use Rattle.nb_laws.specs.Lists.{made}
 use Rattle.nb_laws.specs.CommandsSoFar.{so_far}
 use Rattle.nb_laws.specs.Frames.{HoldsOf, BeginsCommand, ScriptStands}
 use Rattle.nb_laws.specs.CommandOpens.{CommandOpen, command_open}
-use Rattle.nb_laws.specs.Hookings.{hooked_drives, HooksDisk, HasDriveAnswer}
+use Rattle.nb_laws.specs.Hookings.{hooked_drives, HasDriveAnswer, KeepsDisk, BootsDisk, BootsBy, HasRead}
 use Rattle.nb_laws.specs.Openings.{OpensFor}
 
 -- a command has made no open, or its last one has ended
@@ -23,12 +23,14 @@ pub record ScriptComes (es : List Event) (what depth : ℕ) (cause : Cause) : Ty
   pub stands : ScriptStands es what depth cause
   pub ended : what ≡ 0 → HasEndedOpens (command_open es)
 
--- A RESULT is that of a command that has none yet; opens of earlier commands may live. Where the disk that it hooks has answered, it is Ok, and no drive
--- of its number is hooked any more.
+-- A RESULT is that of a command that has none yet; opens of earlier commands may live. Where the disk that it hooks has answered, which it keeps, or
+-- it has read the first block of the disk that it boots, it is Ok, and no drive of the number of a disk that it hooks is hooked any more.
 pub record ResultStands (es : List Event) (cause : Cause) : Type 0 where
   pub is_open : (so_far es).is_open ≡ true
   pub holds : HoldsOf (so_far es).left es cause
-  pub hooks : (so_far es).left ≡ None → IsSome (command_open es) → (h : HooksDisk es) → HasDriveAnswer es → (cause ≡ ok) × (list_any (is_drive h.hooking.number) (hooked_drives es) ≡ false)
+  pub hooks : (so_far es).left ≡ None → IsSome (command_open es) → (h : KeepsDisk es) → HasDriveAnswer es → (cause ≡ ok) × (list_any (is_drive h.hooking.number) (hooked_drives es) ≡ false)
+  pub reads : (so_far es).left ≡ None → (k : ℕ) (bytes : List ℕ) → BootsBy k es → HasRead k es bytes → cause ≡ ok
+  pub frees : (so_far es).left ≡ None → IsSome (command_open es) → (h : BootsDisk es) (bytes : List ℕ) → HasRead (made es - 1) es bytes → list_any (is_drive h.hooking.number) (hooked_drives es) ≡ false
 
 -- An OPEN has the next number, stands while the command that began last has no result, and is for what the words of that command ask:
 -- the command makes its first open, or the one before it has ended. Opens of earlier commands may live.

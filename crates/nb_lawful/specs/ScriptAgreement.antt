@@ -1,6 +1,6 @@
 -- What the scripts of a course agree with in the history of its records: the settings, the device, the command that runs or waits, and
 -- the images.
-use Rattle.std.specs.Prelude.{◌≡◌, ◌⊎◌, ℕ, ◌+◌, ◌-◌, ◌*◌, ◌<◌, ◌==◌, Bool, true, false, List, [], ◌∷◌, ◌++◌, Some, None, length, Ok}
+use Rattle.std.specs.Prelude.{◌≡◌, ◌⊎◌, ℕ, ◌+◌, ◌-◌, ◌*◌, ◌<◌, ◌==◌, Bool, true, false, List, [], ◌∷◌, ◌++◌, Some, None, IsSome, length, Ok}
 use Rattle.std.specs.List.{AllByRecursion, list_any}
 use Rattle.nb_defs.specs.Parts.{HaveNoParts}
 use Rattle.nb_defs.specs.Records.{Out, result}
@@ -14,30 +14,32 @@ use Rattle.nb_machine.specs.Effects.{ShownWords, sleeps, inquires, onward_effect
 use Rattle.nb_machine.specs.Errands.{Wanted, Errand, Onward, onward, hooks_then, fetches_now, echoes_now, hooks_now, looks_up_now}
 use Rattle.nb_machine.specs.Queries.{Query, for_lease, for_echo, for_host, for_address}
 use Rattle.nb_machine.specs.Findings.{first_word, query_id}
-use Rattle.nb_machine.specs.Lives.{OpenKind, tftp, http, dns, dhcp, ping, Live, iscsi}
+use Rattle.nb_machine.specs.Lives.{OpenKind, tftp, http, dns, dhcp, ping, Live, iscsi, OpenInput, message, tcp_segment, time, task, close, Exchange}
 use Rattle.nb_machine.specs.States.{State, still_hooked}
-use Rattle.nb_machine.specs.Scripts.{fetch, sleep, job_for, answer, moment, Waiting, asks_on, hooks, drive}
+use Rattle.nb_machine.specs.Scripts.{fetch, sleep, job_for, answer, moment, Waiting, asks_on, hooks, boots, drive, disk, block, hooked_drive}
 use Rattle.nb_machine.specs.Courses as course
 use Rattle.nb_machine.specs.Courses.{Standing}
 use Rattle.nb_laws.specs.Events.{Event, puts}
 use Rattle.nb_laws.specs.Lists.{Hardware, hardware, made, commands_begun}
 use Rattle.nb_laws.specs.Cores.{asker_by}
-use Rattle.nb_laws.specs.CommandsSoFar.{CommandsSoFar, so_far, comes_by, comes_after, ComesTo}
+use Rattle.nb_laws.specs.CommandsSoFar.{CommandsSoFar, so_far, comes_by, comes_after, ComesTo, booted_drive}
 use Rattle.nb_laws.specs.Moves.{MovedOpen, moves}
 use Rattle.nb_machine.specs.Conclusions.{handoff_records}
-use Rattle.nb_machine.specs.Kinds.{answered}
+use Rattle.nb_machine.specs.Kinds.{answered, read_last}
 use Rattle.nb_laws.specs.Endings.{ClosesToBoot}
 use Rattle.nb_laws.specs.Wanting.{wanted_by}
 use Rattle.nb_laws.specs.Progress.{NoneOversleeps}
+use Rattle.nb_laws.specs.Drives.{SessionOpening, sessions}
 use Rattle.nb_laws.specs.Silence.{AreSilent}
 use Rattle.nb_laws.specs.Agreement.{AreScripts, AgreesScript, AsksQuery}
 use Rattle.nb_openlaws.specs.Standings.{live_opening}
 use Rattle.nb_laws.specs.CommandOpens.{command_open}
 use Rattle.nb_laws.specs.Openings.{FindsHost, HasMoved, LooksUpTarget}
-use Rattle.nb_laws.specs.HandOff.{boot_table_so_far}
+use Rattle.nb_laws.specs.HandOff.{boot_table_so_far, HandsDiskOff}
 use Rattle.nb_laws.specs.Hookings.{hooked_drives, NoneIsHooked}
 use Rattle.nb_login.specs.declared.info.LoginInfo.{LoginInfo}
 use Rattle.nb_drivecmd.specs.declared.drive.Drive.{Drive}
+use Rattle.nb_drivecmd.specs.declared.outcome.AfterHook.TheVariants.{Keep, Boot}
 use Rattle.nb_drivecmd.specs.declared.outcome.Hooking.{Hooking}
 use Rattle.nb_drivecmd.specs.HookedDrives.{is_drive}
 
@@ -91,8 +93,18 @@ pub record HooksBy (m : CommandsSoFar) (moved : List MovedOpen) (l : Live) (hook
   pub said : m.shown ≡ Some shown
   pub names : comes_after l.number m shown moved ≡ hooks_disk hooking
   pub is_drive : (isn : ℕ) × (i : LoginInfo) × (l.kind ≡ iscsi isn i)
-  -- it hasn't answered
-  pub early : answered l ≡ None
+
+-- no task is asked by this
+abbrev pub IsNoTask : OpenInput → Type 0
+IsNoTask (message rec port body now) = Unit {0}
+IsNoTask (tcp_segment rec g now) = Unit {0}
+IsNoTask (time now) = Unit {0}
+IsNoTask (task t now) = ⊥
+IsNoTask (close cause) = Unit {0}
+
+-- nor was any
+abbrev pub AreUnasked : List Exchange → Type 0
+AreUnasked xs = AllByRecursion (λ x. IsNoTask x.came) xs
 
 -- the command that began last, whose file was moved so, asks for this file by this open, of the server that its words or the last place name
 pub record FetchesWith (h : Hardware) (m : CommandsSoFar) (moved : List MovedOpen) (l : Live) (wanted : Wanted) : Type 0 where
@@ -162,6 +174,32 @@ pub record IsAwaited (es : List Event) (s : State) (w : Waiting) (l : Live) : Ty
   pub number : s.opens ≡ l.number + 1
   pub its : command_open es ≡ Some (record { number = l.number; over = None })
 
+-- open k was made as a drive's, of which the command boots its disk then, or doesn't
+pub record WasSession (boots_it : Bool) (k : ℕ) (es : List Event) : Type 0 where
+  pub before : List Event
+  pub since : List Event
+  pub all : es ≡ before ++ since
+  pub session : SessionOpening
+  pub is : sessions k before ≡ session ∷ []
+  pub so : session.boots ≡ boots_it
+
+-- an open amid those that live
+pub record IsAmid (s : State) (l : Live) : Type 0 where
+  pub earlier : List Live
+  pub later : List Live
+  pub parted : s.live ≡ earlier ++ l ∷ later
+  pub before : AllByRecursion (IsAnother l.number) earlier
+  pub behind : AllByRecursion (IsAnother l.number) later
+
+-- this open is that of the hooked drive that the command that began last boots: the command has made none, and it lives
+pub record BootsHooked (es : List Event) (s : State) (l : Live) (d : Drive) : Type 0 where
+  pub lives : IsAmid s l
+  pub own : d.open_number ≡ l.number
+  pub none : command_open es ≡ None
+  pub names : booted_drive (so_far es) ≡ Some d
+  pub is_drive : (isn : ℕ) × (i : LoginInfo) × (l.kind ≡ iscsi isn i)
+  pub kept : WasSession false l.number es
+
 -- What the command that began last waits for. While it hooks a disk, no drive of that disk's number is hooked.
 pub data AwaitsSo (es : List Event) (s : State) (w : Waiting) : Type 0 where
   awaits_time : (until : ℕ) → w.awaited ≡ moment until → w.job ≡ sleep → command_open es ≡ None → SleepsUntil (so_far es) s until → AwaitsSo es s w
@@ -169,7 +207,17 @@ pub data AwaitsSo (es : List Event) (s : State) (w : Waiting) : Type 0 where
   awaits_query : (l : Live) (query : Query) → IsAwaited es s w l → w.awaited ≡ answer l.number → w.job ≡ job_for query → AsksIn (hardware es) (so_far es) (moves es) l query → AwaitsSo es s w
   awaits_host : (l : Live) (hooking : Hooking) → IsAwaited es s w l → w.awaited ≡ answer l.number → w.job ≡ asks_on (hooks_then hooking) → LooksUpDisk (hardware es) (so_far es) (moves es) l hooking →
       HasFreeNumber hooking s.drives → AwaitsSo es s w
-  awaits_drive : (l : Live) (hooking : Hooking) → IsAwaited es s w l → w.awaited ≡ drive l.number → w.job ≡ hooks hooking → HooksBy (so_far es) (moves es) l hooking → HasFreeNumber hooking s.drives → AwaitsSo es s w
+  -- a disk that is kept hasn't answered
+  awaits_drive : (l : Live) (hooking : Hooking) → IsAwaited es s w l → w.awaited ≡ drive l.number → w.job ≡ hooks hooking → hooking.after ≡ Keep → HooksBy (so_far es) (moves es) l hooking → answered l ≡ None →
+      HasFreeNumber hooking s.drives → AwaitsSo es s w
+  -- nor one that is booted, of which nothing was asked
+  awaits_disk : (l : Live) (hooking : Hooking) (keep : Bool) → IsAwaited es s w l → w.awaited ≡ disk l.number → w.job ≡ hooks hooking → hooking.after ≡ Boot keep → HooksBy (so_far es) (moves es) l hooking → WasSession true l.number es →
+      AreUnasked l.exchanges → answered l ≡ None → HasFreeNumber hooking s.drives → AwaitsSo es s w
+  -- its block hasn't come
+  awaits_block : (l : Live) (hooking : Hooking) (keep : Bool) → IsAwaited es s w l → w.awaited ≡ block l.number → w.job ≡ boots (Some (hooked_drive hooking l)) → hooking.after ≡ Boot keep → HooksBy (so_far es) (moves es) l hooking →
+      IsSome (answered l) → read_last l ≡ None → HasFreeNumber hooking s.drives → AwaitsSo es s w
+  -- nor has that of a hooked drive
+  awaits_hooked : (l : Live) (d : Drive) → BootsHooked es s l d → w.awaited ≡ block l.number → w.job ≡ boots None → read_last l ≡ None → AwaitsSo es s w
 
 -- an open, if it is that of this drive, is a session
 abbrev pub IsDriveOf : Drive → Live → Type 0
@@ -216,9 +264,13 @@ pub record HandsOver (es : List Event) (outs rest : List Out) : Type 0 where
   pub none : HaveNoParts before
   pub ends : outs ++ rest ≡ before ++ handoff_records booted.kernel booted.list.images (boot_table_so_far (booted.before ++ puts (result ok) ∷ []))
 
+-- or it ends with that of the first block of a disk, as the command that boots it has read it
+abbrev pub HandsEither : List Event → (outs rest : List Out) → Type 0
+HandsEither es outs rest = HandsOver es outs rest ⊎ HandsDiskOff es outs rest
+
 -- no PART stands, or the output hands over what was brought
 abbrev pub HandsWhatCame : List Event → List Out → Type 0
-HandsWhatCame es outs = HaveNoParts outs ⊎ ((rest : List Out) × HandsOver es outs rest)
+HandsWhatCame es outs = HaveNoParts outs ⊎ ((rest : List Out) × HandsEither es outs rest)
 
 -- what the history says of the scripts, where a course stands
 abbrev pub ScriptsAgree : List Event → List Out → Standing → Type 0
@@ -227,7 +279,7 @@ ScriptsAgree es outs (course.running s inner outer) = AgreesScript es inner oute
 ScriptsAgree es outs (course.waiting s w) = AgreesScript es w.script w.outer × SettingsAre (so_far es) s true × HasImages es outs s × NoneLeft es × AwaitsSo es s w
 ScriptsAgree es outs (course.reaching s inner outer next) = AgreesScript es inner outer × SettingsAre (so_far es) s true × HasImages es outs s × NoneLeft es × IsToReach es next
 ScriptsAgree es outs (course.yielded s inner outer) = AgreesScript es inner outer × SettingsAre (so_far es) s false × HasImages es outs s × NoneLeft es × (inner.begun ≡ 4096)
-ScriptsAgree es outs (course.handing s rest) = AreSilent rest × ((so_far es).is_open ≡ false) × HandsOver es outs rest
+ScriptsAgree es outs (course.handing s rest) = AreSilent rest × ((so_far es).is_open ≡ false) × HandsEither es outs rest
 ScriptsAgree es outs (course.left s outer cause) = AreScripts (so_far es) outer × AreCounted es outer × HasLeft (so_far es) outer cause × SettingsAre (so_far es) s (so_far es).is_open × HasImages es outs s
-ScriptsAgree es outs (course.handed_off s) = ((so_far es).is_open ≡ false) × HandsOver es outs []
+ScriptsAgree es outs (course.handed_off s) = ((so_far es).is_open ≡ false) × HandsEither es outs []
 ScriptsAgree es outs (course.stopped s) = NoneOversleeps es × HaveNoParts outs × NoneIsHooked es

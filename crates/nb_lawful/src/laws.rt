@@ -1,9 +1,9 @@
 //! Laws from courses to the history of their records, each a function that does nothing.
 
-ghost use Rattle.std.specs.Prelude.{◌≡◌, ℕ, List, []};
+ghost use Rattle.std.specs.Prelude.{◌≡◌, ◌⊎◌, ℕ, List, []};
 ghost use Rattle.nb_defs.specs.Records.{In, Out};
 ghost use Rattle.nb_laws.specs.Events.{Event};
-ghost use Rattle.nb_laws.specs.HandOff.{HandsOff};
+ghost use Rattle.nb_laws.specs.HandOff.{HandsDiskOff, HandsOff};
 ghost use Rattle.nb_laws.specs.Histories.{IsHistory};
 ghost use Rattle.nb_laws.specs.Lawful.{IsLawful};
 ghost use Rattle.nb_machine.specs.Courses.{waiting, handed_off, Progress, stands, Course};
@@ -17,7 +17,7 @@ ghost use Rattle.nb_lawful.specs.StateByLists.{IsStateBy};
 
 /// The records of a course have one history. It keeps the laws, however many opens live at once: `KeepsLaws`
 /// says what holds of each of its events. The opens and the scripts agree with it where the course stands; and
-/// where all was handed off, that is what commands have brought.
+/// where all was handed off, that is what commands have brought, or the first block of a disk.
 pub fn courses_are_lawful()
     ensures has_one { (ins : List In) (outs : List Out) (p : Progress) → Course ins outs p
         → (es : List Event) × IsHistory ins outs es
@@ -27,7 +27,8 @@ pub fn courses_are_lawful()
     ensures agrees { (ins : List In) (outs : List Out) (p : Progress) (es : List Event) → Course ins outs p
         → IsHistory ins outs es → AgreesStanding es p.standing × ScriptsAgree es outs p.standing }
     ensures hands_off { (ins : List In) (outs : List Out) (n : ℕ) (s : State) (es : List Event)
-        → Course ins outs (stands n (handed_off s)) → IsHistory ins outs es → HandsOff es outs [] }
+        → Course ins outs (stands n (handed_off s)) → IsHistory ins outs es
+        → HandsOff es outs [] ⊎ HandsDiskOff es outs [] }
 {}
 
 /// The records of a course are those of a list of events. It says, of where the course stands, the time, how many opens

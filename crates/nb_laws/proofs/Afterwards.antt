@@ -4,7 +4,7 @@ use Rattle.nb_imagecmd.specs.declared.asking.Asking.{Asking}
 use Rattle.nb_imagecmd.specs.declared.error.ImageFailure.{ImageFailure}
 use Rattle.nb_imagecmd.specs.Asking.{target_host}
 use Rattle.nb_settings.specs.Tables.{TableLists}
-use Rattle.nb_machine.specs.Effects.{Effect, says, asks, goes, sleeps, shuts_device, inquires, on_images, on_drives, hooks_disk, unhooks_drive, concludes_at_once, next_effect, next_moved, ShownWords}
+use Rattle.nb_machine.specs.Effects.{Effect, says, asks, goes, sleeps, shuts_device, inquires, on_images, on_drives, hooks_disk, unhooks_drive, boots_drive, concludes_at_once, next_effect, next_moved, ShownWords}
 use Rattle.nb_machine.specs.Errands.{Errand, fetches_then, hooks_then}
 use Rattle.nb_machine.specs.Queries.{Query, for_host}
 use Rattle.nb_machine.proofs.Eithers.{host_either}
@@ -47,6 +47,7 @@ asking_leaves (on_images c) is = absurd is
 asking_leaves (on_drives c) is = absurd is
 asking_leaves (hooks_disk hooking) is = tt
 asking_leaves (unhooks_drive number cause) is = absurd is
+asking_leaves (boots_drive number) is = absurd is
 asking_leaves (concludes_at_once c) is = absurd is
 
 -- the settings, where its words ask for a file
@@ -89,6 +90,7 @@ asking_concludes (on_images c) is = absurd is
 asking_concludes (on_drives c) is = absurd is
 asking_concludes (hooks_disk hooking) is = refl
 asking_concludes (unhooks_drive number cause) is = absurd is
+asking_concludes (boots_drive number) is = absurd is
 asking_concludes (concludes_at_once c) is = absurd is
 
 pub asked_none : (k : ℕ) (m : CommandsSoFar) (shown : ShownWords) (asking : Asking) → asking_in (comes_by 0 m shown) ≡ Some asking → concluded_in (comes_by k m shown) ≡ None
@@ -136,6 +138,7 @@ IsNext (on_images c) = ⊥
 IsNext (on_drives c) = ⊥
 IsNext (hooks_disk hooking) = ⊥
 IsNext (unhooks_drive number cause) = ⊥
+IsNext (boots_drive number) = ⊥
 IsNext (concludes_at_once c) = ⊥
 
 pub moved_next : (k : ℕ) (table : TableLists) (r : Result Asking ImageFailure) → IsNext (next_effect (next_moved k table r))
@@ -164,6 +167,7 @@ asking_hooks (on_images c) asking is = refl
 asking_hooks (on_drives c) asking is = refl
 asking_hooks (hooks_disk hooking) asking is = absurd (none-some asking is)
 asking_hooks (unhooks_drive number cause) asking is = refl
+asking_hooks (boots_drive number) asking is = refl
 asking_hooks (concludes_at_once c) asking is = refl
 
 pub after_unhooked : (k : ℕ) (m : CommandsSoFar) (shown : ShownWords) (ms : List MovedOpen) (e : Effect) → hooking_in e ≡ None → comes_after k m shown ms ≡ e → hooking_in (comes_by 0 m shown) ≡ None

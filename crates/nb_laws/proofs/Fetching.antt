@@ -42,7 +42,7 @@ use Rattle.nb_imagecmd.specs.Executing.{ImageAnswer, selected_with, executed_kin
 use Rattle.nb_imagecmd.specs.Freeing.{are_all_listed, kept_list}
 use Rattle.nb_wire.specs.declared.address.Ip4.{Ip4}
 use Rattle.nb_machine.specs.Conclusions.{Conclusion, keeps, tells, boots_selected, runs_script}
-use Rattle.nb_machine.specs.Effects.{Effect, says, asks, goes, sleeps, shuts_device, inquires, on_images, on_drives, hooks_disk, unhooks_drive, concludes_at_once, full_opens, next_effect, next_open, next_look_up, next_by_name, at_host, planned_effect, words_effect, ShownWords, effect, expansion, expanded_effect, Surroundings, asked_effect, taken_effect, image_outcome_effect, image_answer_effect, images_effect, drives_effect, settled_effect}
+use Rattle.nb_machine.specs.Effects.{Effect, says, asks, goes, sleeps, shuts_device, inquires, on_images, on_drives, hooks_disk, unhooks_drive, boots_drive, concludes_at_once, full_opens, next_effect, next_open, next_look_up, next_by_name, at_host, planned_effect, words_effect, ShownWords, effect, expansion, expanded_effect, Surroundings, asked_effect, taken_effect, image_outcome_effect, image_answer_effect, images_effect, drives_effect, settled_effect}
 use Rattle.nb_machine.specs.Errands.{Wanted, fetches_then, echoes_then, hooks_then, Onward, onward}
 use Rattle.nb_machine.specs.Queries.{for_lease, for_echo, for_host, for_address, bad_name, no_server, dns_in, with_domain}
 use Rattle.nb_machine.proofs.Eithers.{host_either}
@@ -218,6 +218,7 @@ wanted_asks (on_images c) o wanted is = absurd (none-some wanted is)
 wanted_asks (on_drives c) o wanted is = absurd (none-some wanted is)
 wanted_asks (hooks_disk hooking) o wanted is = absurd (none-some wanted is)
 wanted_asks (unhooks_drive number cause) o wanted is = absurd (none-some wanted is)
+wanted_asks (boots_drive number) o wanted is = absurd (none-some wanted is)
 wanted_asks (concludes_at_once c) o wanted is = absurd (none-some wanted is)
 
 -- of a host no other file is asked for
@@ -305,7 +306,7 @@ images_serve x c o wanted = images_walk (λ e. wanted_by e o ≡ Some wanted →
 
 -- a drive command asks for no file
 pub drives_ask : (x : Surroundings) (c : DriveCommand) (asking : Asking) → asking_in (drives_effect x c) ≡ Some asking → ⊥
-drives_ask x c asking = drives_either (λ e. asking_in e ≡ Some asking → ⊥) (λ o is. none-some asking is) (λ hooking is. none-some asking is) (λ number cause is. none-some asking is) x c
+drives_ask x c asking = drives_either (λ e. asking_in e ≡ Some asking → ⊥) (λ o is. none-some asking is) (λ hooking is. none-some asking is) (λ number cause is. none-some asking is) (λ number is. none-some asking is) x c
 
 -- no other command asks for a file
 pub plain_asks : (e : Effect) → IsPlain e → asking_in e ≡ None
@@ -324,6 +325,7 @@ plain_asks (on_images c) is = refl
 plain_asks (on_drives c) is = refl
 plain_asks (hooks_disk hooking) is = refl
 plain_asks (unhooks_drive number cause) is = refl
+plain_asks (boots_drive number) is = refl
 plain_asks (concludes_at_once c) is = absurd is
 
 -- the words of a command on images, which asks first for a file

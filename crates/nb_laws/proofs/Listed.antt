@@ -91,7 +91,7 @@ images_conclude P steady x c h = by (image_effect c (base_by x.base x.table) x.i
 
 -- a drive command leaves the images
 drives_conclude : (P : Image → Type 0) (k : ℕ) (m : CommandsSoFar) (c : DriveCommand) → AreAll P m.images → AreAll P (images_after (concluded_in (drives_effect (surroundings_in k m) c)) m.images)
-drives_conclude P k m c h = drives_either (λ e. AreAll P (images_after (concluded_in e) m.images)) (λ o. h) (λ hooking. h) (λ number cause. h) (surroundings_in k m) c
+drives_conclude P k m c h = drives_either (λ e. AreAll P (images_after (concluded_in e) m.images)) (λ o. h) (λ hooking. h) (λ number cause. h) (λ number. h) (surroundings_in k m) c
 
 -- and of a command's words
 pub comes_concludes : (P : Image → Type 0) → IsSteady P → (k : ℕ) (m : CommandsSoFar) (shown : ShownWords) → AreAll P m.images → AreAll P (images_after (concluded_in (comes_by k m shown)) m.images)

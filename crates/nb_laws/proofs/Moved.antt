@@ -19,7 +19,7 @@ use Rattle.nb_imagecmd.specs.declared.error.ImageFailure.{ImageFailure}
 use Rattle.nb_imagecmd.specs.declared.error.ImageFailure.TheVariants.{NoScheme, LongPath, ManyMoves}
 use Rattle.nb_imagecmd.specs.Asking.{target_host, target_uri, is_file, has_long_path}
 use Rattle.nb_imagecmd.specs.Moving.{place_by, with_place, place_of_move, moved_file}
-use Rattle.nb_machine.specs.Effects.{Effect, says, asks, goes, sleeps, shuts_device, inquires, on_images, on_drives, hooks_disk, unhooks_drive, concludes_at_once, full_opens, next_effect, next_by_name, next_look_up, next_moved, at_host, ShownWords}
+use Rattle.nb_machine.specs.Effects.{Effect, says, asks, goes, sleeps, shuts_device, inquires, on_images, on_drives, hooks_disk, unhooks_drive, boots_drive, concludes_at_once, full_opens, next_effect, next_by_name, next_look_up, next_moved, at_host, ShownWords}
 use Rattle.nb_machine.specs.Errands.{Wanted, fetches_then, Onward, onward}
 use Rattle.nb_machine.specs.Queries.{dns_in, with_domain}
 use Rattle.nb_laws.specs.CommandsSoFar.{CommandsSoFar, surroundings_in, comes_by, asking_in, asking_moved, asking_after, effect_moved, comes_after}
@@ -88,6 +88,7 @@ asking_asks (on_images c) asking is = absurd (none-some asking is)
 asking_asks (on_drives c) asking is = absurd (none-some asking is)
 asking_asks (hooks_disk hooking) asking is = absurd (none-some asking is)
 asking_asks (unhooks_drive number cause) asking is = absurd (none-some asking is)
+asking_asks (boots_drive number) asking is = absurd (none-some asking is)
 asking_asks (concludes_at_once c) asking is = absurd (none-some asking is)
 
 -- by its words, however many opens were made

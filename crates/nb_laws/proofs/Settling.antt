@@ -23,7 +23,7 @@ use Rattle.nb_imagecmd.specs.CarryingOut.{image_effect}
 use Rattle.nb_imagecmd.specs.Executing.{ImageAnswer}
 use Rattle.nb_uri.specs.declared.target.UriTarget.{UriTarget}
 use Rattle.nb_uri.specs.declared.target.UriTarget.TheVariants.{Tftp, Http, Iscsi}
-use Rattle.nb_machine.specs.Effects.{Effect, says, asks, goes, sleeps, shuts_device, inquires, on_images, on_drives, hooks_disk, unhooks_drive, concludes_at_once, unless_full, device_effect, plan_effect, planned_effect, planned_table, planned_up, words_effect, words_table, words_up, expansion, expanded_effect, effect, ShownWords, shown_as, Surroundings, settled_effect, images_effect, drives_effect, asked_effect, image_outcome_effect, image_answer_effect}
+use Rattle.nb_machine.specs.Effects.{Effect, says, asks, goes, sleeps, shuts_device, inquires, on_images, on_drives, hooks_disk, unhooks_drive, boots_drive, concludes_at_once, unless_full, device_effect, plan_effect, planned_effect, planned_table, planned_up, words_effect, words_table, words_up, expansion, expanded_effect, effect, ShownWords, shown_as, Surroundings, settled_effect, images_effect, drives_effect, asked_effect, image_outcome_effect, image_answer_effect}
 use Rattle.nb_machine.specs.Errands.{Errand, fetches_then, echoes_then, hooks_then}
 use Rattle.nb_machine.specs.Queries.{Query, for_lease, for_echo, for_host, for_address}
 use Rattle.nb_machine.proofs.Eithers.{either_of, full_either, pinged_case, pinged_either, looked_up_case, looked_up_either, asked_case, images_case, images_either}
@@ -58,6 +58,7 @@ IsPlain (on_images c) = ⊥
 IsPlain (on_drives c) = ⊥
 IsPlain (hooks_disk hooking) = ⊥
 IsPlain (unhooks_drive number cause) = ⊥
+IsPlain (boots_drive number) = ⊥
 IsPlain (concludes_at_once c) = ⊥
 
 pub plain_settles : (x : Surroundings) (e : Effect) → IsPlain e → settled_effect x e ≡ e
@@ -71,6 +72,7 @@ plain_settles x (on_images c) is = absurd is
 plain_settles x (on_drives c) is = absurd is
 plain_settles x (hooks_disk hooking) is = absurd is
 plain_settles x (unhooks_drive number cause) is = absurd is
+plain_settles x (boots_drive number) is = absurd is
 plain_settles x (concludes_at_once c) is = absurd is
 
 device_plain : (e : Effect) → IsPlain e → (r : Result Bool ApplyError) → IsPlain (device_effect e r)
@@ -180,6 +182,7 @@ IsAwake (on_images c) = Unit {0}
 IsAwake (on_drives c) = Unit {0}
 IsAwake (hooks_disk hooking) = Unit {0}
 IsAwake (unhooks_drive number cause) = Unit {0}
+IsAwake (boots_drive number) = Unit {0}
 IsAwake (concludes_at_once c) = Unit {0}
 
 device_awake : (e : Effect) → IsAwake e → (r : Result Bool ApplyError) → IsAwake (device_effect e r)
@@ -271,7 +274,7 @@ comes_stays k j m shown few = by (words_are m.table shown.expanded shown.words)
         let here = plain_comes k m shown (plain k) in
         plain_comes j m shown (plain j) ∙ shown_stays k j m.table shown few (subst IsAsking here is) ∙ sym here
 
--- IT HOOKS A DISK OR LETS A DRIVE GO, WHATEVER OPENS WERE MADE
+-- IT HOOKS A DISK, OR LETS A DRIVE GO OR BOOTS IT, WHATEVER OPENS WERE MADE
 
 -- no other command does
 abbrev IsNoDrive : Effect → Type 0
@@ -285,6 +288,7 @@ IsNoDrive (on_images c) = Unit {0}
 IsNoDrive (on_drives c) = Unit {0}
 IsNoDrive (hooks_disk hooking) = ⊥
 IsNoDrive (unhooks_drive number cause) = ⊥
+IsNoDrive (boots_drive number) = ⊥
 IsNoDrive (concludes_at_once c) = Unit {0}
 
 plain_no_drive : (e : Effect) → IsPlain e → IsNoDrive e
@@ -298,6 +302,7 @@ plain_no_drive (on_images c) is = tt
 plain_no_drive (on_drives c) is = tt
 plain_no_drive (hooks_disk hooking) is = absurd is
 plain_no_drive (unhooks_drive number cause) is = absurd is
+plain_no_drive (boots_drive number) is = absurd is
 plain_no_drive (concludes_at_once c) is = tt
 
 pub comes_hooking : (k j : ℕ) (m : CommandsSoFar) (shown : ShownWords) (e : Effect) → (IsNoDrive e → ⊥) → comes_by k m shown ≡ e → comes_by j m shown ≡ e
@@ -319,6 +324,7 @@ plain_hooks (on_images c) is = refl
 plain_hooks (on_drives c) is = refl
 plain_hooks (hooks_disk hooking) is = absurd is
 plain_hooks (unhooks_drive number cause) is = refl
+plain_hooks (boots_drive number) is = refl
 plain_hooks (concludes_at_once c) is = refl
 
 abbrev HooksNone : Effect → Type 0
@@ -350,6 +356,7 @@ plain_concludes (on_images c) is = refl
 plain_concludes (on_drives c) is = refl
 plain_concludes (hooks_disk hooking) is = refl
 plain_concludes (unhooks_drive number cause) is = refl
+plain_concludes (boots_drive number) is = refl
 plain_concludes (concludes_at_once c) is = absurd is
 
 abbrev ConcludesNone : Effect → Type 0
@@ -401,6 +408,7 @@ LeavesTable (on_images c) = ⊥
 LeavesTable (on_drives c) = ⊥
 LeavesTable (hooks_disk hooking) = Unit {0}
 LeavesTable (unhooks_drive number cause) = Unit {0}
+LeavesTable (boots_drive number) = Unit {0}
 
 pub comes_keeps : (k : ℕ) (m : CommandsSoFar) (shown : ShownWords) (e : Effect) → comes_by k m shown ≡ e → LeavesTable e → shown_table m.table (Some shown) ≡ m.table
 comes_keeps k m shown e is leaves = by (words_are m.table shown.expanded shown.words)
@@ -416,6 +424,7 @@ comes_keeps k m shown e is leaves = by (words_are m.table shown.expanded shown.w
     by_plain (on_drives c) at plain l = absurd l
     by_plain (hooks_disk hooking) at plain l = absurd plain
     by_plain (unhooks_drive number cause) at plain l = absurd plain
+    by_plain (boots_drive number) at plain l = absurd plain
     by_plain (concludes_at_once c) at plain l = absurd plain
 
     by : WordsAre m.table shown.expanded shown.words → shown_table m.table (Some shown) ≡ m.table
@@ -436,6 +445,7 @@ AsksFile (on_images c) = Unit {0}
 AsksFile (on_drives c) = Unit {0}
 AsksFile (hooks_disk hooking) = Unit {0}
 AsksFile (unhooks_drive number cause) = Unit {0}
+AsksFile (boots_drive number) = Unit {0}
 AsksFile (concludes_at_once c) = Unit {0}
 
 images_ask : (x : Surroundings) (c : ImageCommand) → AsksFile (images_effect x c)
@@ -443,7 +453,7 @@ images_ask x c = images_case AsksFile (λ o. tt) (λ y. tt) (λ wanted. tt) (λ 
 
 -- nor anything by one exchange
 drives_query : (x : Surroundings) (c : DriveCommand) (q : Query) → drives_effect x c ≡ inquires q → ⊥
-drives_query x c q = drives_either (λ e. e ≡ inquires q → ⊥) (λ o is. absurd (cc)) (λ hooking is. absurd (cc)) (λ number cause is. absurd (cc)) x c
+drives_query x c q = drives_either (λ e. e ≡ inquires q → ⊥) (λ o is. absurd (cc)) (λ hooking is. absurd (cc)) (λ number cause is. absurd (cc)) (λ number is. absurd (cc)) x c
 
 -- the host of a disk isn't looked up by the words of a command alone
 abbrev pub LooksUpNoDisk : Effect → Type 0

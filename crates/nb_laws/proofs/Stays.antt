@@ -18,7 +18,7 @@ use Rattle.nb_uri.specs.Addresses.{four_decimals}
 use Rattle.nb_terms.specs.declared.cause.Cause.{Cause}
 use Rattle.nb_machine.specs.Errands.{Errand, echoes_then, Onward, onward}
 use Rattle.nb_machine.specs.Queries.{for_lease, bad_name, dns_in, with_domain}
-use Rattle.nb_machine.specs.Effects.{Effect, says, asks, goes, sleeps, shuts_device, inquires, on_images, on_drives, hooks_disk, unhooks_drive, concludes_at_once, full_opens, unless_full, device_effect, next_effect, next_look_up, next_by_name, at_host, asked_name_server, name_effect, unless_refused, looked_up_effect, plan_effect, planned_effect, words_effect, expansion, expanded_effect, effect, ShownWords, shown_as}
+use Rattle.nb_machine.specs.Effects.{Effect, says, asks, goes, sleeps, shuts_device, inquires, on_images, on_drives, hooks_disk, unhooks_drive, boots_drive, concludes_at_once, full_opens, unless_full, device_effect, next_effect, next_look_up, next_by_name, at_host, asked_name_server, name_effect, unless_refused, looked_up_effect, plan_effect, planned_effect, words_effect, expansion, expanded_effect, effect, ShownWords, shown_as}
 use Rattle.nb_laws.specs.CommandsSoFar.{shown_effect}
 
 -- something is asked for by an open
@@ -33,6 +33,7 @@ IsAsking (on_images c) = ⊥
 IsAsking (on_drives c) = ⊥
 IsAsking (hooks_disk hooking) = Unit {0}
 IsAsking (unhooks_drive number cause) = ⊥
+IsAsking (boots_drive number) = ⊥
 IsAsking (concludes_at_once c) = ⊥
 
 -- the second is the first, if something is asked for

@@ -24,6 +24,15 @@ command_open_by last _ = last
 unfoldable pub command_open : List Event → Option CommandOpen
 command_open es = fold command_open_by None es
 
+abbrev pub end_by : ℕ → Option Cause → Event → Option Cause
+end_by k last (puts (ended number cause)) = if number == k then Some cause else last
+end_by k last (puts (step number)) = last
+end_by k last _ = last
+
+-- how open k has ended, if it has
+unfoldable pub end_of : ℕ → List Event → Option Cause
+end_of k es = fold (end_by k) None es
+
 abbrev pub over_of : Option CommandOpen → Option Cause
 over_of last = option_and_then (λ (o : CommandOpen). o.over) last
 

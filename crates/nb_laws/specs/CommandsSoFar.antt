@@ -8,7 +8,7 @@ use Rattle.nb_defs.specs.Records.{step, command, result, script}
 use Rattle.nb_defs.specs.ScriptLines.{Line, script_reading}
 use Rattle.nb_drivecmd.specs.declared.drive.Drive.{Drive}
 use Rattle.nb_drivecmd.specs.declared.outcome.Hooking.{Hooking}
-use Rattle.nb_drivecmd.specs.HookedDrives.{with_hooked}
+use Rattle.nb_drivecmd.specs.HookedDrives.{with_hooked, drive_numbered}
 use Rattle.nb_image.specs.Images.{ImageList}
 use Rattle.nb_tftp.specs.Blocks.{file, is_whole}
 use Rattle.nb_machine.specs.Conclusions.{Conclusion, keeps, tells, fails, boots, runs_script, conclusion}
@@ -23,7 +23,7 @@ use Rattle.nb_laws.specs.Wanting.{wanted_by, is_open_of, is_open_for}
 use Rattle.nb_settings.specs.Tables.{TableLists, root_alone}
 use Rattle.nb_machine.specs.StartTable.{start_table}
 use Rattle.nb_machine.specs.Starting.{is_up, no_images}
-use Rattle.nb_machine.specs.Effects.{Effect, says, asks, goes, sleeps, shuts_device, inquires, on_images, on_drives, hooks_disk, unhooks_drive, concludes_at_once, Surroundings, settled_effect, ShownWords, shown_as, effect, next_effect, next_moved, words_effect, words_table, words_up, changed}
+use Rattle.nb_machine.specs.Effects.{Effect, says, asks, goes, sleeps, shuts_device, inquires, on_images, on_drives, hooks_disk, unhooks_drive, boots_drive, concludes_at_once, Surroundings, settled_effect, ShownWords, shown_as, effect, next_effect, next_moved, words_effect, words_table, words_up, changed}
 use Rattle.nb_machine.specs.Queries.{Query, for_lease, for_echo, for_host, for_address}
 use Rattle.nb_machine.specs.Findings.{lease_change}
 use Rattle.nb_command.specs.Settings.{Change}
@@ -117,6 +117,7 @@ asking_in (on_images c) = None
 asking_in (on_drives c) = None
 asking_in (hooks_disk hooking) = None
 asking_in (unhooks_drive number cause) = None
+asking_in (boots_drive number) = None
 asking_in (concludes_at_once c) = None
 
 -- the same, where the server of this open has moved it, or why its command fails; an open that asked for another file moves it nowhere
@@ -174,6 +175,7 @@ query_in (on_images c) = None
 query_in (on_drives c) = None
 query_in (hooks_disk hooking) = None
 query_in (unhooks_drive number cause) = None
+query_in (boots_drive number) = None
 query_in (concludes_at_once c) = None
 
 -- the settings with what a command has found, unless they refuse it
@@ -230,6 +232,7 @@ concluded_in (on_images c) = None
 concluded_in (on_drives c) = None
 concluded_in (hooks_disk hooking) = None
 concluded_in (unhooks_drive number cause) = None
+concluded_in (boots_drive number) = None
 
 -- what the command that began last comes to as one on images: by its file, where its open has ended so, or else by its words
 abbrev pub conclusion_so_far : Option Cause → List Event → CommandsSoFar → Option Conclusion
@@ -285,10 +288,33 @@ hooking_in (inquires q) = None
 hooking_in (on_images c) = None
 hooking_in (on_drives c) = None
 hooking_in (unhooks_drive number cause) = None
+hooking_in (boots_drive number) = None
 hooking_in (concludes_at_once c) = None
 
 abbrev pub hooking_so_far : CommandsSoFar → Option Hooking
 hooking_so_far m = option_and_then (λ shown. hooking_in (comes_by 0 m shown)) m.shown
+
+-- the number of the hooked drive that the words of a command boot, if they boot one
+abbrev pub booted_in : Effect → Option ℕ
+booted_in (boots_drive number) = Some number
+booted_in (says o) = None
+booted_in (asks wanted) = None
+booted_in (goes name) = None
+booted_in (sleeps seconds) = None
+booted_in shuts_device = None
+booted_in (inquires q) = None
+booted_in (on_images c) = None
+booted_in (on_drives c) = None
+booted_in (hooks_disk hooking) = None
+booted_in (unhooks_drive number cause) = None
+booted_in (concludes_at_once c) = None
+
+abbrev pub booted_so_far : CommandsSoFar → Option ℕ
+booted_so_far m = option_and_then (λ shown. booted_in (comes_by 0 m shown)) m.shown
+
+-- that drive: it was hooked when the command began
+abbrev pub booted_drive : CommandsSoFar → Option Drive
+booted_drive m = option_and_then (λ number. drive_numbered number m.drives) (booted_so_far m)
 
 -- with a drive that is hooked on this open, where the command succeeds
 abbrev pub hooked_after : Option Hooking → Cause → ℕ → List Drive → List Drive

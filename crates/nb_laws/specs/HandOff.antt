@@ -1,5 +1,5 @@
 -- What is handed off: the images that the commands have left in the list, by the history alone.
-use Rattle.std.specs.Prelude.{◌≡◌, ℕ, ◌-◌, true, List, [], ◌∷◌, ◌++◌, map, Some, ◌*◌, length, Option, option_map}
+use Rattle.std.specs.Prelude.{◌≡◌, ℕ, ◌-◌, true, List, [], ◌∷◌, ◌++◌, map, take, Some, ◌*◌, length, Option, option_map}
 use Rattle.std.specs.List.{AllByRecursion, flat_map}
 use Rattle.std.specs.Option.{option_map_or}
 use Rattle.nb_defs.specs.Causes.{ok}
@@ -13,7 +13,7 @@ use Rattle.nb_drivecmd.specs.HookedDrives.{described_drives}
 use Rattle.nb_drivelogin.specs.DriveInfos.{drive_info}
 use Rattle.nb_drivelogin.specs.DriveOpens.{DriveOpen}
 use Rattle.nb_ibft.specs.Tables.{ibft}
-use Rattle.nb_machine.specs.Conclusions.{handoff_records}
+use Rattle.nb_machine.specs.Conclusions.{handoff_records, disk_records}
 use Rattle.nb_machine.specs.Effects.{ShownWords}
 use Rattle.nb_machine.specs.Errands.{Wanted}
 use Rattle.nb_machine.specs.Findings.{first_word}
@@ -31,7 +31,7 @@ use Rattle.nb_laws.specs.Events.{Event, puts, EachEvent}
 use Rattle.nb_laws.specs.Fetching.{FetchesFile}
 use Rattle.nb_laws.specs.Lists.{hardware, Opening, openings, datagrams_of, came_ok, last_end, made}
 use Rattle.nb_laws.specs.Moves.{MovedOpen, moves}
-use Rattle.nb_laws.specs.Endings.{ClosesToBoot}
+use Rattle.nb_laws.specs.Endings.{ClosesToBoot, ClosesToBootDisk}
 use Rattle.nb_laws.specs.Hookings.{hooked_drives}
 use Rattle.nb_laws.specs.Wanting.{wanted_by, is_open_of}
 use Rattle.nb_laws.specs.Webs.{opens_a_file, brought_to, talk_by}
@@ -58,6 +58,13 @@ pub record HandsOff (es : List Event) (outs rest : List Out) : Type 0 where
   pub before : List Out
   pub none : HaveNoParts before
   pub ends : outs ++ rest ≡ before ++ handoff_records booted.kernel booted.list.images (boot_table_so_far (booted.before ++ puts (result ok) ∷ []))
+
+-- The same of a disk's first block, as the command that boots it has read it.
+pub record HandsDiskOff (es : List Event) (outs rest : List Out) : Type 0 where
+  pub booted : ClosesToBootDisk es
+  pub before : List Out
+  pub none : HaveNoParts before
+  pub ends : outs ++ rest ≡ before ++ disk_records booted.block (boot_table_so_far (booted.before ++ puts (result ok) ∷ []))
 
 -- what servers hold: by an address, a port and a target, a path or a whole URI, a file, another place or a refusal; under a disk's name and unit
 -- its bytes
@@ -145,3 +152,16 @@ pub record IsAnsweredBy (store : Store) (es : List Event) (k : ℕ) (s : Session
 -- so has each, where servers are honest
 abbrev pub AnswerTheirs : List Event → Type 0
 AnswerTheirs es = (store : Store) → AreHonest store es → (k : ℕ) → AllByRecursion (λ s. IsAnsweredBy store es k s) (sessions k es)
+
+-- A block is the first one of the disk that the server of a drive's open holds, at its port, under its target: of the drive's session, with what its
+-- OPEN says.
+pub record IsFirstBlock (store : Store) (es : List Event) (k : ℕ) (block : List ℕ) : Type 0 where
+  pub session : SessionOpening
+  pub is : sessions k es ≡ session ∷ []
+  pub bytes : List ℕ
+  pub holds : store session.opening.server session.opening.port session.opening.target ≡ disk bytes
+  pub first : block ≡ take 512 bytes
+
+-- so is the block that is handed off
+abbrev pub HandsTheirBlock : (es : List Event) (outs rest : List Out) → HandsDiskOff es outs rest → Type 0
+HandsTheirBlock es outs rest h = (store : Store) → StayHonest store es → IsFirstBlock store h.booted.before h.booted.number h.booted.block

@@ -1,14 +1,16 @@
 -- The drives that are hooked, by the history alone.
-use Rattle.std.specs.Prelude.{◌≡◌, ℕ, ◌-◌, ◌==◌, Bool, true, List, [], ◌∷◌, filter, Some, None}
+use Rattle.std.specs.Prelude.{◌≡◌, ℕ, ◌-◌, ◌==◌, Bool, true, List, [], ◌∷◌, filter, Some, None, IsSome}
+use Rattle.std.specs.Option.{option_and_then}
 use Rattle.std.specs.List.{list_any}
 use Rattle.nb_drivecmd.specs.declared.drive.Drive.{Drive}
+use Rattle.nb_drivecmd.specs.declared.outcome.AfterHook.TheVariants.{Keep, Boot}
 use Rattle.nb_drivecmd.specs.declared.outcome.Hooking.{Hooking}
 use Rattle.nb_drivecmd.specs.HookedDrives.{is_drive}
 use Rattle.nb_terms.specs.declared.cause.Cause.{Cause}
-use Rattle.nb_machine.specs.Drives.{DriveAnswer}
+use Rattle.nb_machine.specs.Drives.{DriveAnswer, last_read}
 use Rattle.nb_machine.specs.Effects.{hooks_disk, unhooks_drive}
 use Rattle.nb_laws.specs.CommandOpens.{command_open}
-use Rattle.nb_laws.specs.CommandsSoFar.{so_far, ComesTo, still_living}
+use Rattle.nb_laws.specs.CommandsSoFar.{so_far, ComesTo, still_living, booted_drive}
 use Rattle.nb_laws.specs.Drives.{SessionOpening, sessions, answered_so_far}
 use Rattle.nb_laws.specs.Events.{Event}
 use Rattle.nb_laws.specs.Lists.{Opening, live, made}
@@ -36,6 +38,30 @@ pub record HooksDisk (es : List Event) : Type 0 where
   pub hooking : Hooking
   pub names : ComesTo es (made es) (hooks_disk hooking)
 
+-- they hook a disk that is kept as a drive
+pub record KeepsDisk (es : List Event) : Type 0 where
+  pub hooking : Hooking
+  pub names : ComesTo es (made es) (hooks_disk hooking)
+  pub keeps : hooking.after ≡ Keep
+
+-- or one that is booted then
+pub record BootsDisk (es : List Event) : Type 0 where
+  pub hooking : Hooking
+  pub names : ComesTo es (made es) (hooks_disk hooking)
+  pub keep : Bool
+  pub boots : hooking.after ≡ Boot keep
+
+-- open k is that of the disk which the running command boots: it hooks it on the open that it made last, or it was hooked when the command began
+pub data BootsBy (k : ℕ) (es : List Event) : Type 0 where
+  boots_hooking : BootsDisk es → IsSome (command_open es) → k ≡ made es - 1 → BootsBy k es
+  boots_hooked : (drive : Drive) → command_open es ≡ None → booted_drive (so_far es) ≡ Some drive → drive.open_number ≡ k → BootsBy k es
+
+-- the drive of open k has answered the read that it took last, by all its bytes
+pub record HasRead (k : ℕ) (es : List Event) (bytes : List ℕ) : Type 0 where
+  pub session : SessionOpening
+  pub is : sessions k es ≡ session ∷ []
+  pub read : option_and_then last_read (answered_so_far k session es) ≡ Some bytes
+
 -- they let the drive of this number go: it is unhooked, or another disk is hooked in its place
 pub data NamesDrive (es : List Event) (number : ℕ) : Type 0 where
   by_unhook : (cause : Cause) → ComesTo es (made es) (unhooks_drive number cause) → NamesDrive es number
@@ -58,6 +84,8 @@ pub data LivesOn (k : ℕ) (es : List Event) : Type 0 where
   as_drive : serves_drive k es ≡ true → LivesOn k es
   as_hooked : command_open es ≡ Some (record { number = k; over = None }) → HooksDisk es → HasDriveAnswer es → LivesOn k es
 
--- A command that has no result yet hasn't got the answer of the disk that it hooks: with that it has its result.
-abbrev pub NoneIsHooked : List Event → Type 0
-NoneIsHooked es = (so_far es).is_open ≡ true → (so_far es).left ≡ None → command_open es ≡ Some (record { number = made es - 1; over = None }) → HasDriveAnswer es → ⊥
+-- A command that has no result yet hasn't got the answer of the disk that it hooks and keeps, nor the block of one that it boots: with that it has
+-- its result.
+pub record NoneIsHooked (es : List Event) : Type 0 where
+  pub unanswered : (so_far es).is_open ≡ true → (so_far es).left ≡ None → command_open es ≡ Some (record { number = made es - 1; over = None }) → KeepsDisk es → HasDriveAnswer es → ⊥
+  pub unread : (so_far es).is_open ≡ true → (so_far es).left ≡ None → (k : ℕ) (bytes : List ℕ) → BootsBy k es → HasRead k es bytes → ⊥

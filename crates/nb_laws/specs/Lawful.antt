@@ -5,18 +5,19 @@ use Rattle.nb_defs.specs.Records.{Out}
 use Rattle.nb_laws.specs.Events.{Event, outputs, EachEvent, EachThen}
 use Rattle.nb_laws.specs.Endings.{EndsSo}
 use Rattle.nb_laws.specs.Frames.{WritesSo, TriesSo}
-use Rattle.nb_laws.specs.HandOff.{HandsOff}
+use Rattle.nb_laws.specs.HandOff.{HandsOff, HandsDiskOff}
 use Rattle.nb_laws.specs.Hookings.{NoneIsHooked}
 use Rattle.nb_laws.specs.Progress.{StepsSo, AdvancesSo, IsAdvanced, NoneIsAnswered, NoneOversleeps}
 
--- the PARTs are those of the hand-off, or there are none
+-- the PARTs are those of the hand-off, of images or of a disk, or there are none
 abbrev pub HandsAsBrought : List Event → List Out → Type 0
-HandsAsBrought es outs = HaveNoParts outs ⊎ ((rest : List Out) × HandsOff es outs rest)
+HandsAsBrought es outs = HaveNoParts outs ⊎ (((rest : List Out) × HandsOff es outs rest) ⊎ ((rest : List Out) × HandsDiskOff es outs rest))
 
 pub record IsLawful (es : List Event) : Type 0 where
   -- each STEP has its record's place among those used, and when a record is used what no live open asks for has come, as a whole
-  -- file, no disk has answered that a command hooks, and no sleep is over;
-  -- START is used first, and each other record while an open of a command lives or a command sleeps, or where the step before had 4,096 COMMANDs
+  -- file, no disk has answered that a command hooks or boots, and no sleep is over;
+  -- START is used first, and each other record while an open of a command or of the drive that it boots lives or a command sleeps, or where the
+  -- step before had 4,096 COMMANDs
   pub steps : EachEvent StepsSo [] es
   -- each ENDED has its cause in the records so far, and is Ok exactly where what the open asks for has come: its file is whole, or was
   -- moved, an address or a lease was given, or the host has replied
@@ -33,9 +34,10 @@ pub record IsLawful (es : List Event) : Type 0 where
   pub advanced : IsAdvanced es
   -- and what no live open asks for has come: it ended in that step
   pub unfinished : NoneIsAnswered es
-  -- nor has a disk answered that a command hooks: that had its result in that step
+  -- nor has a disk answered that a command hooks or boots: that had its result in that step
   pub unhooked : NoneIsHooked es
   -- nor is a sleep over: its command ended in that step
   pub rested : NoneOversleeps es
-  -- all PARTs are the hand-off's, of the images that the commands have left in the list, the selected one first, and of the boot table
+  -- all PARTs are the hand-off's: of the images that the commands have left in the list, the selected one first, or of the first block of the
+  -- disk that a command boots; and of the boot table
   pub parts : HandsAsBrought es (outputs es)

@@ -4,7 +4,7 @@ use Rattle.nb_defs.specs.Records.{step, advanced}
 use Rattle.nb_machine.specs.Effects.{sleeps}
 use Rattle.nb_laws.specs.CommandOpens.{command_open}
 use Rattle.nb_laws.specs.CommandsSoFar.{so_far, ComesTo}
-use Rattle.nb_laws.specs.Hookings.{NoneIsHooked}
+use Rattle.nb_laws.specs.Hookings.{NoneIsHooked, BootsBy}
 use Rattle.nb_laws.specs.Events.{Event, starts, hears, waits, stops, puts, inputs}
 use Rattle.nb_laws.specs.Lists.{Opening, live, fetches, file_blocks, last_place, made, commands_begun}
 use Rattle.nb_laws.specs.Drives.{session_place}
@@ -28,8 +28,8 @@ IsAdvanced es = (k : ℕ) → last_place k es ≡ file_place k es
 abbrev pub NoneOversleeps : List Event → Type 0
 NoneOversleeps es = (seconds : ℕ) → (so_far es).is_open ≡ true → ComesTo es (made es) (sleeps seconds) → (so_far es).now < (so_far es).since + 1000 * seconds
 
--- a record is used: its STEP has its place among the records used, what no live open asks for has come, no disk that a command hooks has
--- answered, and no sleep is over
+-- a record is used: its STEP has its place among the records used, what no live open asks for has come, no disk that a command hooks or boots
+-- has answered so, and no sleep is over
 pub record IsStep (before : List Event) (number : ℕ) : Type 0 where
   pub counted : number ≡ length (inputs before) + 1
   pub unfinished : NoneIsAnswered before
@@ -40,12 +40,14 @@ pub record IsStep (before : List Event) (number : ℕ) : Type 0 where
 pub data IsResumed (before : List Event) : Type 0 where
   -- an open of a command that has no result yet lives
   by_live : (k : ℕ) (o : Opening) → live k before ≡ o ∷ [] → (so_far before).is_open ≡ true → command_open before ≡ Some (record { number = k; over = None }) → IsResumed before
+  -- a command boots a hooked drive, whose open lives, and hasn't read its block
+  by_reading : (k : ℕ) (o : Opening) → live k before ≡ o ∷ [] → (so_far before).is_open ≡ true → BootsBy k before → IsResumed before
   -- the step before had all the commands that it may have, and the last one's result
   by_count : commands_begun before ≡ 4096 → (so_far before).is_open ≡ false → IsResumed before
   -- a command sleeps
   by_sleep : (seconds : ℕ) → (so_far before).is_open ≡ true → ComesTo before (made before) (sleeps seconds) → IsResumed before
 
--- START is used first; each other record while an open of a command lives or a command sleeps, or where the step before had 4,096 COMMANDs, each with
+-- START is used first; each other record while an open of a command, or of the drive that it boots, lives or a command sleeps, or where the step before had 4,096 COMMANDs, each with
 -- its RESULT
 abbrev pub StepsSo : List Event → Event → Type 0
 StepsSo before (starts n s) = IsStep before n × (before ≡ [])

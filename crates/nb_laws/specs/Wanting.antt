@@ -6,7 +6,7 @@ use Rattle.nb_imagecmd.specs.Asking.{target_host, target_port, target_text}
 use Rattle.nb_uri.specs.Addresses.{four_decimals}
 use Rattle.nb_uri.specs.declared.target.UriTarget.{UriTarget}
 use Rattle.nb_uri.specs.declared.target.UriTarget.TheVariants.{Tftp, Http, Iscsi}
-use Rattle.nb_machine.specs.Effects.{Effect, says, asks, goes, sleeps, shuts_device, inquires, on_images, on_drives, hooks_disk, unhooks_drive, concludes_at_once}
+use Rattle.nb_machine.specs.Effects.{Effect, says, asks, goes, sleeps, shuts_device, inquires, on_images, on_drives, hooks_disk, unhooks_drive, boots_drive, concludes_at_once}
 use Rattle.nb_machine.specs.Errands.{Wanted, fetches_then, echoes_then, hooks_then}
 use Rattle.nb_machine.specs.Queries.{Query, for_lease, for_echo, for_host, for_address}
 use Rattle.nb_laws.specs.Lists.{Opening}
@@ -32,6 +32,7 @@ wanted_by (on_images command) o = None
 wanted_by (on_drives command) o = None
 wanted_by (hooks_disk hooking) o = None
 wanted_by (unhooks_drive number cause) o = None
+wanted_by (boots_drive number) o = None
 wanted_by (concludes_at_once c) o = None
 
 -- the kind of an open for a target: 1 by TFTP, 2 by HTTP; a disk isn't fetched

@@ -5,5 +5,6 @@ mod laws;
 
 pub use laws::{
     honest_servers_files_are_brought, honest_targets_answer_with_their_disks,
-    names_are_read_as_spelled, one_history, packets_are_read_as_spelled,
+    honest_targets_first_blocks_are_handed_off, names_are_read_as_spelled, one_history,
+    packets_are_read_as_spelled,
 };

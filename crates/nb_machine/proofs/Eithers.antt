@@ -2,7 +2,7 @@
 use Rattle.std.proofs.Common.{ℕ, ◌==◌, Bool, true, false, cond, List, Option, Some, None, Result, Ok, Err}
 use Rattle.std.specs.Option.{option_map_or}
 use Rattle.nb_terms.specs.declared.cause.Cause.{Cause}
-use Rattle.nb_defs.specs.Causes.{ok, unknown}
+use Rattle.nb_defs.specs.Causes.{ok}
 use Rattle.nb_defs.specs.Commands.{CommandOutcome, refused}
 use Rattle.nb_command.specs.Addresses.{address_table}
 use Rattle.nb_command.specs.Failures.{apply_cause}
@@ -34,7 +34,7 @@ use Rattle.nb_uri.specs.declared.target.UriTarget.{UriTarget}
 use Rattle.nb_uri.specs.declared.target.UriTarget.TheVariants.{Tftp, Http, Iscsi}
 use Rattle.nb_machine.specs.Conclusions.{Conclusion, keeps, tells, boots_selected, runs_script}
 use Rattle.nb_machine.specs.Errands.{Wanted, Errand, fetches_then, echoes_then, Onward, onward}
-use Rattle.nb_machine.specs.Effects.{Effect, says, asks, inquires, hooks_disk, unhooks_drive, concludes_at_once, Surroundings, drive_outcome_effect, refusal_effect, drive_answer_effect, drives_effect, asked_effect, taken_effect, image_outcome_effect, image_answer_effect, images_effect, full_opens, unless_full, onward_effect, next_open, next_look_up, next_by_name, next_effect, at_host, asked_name_server, name_effect, unless_refused, looked_up_effect}
+use Rattle.nb_machine.specs.Effects.{Effect, says, asks, inquires, hooks_disk, unhooks_drive, boots_drive, concludes_at_once, Surroundings, drive_outcome_effect, refusal_effect, drive_answer_effect, drives_effect, asked_effect, taken_effect, image_outcome_effect, image_answer_effect, images_effect, full_opens, unless_full, onward_effect, next_open, next_look_up, next_by_name, next_effect, at_host, asked_name_server, name_effect, unless_refused, looked_up_effect}
 use Rattle.nb_machine.specs.Queries.{Query, for_echo, for_address, for_host, bad_name, no_server, dns_in, with_domain}
 
 pub either_of : (P : Effect → Type 0) (b : Bool) (e f : Effect) → P e → P f → P (cond b e f)
@@ -124,14 +124,14 @@ looked_up_case P said opens table setting text asked = by (address_table setting
 pub looked_up_either : (P : Effect → Type 0) → ((o : CommandOutcome) → P (says o)) → ((q : Query) → P (inquires q)) → (opens : ℕ) (table : TableLists) (setting text : List ℕ) → P (looked_up_effect opens table setting text)
 looked_up_either P said asked opens table setting text = looked_up_case P said opens table setting text (λ name by. asked (for_address setting name by))
 
--- a drive command is refused, hooks a disk, or lets a drive go
+-- a drive command is refused, hooks a disk, lets a drive go, or boots one
 pub drives_either : (P : Effect → Type 0) → ((o : CommandOutcome) → P (says o)) → ((hooking : Hooking) → P (hooks_disk hooking)) → ((number : ℕ) (cause : Cause) → P (unhooks_drive number cause)) →
-    (x : Surroundings) (command : DriveCommand) → P (drives_effect x command)
-drives_either P said hooked unhooked x command = by (drive_effect command (base_by x.base x.table) x.table x.drives)
+    ((number : ℕ) → P (boots_drive number)) → (x : Surroundings) (command : DriveCommand) → P (drives_effect x command)
+drives_either P said hooked unhooked booted x command = by (drive_effect command (base_by x.base x.table) x.table x.drives)
   where
     by_outcome : (o : DriveOutcome) → P (drive_outcome_effect o)
     by_outcome (drive_outcome.Hook hooking) = hooked hooking
-    by_outcome (drive_outcome.Boot number keep) = said (refused unknown)
+    by_outcome (drive_outcome.Boot number keep) = booted number
     by_outcome (drive_outcome.Unhook number) = unhooked number ok
 
     by_refusal : (cause : Cause) (o : Option ℕ) → P (refusal_effect cause o)

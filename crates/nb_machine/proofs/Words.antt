@@ -15,7 +15,7 @@ use Rattle.nb_command.specs.Planning.{planned}
 use Rattle.nb_command.specs.Device.{device_change}
 use Rattle.nb_machine.specs.Queries.{Query, for_lease}
 use Rattle.nb_machine.proofs.Eithers.{drives_either, full_either, images_either, looked_up_either, pinged_either}
-use Rattle.nb_machine.specs.Effects.{Effect, says, asks, goes, sleeps, shuts_device, inquires, on_images, on_drives, hooks_disk, unhooks_drive, concludes_at_once, Surroundings, settled_effect, effect_in, unless_full, sleeping_for, device_effect, plan_effect, plan_table, plan_up, set_up, planned_effect, planned_table, planned_up, words_effect, words_table, words_up, expansion, expanded_effect, expanded_table, expanded_up, expand_cause, effect, table_after, up_after, shown_words, shown_by, shown_as}
+use Rattle.nb_machine.specs.Effects.{Effect, says, asks, goes, sleeps, shuts_device, inquires, on_images, on_drives, hooks_disk, unhooks_drive, boots_drive, concludes_at_once, Surroundings, settled_effect, effect_in, unless_full, sleeping_for, device_effect, plan_effect, plan_table, plan_up, set_up, planned_effect, planned_table, planned_up, words_effect, words_table, words_up, expansion, expanded_effect, expanded_table, expanded_up, expand_cause, effect, table_after, up_after, shown_words, shown_by, shown_as}
 
 -- expanded words say the effect
 pub effect_of_words : (opens : ℕ) (table : TableLists) (written ws : List (List ℕ)) → expansion table written ≡ Ok ws → effect opens table written ≡ words_effect opens table ws
@@ -77,6 +77,7 @@ KeepsTable (on_images command) table other = other ≡ table
 KeepsTable (on_drives command) table other = other ≡ table
 KeepsTable (hooks_disk hooking) table other = other ≡ table
 KeepsTable (unhooks_drive number cause) table other = other ≡ table
+KeepsTable (boots_drive number) table other = other ≡ table
 KeepsTable (concludes_at_once c) table other = other ≡ table
 
 keeps_same : (e : Effect) (table : TableLists) → KeepsTable e table table
@@ -90,6 +91,7 @@ keeps_same (on_images command) table = refl
 keeps_same (on_drives command) table = refl
 keeps_same (hooks_disk hooking) table = refl
 keeps_same (unhooks_drive number cause) table = refl
+keeps_same (boots_drive number) table = refl
 keeps_same (concludes_at_once c) table = refl
 
 keeps_plan : (opens : ℕ) (table : TableLists) (p : CommandPlan) → KeepsTable (plan_effect opens table p) table (plan_table p table)
@@ -141,6 +143,7 @@ KeepsUp (on_images command) up other = other ≡ up
 KeepsUp (on_drives command) up other = other ≡ up
 KeepsUp (hooks_disk hooking) up other = other ≡ up
 KeepsUp (unhooks_drive number cause) up other = other ≡ up
+KeepsUp (boots_drive number) up other = other ≡ up
 KeepsUp (concludes_at_once c) up other = other ≡ up
 
 keeps_same_up : (e : Effect) (up : Bool) → KeepsUp e up up
@@ -154,6 +157,7 @@ keeps_same_up (on_images command) up = refl
 keeps_same_up (on_drives command) up = refl
 keeps_same_up (hooks_disk hooking) up = refl
 keeps_same_up (unhooks_drive number cause) up = refl
+keeps_same_up (boots_drive number) up = refl
 keeps_same_up (concludes_at_once c) up = refl
 
 device_keeps : (e : Effect) (r : Result Bool ApplyError) (up : Bool) → ((other : Bool) → KeepsUp e up other) → KeepsUp (device_effect e r) up (set_up up r)
@@ -259,6 +263,7 @@ IsRested (on_images command) = Unit {0}
 IsRested (on_drives command) = Unit {0}
 IsRested (hooks_disk hooking) = Unit {0}
 IsRested (unhooks_drive number cause) = Unit {0}
+IsRested (boots_drive number) = Unit {0}
 IsRested (concludes_at_once c) = Unit {0}
 
 rested_for : (seconds : ℕ) (b : Bool) → (seconds == 0) ≡ b → IsRested (cond b (says (refused ok)) (sleeps seconds))
@@ -284,9 +289,10 @@ sleeps_some opens table ws seconds is = subst IsRested is (effect_covered IsRest
 
 rested_in : (x : Surroundings) (e : Effect) → IsRested e → IsRested (settled_effect x e)
 rested_in x (on_images command) h = images_either IsRested (λ o. tt) (λ c. tt) (λ wanted. tt) (λ q. tt) x command
-rested_in x (on_drives command) h = drives_either IsRested (λ o. tt) (λ hooking. tt) (λ number cause. tt) x command
+rested_in x (on_drives command) h = drives_either IsRested (λ o. tt) (λ hooking. tt) (λ number cause. tt) (λ number. tt) x command
 rested_in x (hooks_disk hooking) h = tt
 rested_in x (unhooks_drive number cause) h = tt
+rested_in x (boots_drive number) h = tt
 rested_in x (says o) h = tt
 rested_in x (asks wanted) h = tt
 rested_in x (goes name) h = tt
@@ -302,9 +308,10 @@ sleeps_some_in x ws seconds is = subst IsRested is (rested_in x (effect x.opens 
 
 settled_keeps : (x : Surroundings) (e : Effect) (table other : TableLists) → KeepsTable e table other → KeepsTable (settled_effect x e) table other
 settled_keeps x (on_images command) table other h = images_either (λ e. KeepsTable e table other) (λ o. tt) (λ c. h) (λ wanted. h) (λ q. tt) x command
-settled_keeps x (on_drives command) table other h = drives_either (λ e. KeepsTable e table other) (λ o. tt) (λ hooking. h) (λ number cause. h) x command
+settled_keeps x (on_drives command) table other h = drives_either (λ e. KeepsTable e table other) (λ o. tt) (λ hooking. h) (λ number cause. h) (λ number. h) x command
 settled_keeps x (hooks_disk hooking) table other h = h
 settled_keeps x (unhooks_drive number cause) table other h = h
+settled_keeps x (boots_drive number) table other h = h
 settled_keeps x (says o) table other h = h
 settled_keeps x (asks wanted) table other h = h
 settled_keeps x (goes name) table other h = h
@@ -315,9 +322,10 @@ settled_keeps x (concludes_at_once c) table other h = h
 
 settled_keeps_up : (x : Surroundings) (e : Effect) (up other : Bool) → KeepsUp e up other → KeepsUp (settled_effect x e) up other
 settled_keeps_up x (on_images command) up other h = images_either (λ e. KeepsUp e up other) (λ o. tt) (λ c. h) (λ wanted. h) (λ q. tt) x command
-settled_keeps_up x (on_drives command) up other h = drives_either (λ e. KeepsUp e up other) (λ o. tt) (λ hooking. h) (λ number cause. h) x command
+settled_keeps_up x (on_drives command) up other h = drives_either (λ e. KeepsUp e up other) (λ o. tt) (λ hooking. h) (λ number cause. h) (λ number. h) x command
 settled_keeps_up x (hooks_disk hooking) up other h = h
 settled_keeps_up x (unhooks_drive number cause) up other h = h
+settled_keeps_up x (boots_drive number) up other h = h
 settled_keeps_up x (says o) up other h = h
 settled_keeps_up x (asks wanted) up other h = h
 settled_keeps_up x (goes name) up other h = h

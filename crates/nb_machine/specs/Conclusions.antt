@@ -6,7 +6,7 @@ use Rattle.nb_defs.specs.Causes.{ok, is_ok_cause}
 use Rattle.nb_defs.specs.Records.{Out, text, result, part}
 use Rattle.nb_image.specs.declared.image.Image.{Image}
 use Rattle.nb_image.specs.Images.{ImageList}
-use Rattle.nb_image.specs.Parts.{PartText, PieceText, part_number, parts, table_parts, part_pieces}
+use Rattle.nb_image.specs.Parts.{PartText, PieceText, part_number, parts, table_parts, sector_part, part_pieces}
 use Rattle.nb_imagecmd.specs.declared.arriving.Arrival.{Arrival}
 use Rattle.nb_imagecmd.specs.declared.arriving.Arrival.TheVariants as arrival
 use Rattle.nb_imagecmd.specs.declared.asking.Asking.{Asking}
@@ -65,3 +65,7 @@ part_records p = map (piece_record p) (part_pieces p.bytes)
 -- the records of a hand-off: each part in its pieces, and last the boot table, where there is one
 abbrev pub handoff_records : ℕ → List Image → Option (List ℕ) → List Out
 handoff_records kernel images table = flat_map part_records (parts kernel images ++ table_parts table)
+
+-- of a disk's first block, likewise
+abbrev pub disk_records : (block : List ℕ) → Option (List ℕ) → List Out
+disk_records block table = flat_map part_records (sector_part block ∷ table_parts table)

@@ -1,6 +1,6 @@
 -- RFC 9293: an open on a connection, whatever is said on it. That cores stand on one another is how, and stays inside; what the open promises
 -- is said of all that came to it and of what was put.
-use Rattle.std.specs.Prelude.{◌≡◌, ℕ, ◌==◌, not, Bool, List, [], ◌∷◌, ◌++◌, Option, Some, None, if◌then◌else◌}
+use Rattle.std.specs.Prelude.{◌≡◌, ℕ, not, Bool, List, [], ◌∷◌, ◌++◌, Option, Some, None, if◌then◌else◌}
 use Rattle.std.specs.List.{flat_map, list_any}
 use Rattle.nb_terms.specs.declared.cause.Cause.{Cause}
 use Rattle.nb_terms.specs.declared.acts.SendTo.{SendTo}
@@ -8,7 +8,7 @@ use Rattle.nb_defs.specs.Records.{Out}
 use Rattle.nb_stack.specs.Client.{Client}
 use Rattle.nb_tcpseg.specs.SegmentText.{SegmentParts}
 use Rattle.nb_streams.specs.Segments.{Incoming, Arrival}
-use Rattle.nb_streams.specs.Sending.{Outgoing, syn}
+use Rattle.nb_streams.specs.Sending.{syn}
 use Rattle.nb_talks.specs.Talking.{Came, by_segment, by_time, Talker, Talk, talk_after}
 use Rattle.nb_talks.specs.TalkPromises.{Sends, Put, PutsSo, close_put}
 use Rattle.nb_tcp.specs.declared.link.Link.{Link}

@@ -1,6 +1,6 @@
 -- The machine over a whole run: records used and records written, by the network and the scripts. It reads whole
 -- lists, and knows nothing of bytes, buffers or calls.
-use Rattle.std.specs.Prelude.{◌≡◌, ◌<◌, ℕ, ◌+◌, ◌==◌, Bool, true, false, List, [], ◌∷◌, ◌++◌, Option, Some, None, Result, Ok, Err, filter, not, slice_get}
+use Rattle.std.specs.Prelude.{◌≡◌, ◌<◌, ℕ, ◌+◌, ◌==◌, Bool, true, false, List, [], ◌∷◌, ◌++◌, Option, Some, None, Ok, Err, filter, not, slice_get}
 use Rattle.std.specs.List.{list_any}
 use Rattle.nb_terms.specs.declared.cause.Cause.{Cause}
 use Rattle.nb_defs.specs.Causes.{ok, plain_cause}
@@ -11,21 +11,22 @@ use Rattle.nb_stack.specs.Client.{Client}
 use Rattle.nb_imagecmd.specs.declared.outcome.ScriptImage.{ScriptImage}
 use Rattle.nb_drivecmd.specs.declared.drive.Drive.{Drive}
 use Rattle.nb_drivecmd.specs.declared.outcome.Hooking.{Hooking}
-use Rattle.nb_drivecmd.specs.HookedDrives.{is_drive}
+use Rattle.nb_drivecmd.specs.HookedDrives.{is_drive, drive_numbered}
 use Rattle.nb_scripts.specs.Records.{replace}
-use Rattle.nb_machine.specs.Conclusions.{Conclusion, keeps, tells, fails, boots, runs_script, conclusion_records, handoff_records}
+use Rattle.nb_machine.specs.Conclusions.{Conclusion, keeps, tells, fails, boots, runs_script, conclusion_records, handoff_records, disk_records}
 use Rattle.nb_machine.specs.BootTables.{boot_table}
 use Rattle.nb_machine.specs.Effects.{shown_words, full_opens, next_at_target}
 use Rattle.nb_machine.specs.Errands.{Onward}
 use Rattle.nb_machine.specs.FirstText.{first_reading, text_refusal, lines_of}
 use Rattle.nb_machine.specs.Running.{Running, first_script, coming, passing, leaving, beginning, entered, further, behind_line, with_result, anew, script_within, script_in_place, counting_on, no_label}
 use Rattle.nb_machine.specs.CommandRecords.{command_record, command_records, no_route, stopped_cause}
-use Rattle.nb_machine.specs.Lives.{close, Live, open_record, end_record}
+use Rattle.nb_machine.specs.Drives.{first_block}
+use Rattle.nb_machine.specs.Lives.{task, close, Live, open_record, end_record}
 use Rattle.nb_machine.specs.Kinds.{first_records}
 use Rattle.nb_machine.specs.States.{State, state_at_start, with_images, with_settings, with_live, with_drive, with_opened, with_one_made}
 use Rattle.nb_machine.specs.Takings.{Over, AllTake}
 use Rattle.nb_machine.specs.Network.{Network}
-use Rattle.nb_machine.specs.Scripts.{Job, sleep, ends, opens, goes_to, waits_until, shuts, concludes_now, hooks_one, lets_go, doing, live_onward, job_onward, answer, moment, awaited_onward, Answer, answer_in, has_number, Waiting, waiting_anew, Upshot, concludes, settles, hooks_drive, goes_onward, upshot_records, concluded_by}
+use Rattle.nb_machine.specs.Scripts.{Job, sleep, boots as boots_read, ends, opens, goes_to, waits_until, shuts, concludes_now, hooks_one, lets_go, boots_one, doing, live_onward, job_onward, answer, moment, block, awaited_onward, Answer, answer_in, has_number, Waiting, waiting_anew, Upshot, concludes, settles, hooks_drive, reads_drive, boots_drive_by, goes_onward, upshot_records, concluded_by}
 
 -- the device went down
 abbrev pub down_cause : Cause
@@ -58,7 +59,7 @@ pub data Standing : Type 0 where
   reaching : State → Running → (outer : List Running) → Onward → Standing
   -- the innermost had all the commands of a step, and another is to begin
   yielded : State → Running → (outer : List Running) → Standing
-  -- an image is handed off, of which these records are still to come
+  -- an image or a disk is handed off, of which these records are still to come
   handing : State → (rest : List Out) → Standing
   -- the innermost script was left with this cause, and those outside it stand still; where there are none, the run is over
   left : State → (outer : List Running) → Cause → Standing
@@ -109,12 +110,52 @@ ConclusionLeads s inner outer (boots list kernel) put p =
     × (p ≡ handing (with_live (with_images s list) []) (handoff_records kernel list.images (boot_table s)))
 ConclusionLeads s inner outer (runs_script list image replaces) put p = ScriptLeads (with_images s list) inner outer image replaces put p
 
--- The same of what comes of a command: where that is settings, the device follows them; a drive is hooked, if its open lives on; and where
--- its server was looked up, its own open is next.
+-- a drive was asked for its first block: where its open has ended by that, the command has its cause
+abbrev pub block_lost : List Over → List Out
+block_lost [] = []
+block_lost (o ∷ over) = result o.cause ∷ []
+
+-- else it waits for the block; the drive is to be hooked then, if it isn't hooked yet
+abbrev pub block_standing : State → Running → List Running → ℕ → Option Drive → List Over → Standing
+block_standing s inner outer number d [] = waiting s (record { script = inner; outer = outer; awaited = block number; job = boots_read d })
+block_standing s inner outer number d (o ∷ over) = running s (with_result inner o.cause) outer
+
+-- The drive of the open of this number is asked for its first block, and puts these records, which may end it; all else lives on.
+pub record AsksBlock (s : State) (number : ℕ) (put : List Out) (s' : State) (over : List Over) : Type 0 where
+  pub before : List Live
+  pub behind : List Live
+  pub after : List Live
+  pub l : Live
+  pub parted : s.live ≡ before ++ l ∷ behind
+  pub its : l.number ≡ number
+  pub takes : AllTake s.devices (task first_block s.now) (l ∷ []) put after over
+  pub leaves : s' ≡ with_live s (before ++ after ++ behind)
+
+-- so a command asks, and these records are put
+pub record ReadsBlock (s : State) (inner : Running) (outer : List Running) (number : ℕ) (d : Option Drive) (put : List Out) (p : Standing) : Type 0 where
+  pub asked : List Out
+  pub next : State
+  pub over : List Over
+  pub asks : AsksBlock s number asked next over
+  pub all : put ≡ asked ++ block_lost over
+  pub stands_so : p ≡ block_standing next inner outer number d over
+
+-- with a disk that is hooked as this drive, if it wasn't
+abbrev pub with_booted : State → Option Drive → State
+with_booted s None = s
+with_booted s (Some d) = with_drive s d
+
+-- The same of what comes of a command: where that is settings, the device follows them; a drive is hooked, if its open lives on, or is asked
+-- for its first block before; a disk is handed off, once it is hooked and all that lives is closed; and where its server was looked up, its own
+-- open is next.
 abbrev pub LeadsTo : State → Running → List Running → Upshot → List Out → Standing → Type 0
 LeadsTo s inner outer (concludes c) put p = ConclusionLeads s inner outer c put p
 LeadsTo s inner outer (settles x) put p = (put ≡ []) × (p ≡ running (with_settings s x.table s.up) (with_result inner x.cause) outer)
 LeadsTo s inner outer (hooks_drive d) put p = (put ≡ []) × (p ≡ running (with_drive s d) (with_result inner ok) outer)
+LeadsTo s inner outer (reads_drive d) put p = ReadsBlock s inner outer d.open_number (Some d) put p
+LeadsTo s inner outer (boots_drive_by d bytes) put p =
+    (over : List Over) × AllTake s.devices (close stopped_cause) s.live put [] over
+    × (p ≡ handing (with_live (with_booted s d) []) (disk_records bytes (boot_table (with_booted s d))))
 LeadsTo s inner outer (goes_onward next) put p = (put ≡ []) × (p ≡ reaching s inner outer next)
 
 -- A record is used, and its step begins. A first record comes before any other; each later one comes while a command
@@ -184,6 +225,11 @@ pub data Proceeds : Progress → List Out → Progress → Type 0 where
   unhooks : (n : ℕ) (s s' : State) (inner : Running) (outer : List Running) (c : List ℕ) (cs : List (List ℕ)) (number : ℕ) (put : List Out) (cause : Cause) →
       coming inner ≡ beginning c cs → inner.begun < 4096 → doing s inner (c ∷ cs) ≡ lets_go number cause → DropsDrive s number put s' →
       Proceeds (stands n (running s inner outer)) (command_record inner (shown_words s.table (c ∷ cs)) ∷ put ++ (result cause ∷ [])) (stands n (running s' (further inner cause) outer))
+  -- a drive that is hooked is booted: it is asked for its first block
+  boots_hooked : (n : ℕ) (s : State) (inner : Running) (outer : List Running) (c : List ℕ) (cs : List (List ℕ)) (number : ℕ) (d : Drive) (put : List Out) (p : Standing) →
+      coming inner ≡ beginning c cs → inner.begun < 4096 → doing s inner (c ∷ cs) ≡ boots_one number → drive_numbered number s.drives ≡ Some d →
+      ReadsBlock s (entered inner) outer d.open_number None put p →
+      Proceeds (stands n (running s inner outer)) (command_record inner (shown_words s.table (c ∷ cs)) ∷ put) (stands n p)
   -- a command on images that waits for nothing
   concludes_there : (n : ℕ) (s : State) (inner : Running) (outer : List Running) (c : List ℕ) (cs : List (List ℕ)) (x : Conclusion) (put : List Out) (p : Standing) →
       coming inner ≡ beginning c cs → inner.begun < 4096 → doing s inner (c ∷ cs) ≡ concludes_now x → ConclusionLeads s (entered inner) outer x put p →

@@ -1,9 +1,10 @@
 -- RFC 7143: an open that is a drive's session with its target, and what that has answered
-use Rattle.std.specs.Prelude.{ℕ, ◌-◌, Bool, List, [], ◌∷◌, length, slice_get, Option, Some, None}
+use Rattle.std.specs.Prelude.{ℕ, ◌-◌, List, [], ◌∷◌, length, slice_get, Option, Some, None}
+use Rattle.std.specs.Option.{option_and_then}
 use Rattle.nb_login.specs.declared.info.LoginInfo.{LoginInfo}
 use Rattle.nb_streams.specs.Streams.{front}
 use Rattle.nb_talks.specs.Talking.{Came, by_task, Talk, talk_held}
-use Rattle.nb_sans.specs.Sessions.{ReadTask, session_talker, session_capacity, session_chap, TaskAnswer, tasks_taken, task_answers}
+use Rattle.nb_sans.specs.Sessions.{ReadTask, session_talker, session_capacity, session_chap, TaskAnswer, blocks_read, read_refused, read_short, tasks_taken, task_answers}
 use Rattle.nb_machine.specs.Lives.{OpenInput, message, tcp_segment, time, task, close, Live}
 use Rattle.nb_machine.specs.Connections.{came_on, Talking, connection_of, talk_of, KeepsTalk}
 
@@ -50,3 +51,17 @@ session_answer server i stream tasks =
 
 abbrev pub session_answered : ℕ → LoginInfo → Live → Option DriveAnswer
 session_answered isn i l = let d = session_of isn i l in session_answer l.server i (front (talk_held isn d)) d.tasks
+
+-- the read of a disk's first block, by which it is booted
+abbrev pub first_block : ReadTask
+first_block = record { lba = 0; blocks = 1 }
+
+-- the bytes of a read, if it was answered by all of them
+abbrev pub bytes_read : TaskAnswer → Option (List ℕ)
+bytes_read (blocks_read bytes) = Some bytes
+bytes_read (read_refused status) = None
+bytes_read read_short = None
+
+-- those of the read that a drive took last
+abbrev pub last_read : DriveAnswer → Option (List ℕ)
+last_read a = option_and_then bytes_read a.last

@@ -1,5 +1,5 @@
 -- What a command comes to: it is over with an outcome, it asks for a file, or for something by one exchange, it goes to a
--- label, it sleeps, it shuts the device, it hooks or unhooks a drive, or it is a command on images; and what it does to the settings
+-- label, it sleeps, it shuts the device, it hooks, unhooks or boots a drive, or it is a command on images; and what it does to the settings
 -- and the device. Its words are expanded first. What a command on images or drives comes to, depends on these and its script besides.
 use Rattle.std.specs.Prelude.{ℕ, ◌==◌, ◌||◌, nat_le, length, Bool, true, false, List, Option, Some, None, Result, Ok, Err, if◌then◌else◌}
 use Rattle.std.specs.Option.{option_map_or, is_some}
@@ -90,6 +90,8 @@ pub data Effect : Type 0 where
   hooks_disk : Hooking → Effect
   -- the drive of this number is closed, if one is hooked, and the command is over with this cause
   unhooks_drive : (number : ℕ) → Cause → Effect
+  -- the drive of this number, which is hooked, is booted
+  boots_drive : (number : ℕ) → Effect
   -- it is one that waits for nothing
   concludes_at_once : Conclusion → Effect
 
@@ -359,10 +361,10 @@ image_answer_effect x (Err why) = fails_for why
 abbrev pub images_effect : Surroundings → ImageCommand → Effect
 images_effect x command = image_answer_effect x (image_effect command (base_by x.base x.table) x.images)
 
--- what a drive command comes to; no drive is booted yet
+-- what a drive command comes to
 abbrev pub drive_outcome_effect : DriveOutcome → Effect
 drive_outcome_effect (drive_outcome.Hook hooking) = hooks_disk hooking
-drive_outcome_effect (drive_outcome.Boot number keep) = says (refused unknown)
+drive_outcome_effect (drive_outcome.Boot number keep) = boots_drive number
 drive_outcome_effect (drive_outcome.Unhook number) = unhooks_drive number ok
 
 -- one that is refused may let a drive go
@@ -383,6 +385,7 @@ settled_effect x (on_images command) = images_effect x command
 settled_effect x (on_drives command) = drives_effect x command
 settled_effect x (hooks_disk hooking) = hooks_disk hooking
 settled_effect x (unhooks_drive number cause) = unhooks_drive number cause
+settled_effect x (boots_drive number) = boots_drive number
 settled_effect x (says o) = says o
 settled_effect x (asks wanted) = asks wanted
 settled_effect x (goes name) = goes name

@@ -2,6 +2,7 @@
 -- it has fetched or found. A further kind is a further case of each.
 use Rattle.std.specs.Prelude.{ℕ, ◌==◌, ◌&&◌, Bool, true, false, List, [], Option, None, if◌then◌else◌}
 use Rattle.std.specs.List.{list_any}
+use Rattle.std.specs.Option.{option_and_then}
 use Rattle.nb_defs.specs.Records.{Out}
 use Rattle.nb_ipv4.specs.PacketText.{PacketParts}
 use Rattle.nb_ipv4.specs.UdpText.{UdpParts}
@@ -23,7 +24,7 @@ use Rattle.nb_machine.specs.Connections.{connection_of, syn_message}
 use Rattle.nb_machine.specs.Cores.{look_up_of, ping_of, first_message_records, KeepsCore, address_answered, lease_acknowledged}
 use Rattle.nb_machine.specs.Transfers.{request_records, KeepsTransfer, transferred}
 use Rattle.nb_machine.specs.Webs.{KeepsWeb, web_body, web_move}
-use Rattle.nb_machine.specs.Drives.{KeepsSession, DriveAnswer, session_answered}
+use Rattle.nb_machine.specs.Drives.{KeepsSession, DriveAnswer, session_answered, last_read}
 
 -- it takes datagrams from there: TFTP from every port of its server, DNS from its port 53, DHCP from port 67 of any host; a ping and a
 -- connection take none
@@ -152,3 +153,7 @@ answered_by ping l = None
 -- what it has answered as a drive
 abbrev pub answered : Live → Option DriveAnswer
 answered l = answered_by l.kind l
+
+-- the bytes of the blocks that it has read last as a drive, if all of them have come
+abbrev pub read_last : Live → Option (List ℕ)
+read_last l = option_and_then last_read (answered l)

@@ -14,18 +14,20 @@ use Rattle.nb_uri.specs.declared.target.UriTarget.TheVariants.{Tftp, Http, Iscsi
 use Rattle.nb_settings.specs.Tables.{TableLists}
 use Rattle.nb_command.specs.Settings.{Change}
 use Rattle.nb_drivecmd.specs.declared.drive.Drive.{Drive}
+use Rattle.nb_drivecmd.specs.declared.outcome.AfterHook.{AfterHook}
+use Rattle.nb_drivecmd.specs.declared.outcome.AfterHook.TheVariants as after_hook
 use Rattle.nb_drivecmd.specs.declared.outcome.Hooking.{Hooking}
 use Rattle.nb_drivelogin.specs.DriveLogins.{login_by}
 use Rattle.nb_command.specs.Addresses.{address_table}
 use Rattle.nb_machine.specs.Errands.{Wanted, Errand, Onward, fetches_now, echoes_now, hooks_now, looks_up_now, onward}
-use Rattle.nb_machine.specs.Effects.{Effect, says, asks, goes, sleeps, shuts_device, inquires, on_images, on_drives, hooks_disk, unhooks_drive, concludes_at_once, Surroundings, effect_in, next_moved, table_after, up_after}
+use Rattle.nb_machine.specs.Effects.{Effect, says, asks, goes, sleeps, shuts_device, inquires, on_images, on_drives, hooks_disk, unhooks_drive, boots_drive, concludes_at_once, Surroundings, effect_in, next_moved, table_after, up_after}
 use Rattle.nb_machine.specs.Queries.{Query, for_lease, for_echo, for_host, for_address}
 use Rattle.nb_machine.specs.Findings.{first_word, open_words, asker_at, query_id, lease_change, Settlement, settled_by}
 use Rattle.nb_machine.specs.Conclusions.{Conclusion, keeps, fails, conclusion, conclusion_records}
 use Rattle.nb_machine.specs.Starting.{own_port}
 use Rattle.nb_machine.specs.Running.{Running, anew}
 use Rattle.nb_machine.specs.Lives.{OpenKind, tftp, http, iscsi, dns, dhcp, ping, Live}
-use Rattle.nb_machine.specs.Kinds.{fetched, moved, resolved, granted, answered}
+use Rattle.nb_machine.specs.Kinds.{fetched, moved, resolved, granted, answered, read_last}
 use Rattle.nb_machine.specs.States.{State, net0, with_settings}
 use Rattle.nb_machine.specs.Takings.{Over}
 
@@ -39,8 +41,10 @@ pub data Job : Type 0 where
   hears_echo : Job
   -- the address is put into this setting
   keeps_address : (setting : List ℕ) → Job
-  -- the disk is hooked as a drive
+  -- the disk is hooked as a drive, and booted, if that is asked for
   hooks : Hooking → Job
+  -- the disk whose first block has come is booted, and hooked as this drive, where it isn't hooked yet
+  boots : Option Drive → Job
   -- the command goes on to the server whose name was looked up
   asks_on : Errand → Job
   -- nothing
@@ -48,7 +52,8 @@ pub data Job : Type 0 where
 
 -- what a command comes to: it is over at once and leaves this state, it opens something in this state and waits for it, it goes to a
 -- label, it waits for this time, it sets the device down, closes all that lives and leaves this state, it is one on images,
--- of which this comes at once, it hooks a disk, or it lets the drive of a number go and is over with this cause
+-- of which this comes at once, it hooks a disk, it lets the drive of a number go and is over with this cause, or it boots the drive of a
+-- number
 pub data Doing : Type 0 where
   ends : CommandOutcome → State → Doing
   opens : State → Live → Job → Doing
@@ -58,6 +63,7 @@ pub data Doing : Type 0 where
   concludes_now : Conclusion → Doing
   hooks_one : Hooking → Doing
   lets_go : (number : ℕ) → Cause → Doing
+  boots_one : (number : ℕ) → Doing
 
 -- the kind of the next open for a target: by HTTP its SYN has the open's first word as its number; a disk is no file, and isn't fetched
 abbrev pub transfer_kind : State → UriTarget → OpenKind
@@ -178,6 +184,7 @@ doing_by s table up (sleeps seconds) = waits_until (s.now + 1000 * seconds)
 doing_by s table up (concludes_at_once c) = concludes_now c
 doing_by s table up (hooks_disk hooking) = hooks_one hooking
 doing_by s table up (unhooks_drive number cause) = lets_go number cause
+doing_by s table up (boots_drive number) = boots_one number
 -- `effect_in` has settled what such commands come to
 doing_by s table up (on_images command) = concludes_now (keeps s.images)
 doing_by s table up (on_drives command) = concludes_now (keeps s.images)
@@ -190,17 +197,25 @@ surroundings s inner = record { opens = s.opens; table = s.table; images = s.ima
 abbrev pub doing : State → Running → List (List ℕ) → Doing
 doing s inner words = doing_by s (table_after s.table words) (up_after s.table s.up words) (effect_in (surroundings s inner) words)
 
--- what a command waits for: the answer of the open of this number, a time, or that the open of this number is a drive whose capacity is known
+-- what a command waits for: the answer of the open of this number, a time, that the open of this number is a drive whose capacity is known,
+-- the same of one that lives on, or that such a drive has read what it was asked for
 pub data Awaited : Type 0 where
   answer : (number : ℕ) → Awaited
   moment : (time : ℕ) → Awaited
   drive : (number : ℕ) → Awaited
+  disk : (number : ℕ) → Awaited
+  block : (number : ℕ) → Awaited
+
+-- a disk that is hooked is to live on where it is booted
+abbrev pub awaited_hook : AfterHook → ℕ → Awaited
+awaited_hook after_hook.Keep number = drive number
+awaited_hook (after_hook.Boot keep) number = disk number
 
 -- what is awaited of the open of this number that is made next
 abbrev pub awaited_onward : Onward → ℕ → Awaited
 awaited_onward (fetches_now wanted) number = answer number
 awaited_onward (echoes_now server) number = answer number
-awaited_onward (hooks_now hooking server) number = drive number
+awaited_onward (hooks_now hooking server) number = awaited_hook hooking.after number
 awaited_onward (looks_up_now errand name by) number = answer number
 
 -- what it gets: the open, with its end; the drive, whether its open lives on or not; or the time has come
@@ -222,10 +237,19 @@ answer_of_over o = if is_some (answered o.live) then by_drive o.live else by_end
 abbrev pub answer_of_live : Live → Option Answer
 answer_of_live l = if is_some (answered l) then Some (by_drive l) else None
 
+-- likewise of what a drive was asked to read
+abbrev pub block_of_over : Over → Answer
+block_of_over o = if is_some (read_last o.live) then by_drive o.live else by_end o
+
+abbrev pub block_of_live : Live → Option Answer
+block_of_live l = if is_some (read_last l) then Some (by_drive l) else None
+
 -- the answer, where it has come by this record, which led to this state and these ends
 abbrev pub answer_in : State → In → List Over → Awaited → Option Answer
 answer_in s r over (answer number) = option_map by_end (find (is_number number) over)
 answer_in s r over (drive number) = option_or (option_map answer_of_over (find (is_number number) over)) (option_and_then answer_of_live (find (has_number number) s.live))
+answer_in s r over (disk number) = option_or (option_map by_end (find (is_number number) over)) (option_and_then answer_of_live (find (has_number number) s.live))
+answer_in s r over (block number) = option_or (option_map block_of_over (find (is_number number) over)) (option_and_then block_of_live (find (has_number number) s.live))
 answer_in s r over (moment time) = if nat_le time s.now then Some by_time else None
 
 -- scripts that run, the innermost first, whose command waits
@@ -239,11 +263,14 @@ pub record Waiting : Type 0 where
 abbrev pub waiting_anew : Waiting → Waiting
 waiting_anew w = record w { script = anew w.script }
 
--- what comes of a command that waited: its images, as they are concluded, its result and settings, a drive that is hooked, or what it asks next
+-- what comes of a command that waited: its images, as they are concluded, its result and settings, a drive that is hooked, or one of which the
+-- first block is read before, a disk that is booted by this block, and hooked as this drive, where it isn't yet, or what it asks next
 pub data Upshot : Type 0 where
   concludes : Conclusion → Upshot
   settles : Settlement → Upshot
   hooks_drive : Drive → Upshot
+  reads_drive : Drive → Upshot
+  boots_drive_by : Option Drive → (block : List ℕ) → Upshot
   goes_onward : Onward → Upshot
 
 -- its RESULT, if it is over
@@ -251,6 +278,8 @@ abbrev pub upshot_records : Upshot → List Out
 upshot_records (concludes c) = conclusion_records c
 upshot_records (settles x) = result x.cause ∷ []
 upshot_records (hooks_drive d) = result ok ∷ []
+upshot_records (reads_drive d) = []
+upshot_records (boots_drive_by d bytes) = result ok ∷ []
 upshot_records (goes_onward next) = []
 
 -- an open that has ended well gives what was found, unless the settings refuse it
@@ -286,8 +315,18 @@ upshot_fetched s depth wanted o (Some place) = upshot_moved (next_moved s.opens 
 abbrev pub hooked_drive : Hooking → Live → Drive
 hooked_drive hooking l = record { number = hooking.number; described = hooking.described; open_number = l.number }
 
+-- it is kept, or booted
+abbrev pub upshot_hooked : AfterHook → Drive → Upshot
+upshot_hooked after_hook.Keep d = hooks_drive d
+upshot_hooked (after_hook.Boot keep) d = reads_drive d
+
+-- the disk is booted by the block that was read; where none was, nothing comes of it
+abbrev pub upshot_read : State → Option Drive → Option (List ℕ) → Upshot
+upshot_read s d None = concludes (keeps s.images)
+upshot_read s d (Some bytes) = boots_drive_by d bytes
+
 -- What a job comes to by its answer, in this state and within so many scripts. A command that waits for a time goes on with
--- its images; one that waits for an open gets no time for an answer, and no other than one that hooks a disk gets a drive.
+-- its images; one that waits for an open gets no time for an answer, and no other than one that hooks or boots a disk gets a drive.
 abbrev pub concluded_by : State → ℕ → Job → Answer → Upshot
 concluded_by s depth (fetch wanted) (by_end o) = upshot_fetched s depth wanted o (place_moved_to o)
 concluded_by s depth takes_lease (by_end o) = settles (settled_with o.cause (leased_change o.live s.table) s.table)
@@ -296,6 +335,8 @@ concluded_by s depth (keeps_address setting) (by_end o) = settles (settled_with 
 concluded_by s depth (asks_on errand) (by_end o) = option_map_or goes_onward (next_of errand o) (settles (settled_with o.cause (Ok s.table) s.table))
 concluded_by s depth sleep (by_end o) = concludes (keeps s.images)
 concluded_by s depth (hooks hooking) (by_end o) = concludes (fails o.cause)
-concluded_by s depth (hooks hooking) (by_drive l) = hooks_drive (hooked_drive hooking l)
+concluded_by s depth (hooks hooking) (by_drive l) = upshot_hooked hooking.after (hooked_drive hooking l)
+concluded_by s depth (boots d) (by_end o) = concludes (fails o.cause)
+concluded_by s depth (boots d) (by_drive l) = upshot_read s d (read_last l)
 concluded_by s depth job (by_drive l) = concludes (keeps s.images)
 concluded_by s depth job by_time = concludes (keeps s.images)

@@ -9,7 +9,7 @@ use Rattle.nb_uri.specs.declared.target.UriTarget.{UriTarget}
 use Rattle.nb_uri.specs.declared.target.UriTarget.TheVariants.{Tftp, Http, Iscsi}
 use Rattle.nb_uri.specs.declared.target.UriError.{UriError}
 use Rattle.nb_uri.specs.Resolutions.{resolution}
-use Rattle.nb_machine.specs.Lives.{Exchange, Live}
+use Rattle.nb_machine.specs.Lives.{Live}
 use Rattle.nb_machine.specs.Connections.{Talking, came_on, connection_of, talk_of, KeepsTalk}
 
 -- the request for what a URL names

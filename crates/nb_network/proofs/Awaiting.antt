@@ -4,7 +4,6 @@ use Rattle.std.specs.Option.{option_or}
 use Rattle.std.specs.List.{AllByRecursion}
 use Rattle.std.proofs.lemmas.Bool.{eqb-true}
 use Rattle.nb_frames.specs.Frames.{is_one_of}
-use Rattle.nb_drivechains.specs.declared.drive_answer.DriveAnswer.{DriveAnswer as Told}
 use Rattle.nb_graph.specs.Whole.{Objects}
 use Rattle.nb_ledger.specs.Ledger.{object_lives, run_state}
 use Rattle.nb_ledger.specs.declared.event.Way.{Way}
@@ -27,7 +26,7 @@ use Rattle.nb_network.specs.Takes.{still_awaited}
 use Rattle.nb_network.proofs.Lists.{HasOtherNumber, all_both, all_but}
 use Rattle.nb_network.proofs.Ports.{either_test}
 use Rattle.nb_network.proofs.Traces.{own_are}
-use Rattle.nb_network.specs.Drives.{has_answered, noted}
+use Rattle.nb_network.specs.Drives.{DriveNews, has_answered, noted, read_by}
 use Rattle.nb_network.proofs.Noting.{all_noted, of_number_noted}
 
 -- one after another
@@ -48,7 +47,7 @@ lived o by records x g h call chained y live =
 
 -- IT GOES ON
 
-module _ (g h : Objects Obj) (list list' before : List Living) (o : Living) (behind : List Living) (heard : Option Told) (is : list ≡ before ++ o ∷ behind) (new : list' ≡ before ++ noted heard o ∷ behind) (back : (y : ℕ) → object_lives h.book y ≡ true → object_lives g.book y ≡ true) where
+module _ (g h : Objects Obj) (list list' before : List Living) (o : Living) (behind : List Living) (heard : DriveNews) (is : list ≡ before ++ o ∷ behind) (new : list' ≡ before ++ noted heard o ∷ behind) (back : (y : ℕ) → object_lives h.book y ≡ true → object_lives g.book y ≡ true) where
   newest_on : (c : Chain) (k : Option ℕ) → IsNewestBut k c (record { graph = g; list = list }) → IsNewestBut k c (record { graph = h; list = list' })
   newest_on c None n = λ y live. n y (back y live)
   newest_on c (Some k) n = λ y live. by y (n y (back y live))
@@ -101,7 +100,7 @@ module _ (g h : Objects Obj) (list list' : List Living) (before : List Living) (
       by (inr i) = inr i
 
   newest_by : (k : ℕ) (c : Chain) (x : Living) (e : Ended) (s : Spelling) (b : Bool) → (o.speaker.number == k) ≡ b → IsNewestBut (Some k) c (record { graph = g; list = list }) →
-      IsNewestBut (still_awaited (Some k) (cond b (Some (record { number = o.speaker.number; cause = e.cause; body = e.body; moved = e.moved; bytes = found_bytes o.objects s.bytes; address = s.address; answered = has_answered x })) None)) c (record { graph = h; list = list' })
+      IsNewestBut (still_awaited (Some k) (cond b (Some (record { number = o.speaker.number; cause = e.cause; body = e.body; moved = e.moved; bytes = found_bytes o.objects s.bytes; address = s.address; answered = has_answered x; read = read_by x })) None)) c (record { graph = h; list = list' })
   newest_by k c x e s true t n = λ y live. by y (parts k y c live n)
     where
       by : (y : ℕ) → IsOfNumber k y (before ++ behind) ⊎ (y ≤ c.top.0) → y ≤ c.top.0
@@ -110,7 +109,7 @@ module _ (g h : Objects Obj) (list list' : List Living) (before : List Living) (
   newest_by k c x e s false f n = λ y live. subst (λ os. IsOfNumber k y os ⊎ (y ≤ c.top.0)) (sym new) (parts k y c live n)
 
   tied_by : (k : ℕ) (x : Living) (e : Ended) (s : Spelling) (b : Bool) → (o.speaker.number == k) ≡ b → HasTiedOnlyOf (Some k) (record { graph = g; list = list }) →
-      HasTiedOnlyOf (still_awaited (Some k) (cond b (Some (record { number = o.speaker.number; cause = e.cause; body = e.body; moved = e.moved; bytes = found_bytes o.objects s.bytes; address = s.address; answered = has_answered x })) None)) (record { graph = h; list = list' })
+      HasTiedOnlyOf (still_awaited (Some k) (cond b (Some (record { number = o.speaker.number; cause = e.cause; body = e.body; moved = e.moved; bytes = found_bytes o.objects s.bytes; address = s.address; answered = has_answered x; read = read_by x })) None)) (record { graph = h; list = list' })
   tied_by k x e s true t n = subst (AllByRecursion IsUntied) (sym new)
       (all_both (λ p. p.speaker.number ≡ k → ⊥) (IsUntiedBut k) IsUntied (before ++ behind) (λ p d f. f d) (others_differ k (eqb-true o.speaker.number k t)) (all_but (IsUntiedBut k) before o behind (subst (AllByRecursion (IsUntiedBut k)) is n)))
   tied_by k x e s false f n = subst (AllByRecursion (IsUntiedBut k)) (sym new) (all_but (IsUntiedBut k) before o behind (subst (AllByRecursion (IsUntiedBut k)) is n))
@@ -121,10 +120,10 @@ module _ (g h : Objects Obj) (list list' : List Living) (before : List Living) (
   tied_none : HasNoneTied (record { graph = g; list = list }) → HasNoneTied (record { graph = h; list = list' })
   tied_none n = subst (AllByRecursion IsUntied) (sym new) (all_but IsUntied before o behind (subst (AllByRecursion IsUntied) is n))
 
-  pub newest_ends : (awaited : Option ℕ) (heard : Option Told) (c : Chain) (e : Ended) (s : Spelling) → GoesOnSo (λ k z. IsNewestBut k c z) awaited (answer_for awaited (noted heard o) e s) (record { graph = g; list = list }) (record { graph = h; list = list' })
+  pub newest_ends : (awaited : Option ℕ) (heard : DriveNews) (c : Chain) (e : Ended) (s : Spelling) → GoesOnSo (λ k z. IsNewestBut k c z) awaited (answer_for awaited (noted heard o) e s) (record { graph = g; list = list }) (record { graph = h; list = list' })
   newest_ends None heard c e s = (newest_none c, newest_none c)
   newest_ends (Some k) heard c e s = (newest_none c, newest_by k c (noted heard o) e s (o.speaker.number == k) refl)
 
-  pub tied_ends : (awaited : Option ℕ) (heard : Option Told) (e : Ended) (s : Spelling) → GoesOnSo HasTiedOnlyOf awaited (answer_for awaited (noted heard o) e s) (record { graph = g; list = list }) (record { graph = h; list = list' })
+  pub tied_ends : (awaited : Option ℕ) (heard : DriveNews) (e : Ended) (s : Spelling) → GoesOnSo HasTiedOnlyOf awaited (answer_for awaited (noted heard o) e s) (record { graph = g; list = list }) (record { graph = h; list = list' })
   tied_ends None heard e s = (tied_none, tied_none)
   tied_ends (Some k) heard e s = (tied_none, tied_by k (noted heard o) e s (o.speaker.number == k) refl)

@@ -1,5 +1,5 @@
--- What is kept of a drive is its login, and what it has answered.
-use Rattle.std.proofs.Common.{◌≡◌, inl, inr, ℕ, true, false, List, Option, Some, None, option_map, refl, sym, ap, ◌∙◌}
+-- What is kept of a drive is its login, and what it has answered and read.
+use Rattle.std.proofs.Common.{◌≡◌, inl, inr, ℕ, true, false, List, Option, Some, None, option_map, refl, sym, ap, ◌∙◌, subst}
 use Rattle.std.specs.Prelude.{option_and_then}
 use Rattle.std.specs.Option.{is_some}
 use Rattle.std.proofs.lemmas.Bool.{false≢true}
@@ -14,21 +14,21 @@ use Rattle.nb_stack.specs.Client.{Client}
 use Rattle.nb_webchains.specs.declared.web_chain.WebChain.{WebChain}
 use Rattle.nb_wire.specs.declared.address.Ip4.{Ip4}
 use Rattle.nb_machine.specs.BootTables.{login_of_kind}
-use Rattle.nb_machine.specs.Drives.{DriveAnswer}
-use Rattle.nb_machine.specs.Kinds.{answered, answered_by, is_connection}
+use Rattle.nb_machine.specs.Drives.{DriveAnswer, last_read}
+use Rattle.nb_machine.specs.Kinds.{answered, answered_by, is_connection, read_last}
 use Rattle.nb_machine.specs.Lives.{OpenInput, message, tcp_segment, time, task, close, OpenKind, tftp, http, iscsi, dns, dhcp, ping, Live}
 use Rattle.nb_teller.specs.Spelling.{Spelling}
 use Rattle.nb_open.specs.declared.objects.OpenObjects.{OpenObjects}
 use Rattle.nb_open.specs.declared.objects.OpenObjects.TheVariants as objects
 use Rattle.nb_open.specs.declared.open.Open.{Open}
-use Rattle.nb_open.specs.DriveAnswers.{AnswersAfter, AnswersAtEnd, AnswersFor, AnswersLast, AnswersLastTo, AnswersTo, IsRefused}
+use Rattle.nb_open.specs.DriveAnswers.{AnswersAtEnd, AnswersFor, AnswersLast, AnswersLastTo, AnswersTo, IsRefused}
 use Rattle.nb_open.specs.Exchanges.{IsInput, by_message, by_segment, with_exchange}
 use Rattle.nb_open.specs.Open.{AreOfKind, AreUnderWay, IsDriveUnderWay, IsOpenOf as IsBareOf, IsTalkingDrive, IsWebUnderWay}
 use Rattle.nb_network.specs.declared.living.KeptDrive.{KeptDrive}
 use Rattle.nb_network.specs.declared.living.Living.{Living}
-use Rattle.nb_network.specs.Drives.{drive_noted, drive_of, has_answered, heard_by, kept_of, noted}
+use Rattle.nb_network.specs.Drives.{DriveNews, brings, drive_noted, drive_of, heard_by, kept_of, noted, with_news}
 use Rattle.nb_network.specs.Many.{IsOpenOf, bare_open}
-use Rattle.nb_network.proofs.TaskAnswers.{chap_in, task_chap}
+use Rattle.nb_network.proofs.Keeping.{asked_is, brought_is, chap_in}
 
 -- THE OPEN ALONE
 
@@ -40,7 +40,7 @@ pub living_is : {g : Objects Obj} {o : Living} {l : Live} → IsBareOf g (bare_o
 living_is i drive = record { chained = i.chained; called = i.called; under_way = i.under_way; drive = drive }
 
 -- what a message is known to answer
-pub heard_input : (o : Open) (l : Live) (rec : ℕ) (a : Arrival) (now : ℕ) (came : OpenInput) (s : Spelling) → IsInput o l rec a now came → s.answer ≡ heard_by came s
+pub heard_input : (o : Open) (l : Live) (rec : ℕ) (a : Arrival) (now : ℕ) (came : OpenInput) (s : Spelling) → IsInput o l rec a now came → brings s.answer s.blocks ≡ heard_by came s
 heard_input o l rec a now came s (by_message none suits short) = refl
 heard_input o l rec a now came s (by_segment x joined suits laid) = refl
 
@@ -70,10 +70,6 @@ no_answer (dns id) l e = refl
 no_answer (dhcp a) l e = refl
 no_answer ping l e = refl
 
-none_noted : (heard : Option Told) → drive_noted heard None ≡ None
-none_noted None = refl
-none_noted (Some a) = refl
-
 pub some_chap : (a : Option DriveAnswer) → is_some (chap_in a) ≡ is_some a
 some_chap None = refl
 some_chap (Some a) = refl
@@ -90,7 +86,11 @@ drive_kind (dns id) own c g l u = absurd u
 drive_kind (dhcp a) own c g l u = absurd u
 drive_kind ping own c g l u = absurd u
 
--- WHAT IT IS HEARD TO ANSWER
+-- WHAT IS NOTED
+
+-- an open that has ended is kept so
+abbrev pub IsLastOf : Live → Option KeptDrive → Type 0
+IsLastOf after d = (is_some (answered after) ≡ is_some (option_and_then (λ (k : KeptDrive). k.chap) d)) × (read_last after ≡ option_and_then (λ (k : KeptDrive). k.read) d)
 
 -- of one of the machine's, as something comes to it
 module _ (g : Objects Obj) (l : Live) (came : OpenInput) (link : Client) (put : List Out) (s : Spelling) where
@@ -99,68 +99,62 @@ module _ (g : Objects Obj) (l : Live) (came : OpenInput) (link : Client) (put : 
 
   -- it is none of a drive
   module _ (none : login_of_kind l.kind ≡ None) where
-    none_kept : drive_of l ≡ None
-    none_kept = ap (option_map (kept_of l)) none
+    still_none : (heard : DriveNews) → drive_noted heard (drive_of l) ≡ drive_of after
+    still_none heard = ap (λ z. drive_noted heard (option_map (kept_of l) z)) none ∙ sym (ap (option_map (kept_of after)) none)
 
-    still_none : (heard : Option Told) → drive_noted heard (drive_of l) ≡ drive_of after
-    still_none heard = ap (drive_noted heard) none_kept ∙ (none_noted heard ∙ sym (ap (option_map (kept_of after)) none))
-
-    none_answered : (heard : Option Told) → is_some (answered after) ≡ is_some (option_and_then (λ (d : KeptDrive). d.chap) (drive_noted heard (drive_of l)))
-    none_answered heard = ap is_some (no_answer l.kind after none) ∙ ap (λ z. is_some (option_and_then (λ (d : KeptDrive). d.chap) z)) (sym (ap (drive_noted heard) none_kept ∙ none_noted heard))
+    none_last : (heard : DriveNews) → IsLastOf after (drive_noted heard (drive_of l))
+    none_last heard =
+        let unanswered = no_answer l.kind after none in
+        let noted_none : drive_noted heard (drive_of l) ≡ None = ap (λ z. drive_noted heard (option_map (kept_of l) z)) none in
+        subst (IsLastOf after) (sym noted_none) (ap is_some unanswered, ap (option_and_then last_read) unanswered)
 
   -- it is a drive
-  module _ (own : Ip4) (c : DriveChain) (isn : ℕ) (i : LoginInfo) (e : l.kind ≡ iscsi isn i) (t : IsTalkingDrive isn i own c g l) where
-    abbrev with_answer : Option ℕ → Option KeptDrive
-    with_answer chap = Some (record { login = i; chap = chap })
-
-    is_kept : drive_of l ≡ with_answer (chap_in (answered l))
+  module _ (isn : ℕ) (i : LoginInfo) (e : l.kind ≡ iscsi isn i) where
+    is_kept : drive_of l ≡ Some (kept_of l i)
     is_kept = ap (λ k. option_map (kept_of l) (login_of_kind k)) e
 
-    kept_then : drive_of after ≡ with_answer (chap_in (answered after))
+    kept_then : drive_of after ≡ Some (kept_of after i)
     kept_then = ap (λ k. option_map (kept_of after) (login_of_kind k)) e
 
-    noted_after : (answer : Option Told) (blocks : List ℕ) → AnswersAfter l after answer blocks → drive_noted answer (with_answer (chap_in (answered l))) ≡ with_answer (chap_in (answered after))
-    noted_after None blocks h = ap (λ a. with_answer (chap_in a)) (sym h.0)
-    noted_after (Some a) blocks h = ap (λ a. with_answer (chap_in a)) (sym h.0)
+    -- where it would go on so
+    kept_last : (heard : DriveNews) → with_news heard (kept_of l i) ≡ kept_of after i → IsLastOf after (Some (with_news heard (kept_of l i)))
+    kept_last heard same = subst (λ (d : KeptDrive). IsLastOf after (Some d)) (sym same) (sym (some_chap (answered after)), refl)
 
-    noted_last : (answer : Option Told) (blocks : List ℕ) → AnswersAtEnd l after answer blocks → is_some (answered after) ≡ is_some (option_and_then (λ (d : KeptDrive). d.chap) (drive_noted answer (with_answer (chap_in (answered l)))))
-    noted_last None blocks (inl h) = ap is_some h ∙ sym (some_chap (answered l))
-    noted_last None blocks (inr h) = not_read_some (answered after) h.1 ∙ sym (some_chap (answered l) ∙ h.0)
-    noted_last (Some a) blocks h = ap is_some h.0
+    brought_last : (answer : Option Told) (blocks : List ℕ) → AnswersAtEnd l after answer blocks → IsLastOf after (Some (with_news (brings answer blocks) (kept_of l i)))
+    brought_last None blocks (inl h, last) = (ap is_some h ∙ sym (some_chap (answered l)), last)
+    brought_last None blocks (inr h, last) = (not_read_some (answered after) h.1 ∙ sym (some_chap (answered l) ∙ h.0), last)
+    brought_last (Some a) blocks h = kept_last (brings (Some a) blocks) (brought_is i l after (Some a) blocks h)
 
-    heard_after : (input : OpenInput) → came ≡ input → AnswersTo input l after s.answer s.blocks → drive_noted (heard_by input s) (with_answer (chap_in (answered l))) ≡ with_answer (chap_in (answered after))
-    heard_after (message rec port body now) is h = noted_after s.answer s.blocks h
-    heard_after (tcp_segment rec x now) is h = noted_after s.answer s.blocks h
-    heard_after (time now) is h = noted_after s.answer s.blocks h
-    heard_after (task blocks now) is h =
-        ap with_answer (sym (ap (λ z. chap_in (answered (with_exchange l z link put))) is ∙ task_chap l isn i e blocks now link put t.stands.asked))
-    heard_after (close cause) is h = noted_after s.answer s.blocks h
+    heard_after : (input : OpenInput) → AnswersTo input l after s.answer s.blocks → with_news (heard_by input s) (kept_of l i) ≡ kept_of after i
+    heard_after (message rec port body now) h = brought_is i l after s.answer s.blocks h
+    heard_after (tcp_segment rec x now) h = brought_is i l after s.answer s.blocks h
+    heard_after (time now) h = brought_is i l after s.answer s.blocks h
+    heard_after (task t now) h = asked_is i l after t h
+    heard_after (close cause) h = brought_is i l after s.answer s.blocks h
 
-    heard_last : (input : OpenInput) → came ≡ input → AnswersLastTo input l after s.answer s.blocks → is_some (answered after) ≡ is_some (option_and_then (λ (d : KeptDrive). d.chap) (drive_noted (heard_by input s) (with_answer (chap_in (answered l)))))
-    heard_last (message rec port body now) is h = noted_last s.answer s.blocks h
-    heard_last (tcp_segment rec x now) is h = noted_last s.answer s.blocks h
-    heard_last (time now) is h = noted_last s.answer s.blocks h
-    heard_last (task blocks now) is h =
-        sym (some_chap (answered after)) ∙ ap is_some (ap (λ z. chap_in (answered (with_exchange l z link put))) is ∙ task_chap l isn i e blocks now link put t.stands.asked)
-    heard_last (close cause) is h = noted_last s.answer s.blocks h
+    heard_last : (input : OpenInput) → AnswersLastTo input l after s.answer s.blocks → IsLastOf after (Some (with_news (heard_by input s) (kept_of l i)))
+    heard_last (message rec port body now) h = brought_last s.answer s.blocks h
+    heard_last (tcp_segment rec x now) h = brought_last s.answer s.blocks h
+    heard_last (time now) h = brought_last s.answer s.blocks h
+    heard_last (task t now) h = kept_last (heard_by (task t now) s) (asked_is i l after t h)
+    heard_last (close cause) h = brought_last s.answer s.blocks h
 
   goes_on_by : (os : OpenObjects) → AreOfKind os l → AreUnderWay os g l → AnswersFor os came l after s.answer s.blocks → drive_noted (heard_by came s) (drive_of l) ≡ drive_of after
   goes_on_by (objects.Chain kind chain) called u h = still_none (no_login l.kind called.0) (heard_by came s)
   goes_on_by (objects.Web port own chain) called u h = still_none (web_login l.kind own chain g l u) (heard_by came s)
   goes_on_by (objects.Drive port own chain) called u h =
       let d = drive_kind l.kind own chain g l u in
-      ap (drive_noted (heard_by came s)) (is_kept own chain d.0 d.1 d.2 d.3) ∙ (heard_after own chain d.0 d.1 d.2 d.3 came refl h ∙ sym (kept_then own chain d.0 d.1 d.2 d.3))
+      ap (drive_noted (heard_by came s)) (is_kept d.0 d.1 d.2) ∙ (ap Some (heard_after d.0 d.1 d.2 came h) ∙ sym (kept_then d.0 d.1 d.2))
 
-  ends_by : (os : OpenObjects) → AreOfKind os l → AreUnderWay os g l → AnswersLast os came l after s.answer s.blocks → is_some (answered after) ≡ is_some (option_and_then (λ (d : KeptDrive). d.chap) (drive_noted (heard_by came s) (drive_of l)))
-  ends_by (objects.Chain kind chain) called u h = none_answered (no_login l.kind called.0) (heard_by came s)
-  ends_by (objects.Web port own chain) called u h = none_answered (web_login l.kind own chain g l u) (heard_by came s)
+  ends_by : (os : OpenObjects) → AreOfKind os l → AreUnderWay os g l → AnswersLast os came l after s.answer s.blocks → IsLastOf after (drive_noted (heard_by came s) (drive_of l))
+  ends_by (objects.Chain kind chain) called u h = none_last (no_login l.kind called.0) (heard_by came s)
+  ends_by (objects.Web port own chain) called u h = none_last (web_login l.kind own chain g l u) (heard_by came s)
   ends_by (objects.Drive port own chain) called u h =
       let d = drive_kind l.kind own chain g l u in
-      heard_last own chain d.0 d.1 d.2 d.3 came refl h
-      ∙ ap (λ z. is_some (option_and_then (λ (k : KeptDrive). k.chap) (drive_noted (heard_by came s) z))) (sym (is_kept own chain d.0 d.1 d.2 d.3))
+      subst (λ (z : Option KeptDrive). IsLastOf after (drive_noted (heard_by came s) z)) (sym (is_kept d.0 d.1 d.2)) (heard_last d.0 d.1 d.2 came h)
 
   module _ (o : Living) (is : IsOpenOf g o l) where
-    -- it goes on, with what it was known to answer
+    -- it goes on, with what is noted of it
     pub noted_is : (h : Objects Obj) → IsBareOf h (bare_open o) after → AnswersFor o.objects came l after s.answer s.blocks → IsOpenOf h (noted (heard_by came s) o) after
     noted_is h bare answers = record {
       chained = bare.chained;
@@ -169,8 +163,6 @@ module _ (g : Objects Obj) (l : Live) (came : OpenInput) (link : Client) (put : 
       drive = ap (drive_noted (heard_by came s)) is.drive ∙ goes_on_by o.objects is.called.kind is.under_way answers;
     }
 
-    -- it ends, and it is known whether it has answered
-    pub answered_last : AnswersLast o.objects came l after s.answer s.blocks → is_some (answered after) ≡ has_answered (noted (heard_by came s) o)
-    answered_last answers =
-        ends_by o.objects is.called.kind is.under_way answers
-        ∙ ap (λ z. is_some (option_and_then (λ (d : KeptDrive). d.chap) (drive_noted (heard_by came s) z))) (sym is.drive)
+    -- it ends, and it is known whether it has answered, and what it has read last
+    pub known_last : AnswersLast o.objects came l after s.answer s.blocks → IsLastOf after (noted (heard_by came s) o).drive
+    known_last answers = subst (λ (z : Option KeptDrive). IsLastOf after (drive_noted (heard_by came s) z)) (sym is.drive) (ends_by o.objects is.called.kind is.under_way answers)

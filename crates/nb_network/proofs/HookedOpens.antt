@@ -9,8 +9,8 @@ use Rattle.nb_graph.specs.Whole.{Objects}
 use Rattle.nb_login.specs.declared.info.LoginInfo.{LoginInfo}
 use Rattle.nb_nodes.specs.declared.obj.Obj.{Obj}
 use Rattle.nb_machine.specs.BootTables.{drive_open_by, drive_open_of, login_of_kind}
-use Rattle.nb_machine.specs.Drives.{DriveAnswer}
-use Rattle.nb_machine.specs.Kinds.{answered}
+use Rattle.nb_machine.specs.Drives.{DriveAnswer, last_read}
+use Rattle.nb_machine.specs.Kinds.{answered, read_last}
 use Rattle.nb_machine.specs.Lives.{Live}
 use Rattle.nb_machine.specs.Scripts.{has_number}
 use Rattle.nb_open.specs.declared.objects.OpenObjects.{OpenObjects}
@@ -19,11 +19,11 @@ use Rattle.nb_open.specs.Open.{AreOfKind, AreUnderWay}
 use Rattle.nb_teller.specs.declared.speaker.Speaker.{Speaker}
 use Rattle.nb_network.specs.declared.living.KeptDrive.{KeptDrive}
 use Rattle.nb_network.specs.declared.living.Living.{Living}
-use Rattle.nb_network.specs.Drives.{drive_of, has_answered, kept_of}
+use Rattle.nb_network.specs.Drives.{drive_of, has_answered, kept_of, read_by}
 use Rattle.nb_network.specs.Hooked.{hooked_as, hooked_by, hooked_with}
 use Rattle.nb_network.specs.Many.{AreOpensOf, IsOpenOf}
 use Rattle.nb_network.proofs.Hearing.{drive_kind, no_answer, no_login, some_chap, web_login}
-use Rattle.nb_network.proofs.TaskAnswers.{chap_in}
+use Rattle.nb_network.proofs.Keeping.{chap_in}
 
 -- ONE
 
@@ -58,6 +58,13 @@ answered_by_login l (Some i) e = ap (λ z. is_some (option_and_then (λ (d : Kep
 answers_as : (g : Objects Obj) (o : Living) (l : Live) → IsOpenOf g o l → has_answered o ≡ is_some (answered l)
 answers_as g o l is = ap (λ z. is_some (option_and_then (λ (d : KeptDrive). d.chap) z)) is.drive ∙ answered_by_login l (login_of_kind l.kind) refl
 
+read_by_login : (l : Live) (login : Option LoginInfo) → login_of_kind l.kind ≡ login → option_and_then (λ (d : KeptDrive). d.read) (drive_of l) ≡ read_last l
+read_by_login l None e = ap (λ z. option_and_then (λ (d : KeptDrive). d.read) (option_map (kept_of l) z)) e ∙ sym (ap (option_and_then last_read) (no_answer l.kind l e))
+read_by_login l (Some i) e = ap (λ z. option_and_then (λ (d : KeptDrive). d.read) (option_map (kept_of l) z)) e
+
+reads_as : (g : Objects Obj) (o : Living) (l : Live) → IsOpenOf g o l → read_by o ≡ read_last l
+reads_as g o l is = ap (option_and_then (λ (d : KeptDrive). d.read)) is.drive ∙ read_by_login l (login_of_kind l.kind) refl
+
 -- ALL
 
 pub hooked_are : (g : Objects Obj) (os : List Living) (ls : List Live) → AreOpensOf g os ls → filter_map hooked_by os ≡ filter_map drive_open_of ls
@@ -83,4 +90,18 @@ found_answered k g (o ∷ os) (l ∷ ls) are = ap (λ z. has_some_answered (cond
     on : (z : Bool) → has_some_answered (find (λ (p : Living). p.speaker.number == k) os) ≡ is_some (option_and_then answered (find (has_number k) ls))
         → has_some_answered (cond z (Some o) (find (λ (p : Living). p.speaker.number == k) os)) ≡ is_some (option_and_then answered (cond z (Some l) (find (has_number k) ls)))
     on true e = answers_as g o l are.0
+    on false e = e
+
+pub found_read : (k : ℕ) (g : Objects Obj) (os : List Living) (ls : List Live) → AreOpensOf g os ls → option_and_then read_by (find (λ o. o.speaker.number == k) os) ≡ option_and_then read_last (find (has_number k) ls)
+found_read k g [] [] are = refl
+found_read k g [] (l ∷ ls) are = absurd are
+found_read k g (o ∷ os) [] are = absurd are
+found_read k g (o ∷ os) (l ∷ ls) are = ap (λ z. option_and_then read_by (cond z (Some o) (find (λ (p : Living). p.speaker.number == k) os))) here ∙ on (l.number == k) (found_read k g os ls are.1)
+  where
+    here : (o.speaker.number == k) ≡ (l.number == k)
+    here = ap (λ n. n == k) (sym are.0.called.number)
+
+    on : (z : Bool) → option_and_then read_by (find (λ (p : Living). p.speaker.number == k) os) ≡ option_and_then read_last (find (has_number k) ls)
+        → option_and_then read_by (cond z (Some o) (find (λ (p : Living). p.speaker.number == k) os)) ≡ option_and_then read_last (cond z (Some l) (find (has_number k) ls))
+    on true e = reads_as g o l are.0
     on false e = e

@@ -1,5 +1,5 @@
 pub mod Lists
-pub mod TaskAnswers
+pub mod Keeping
 pub mod Hearing
 pub mod Noting
 pub mod DriveBegins

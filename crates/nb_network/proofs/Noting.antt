@@ -1,16 +1,15 @@
 -- With what it is known to answer an open stands among the others as before.
-use Rattle.std.proofs.Common.{◌≡◌, inl, inr, ℕ, ◌+◌, ◌≤◌, List, [], ◌∷◌, ◌++◌, map, Option, sym, ◌∙◌, ap, arith}
+use Rattle.std.proofs.Common.{◌≡◌, inl, inr, ℕ, ◌+◌, ◌≤◌, List, [], ◌∷◌, ◌++◌, map, sym, ◌∙◌, ap, arith}
 use Rattle.std.specs.List.{AllByRecursion, sum_by}
 use Rattle.std.proofs.lemmas.List.{map-append}
 use Rattle.std.proofs.lemmas.List.Sums.{sum_by-append, sum_by-cons}
-use Rattle.nb_drivechains.specs.declared.drive_answer.DriveAnswer.{DriveAnswer as Told}
 use Rattle.nb_open.specs.Objects.{objects_ids}
 use Rattle.nb_network.specs.declared.living.Living.{Living}
-use Rattle.nb_network.specs.Drives.{noted}
+use Rattle.nb_network.specs.Drives.{DriveNews, noted}
 use Rattle.nb_network.specs.Many.{AreApart, AreRising, HasOwnPort, IsApartFrom, IsOfNumber, lease_count_of}
 use Rattle.nb_network.proofs.Lists.{all_append, all_back, all_front}
 
-module _ (heard : Option Told) where
+module _ (heard : DriveNews) where
   pub all_noted : (P : Living → Type 0) (before : List Living) (o : Living) (behind : List Living) → (P o → P (noted heard o)) → AllByRecursion P (before ++ o ∷ behind) → AllByRecursion P (before ++ noted heard o ∷ behind)
   all_noted P before o behind f h =
       let back = all_back P before (o ∷ behind) h in all_append P before (noted heard o ∷ behind) (all_front P before (o ∷ behind) h) (f back.0, back.1)

@@ -7,14 +7,13 @@ use Rattle.std.proofs.lemmas.List.Edits.{remove-append_right}
 use Rattle.std.proofs.lemmas.Bool.{eqb-true, eqb-false}
 use Rattle.nb_network.specs.declared.living.Living.{Living}
 use Rattle.nb_record.specs.Logged.{Logged}
-use Rattle.nb_drivechains.specs.declared.drive_answer.DriveAnswer.{DriveAnswer as Told}
 use Rattle.nb_stack.specs.Client.{Client}
 use Rattle.nb_teller.specs.Spelling.{Spelling}
 use Rattle.nb_open.specs.declared.ended.Ended.{Ended}
 use Rattle.nb_network.specs.declared.over.HasEnded.{HasEnded}
 use Rattle.nb_network.specs.Steps.{EndIsSettled, IsOpenAt, left_by, place_after}
 use Rattle.nb_network.proofs.Lists.{all_at}
-use Rattle.nb_network.specs.Drives.{noted}
+use Rattle.nb_network.specs.Drives.{DriveNews, noted}
 
 pub stands_at : (list : List Living) (i : ℕ) (d : Living) → i < length list → IsOpenAt list i (get_or list i d)
 stands_at list i d h = record {
@@ -59,19 +58,19 @@ pub some_at : (list : List Living) (i : ℕ) → i < length list → (o : Living
 some_at [] i h = absurd (omega (arith, h))
 some_at (x ∷ xs) i h = (get_or (x ∷ xs) i x, stands_at (x ∷ xs) i x h)
 
-pub settled_list : (end : Option Ended) (before : List Living) (o : Living) (behind : List Living) (net : Client) (begun awaited : Option ℕ) (heard : Option Told) (s : Spelling) (list' : List Living) (net' : Client) (answer : Option HasEnded) (old new : Logged) →
+pub settled_list : (end : Option Ended) (before : List Living) (o : Living) (behind : List Living) (net : Client) (begun awaited : Option ℕ) (heard : DriveNews) (s : Spelling) (list' : List Living) (net' : Client) (answer : Option HasEnded) (old new : Logged) →
     EndIsSettled end before o behind net begun awaited heard s list' net' answer old new → list' ≡ before ++ (left_by end heard o ++ behind)
 settled_list None before o behind net begun awaited heard s list' net' answer old new h = h.0
 settled_list (Some e) before o behind net begun awaited heard s list' net' answer old new h = h.0
 
 -- fewer are left from the next place on
-pub steps_down : (end : Option Ended) (heard : Option Told) (list list1 : List Living) (place : ℕ) (o : Living) (at : IsOpenAt list place o) → list1 ≡ at.before ++ (left_by end heard o ++ at.behind) → (length list1 - place_after end place < length list - place) × (place_after end place ≤ length list1)
+pub steps_down : (end : Option Ended) (heard : DriveNews) (list list1 : List Living) (place : ℕ) (o : Living) (at : IsOpenAt list place o) → list1 ≡ at.before ++ (left_by end heard o ++ at.behind) → (length list1 - place_after end place < length list - place) × (place_after end place ≤ length list1)
 steps_down None heard list list1 place o at e =
     let a = ap length e in let b = length-append at.before (noted heard o ∷ at.behind) in let c = length-append at.before (o ∷ at.behind) in let d = ap length at.all in let p = at.place_is in (omega (arith, a, b, c, d, p), omega (arith, a, b, c, d, p))
 steps_down (Some x) heard list list1 place o at e =
     let a = ap length e in let b = length-append at.before at.behind in let f = length-append at.before (o ∷ at.behind) in let d = ap length at.all in let p = at.place_is in (omega (arith, a, b, f, d, p), omega (arith, a, b, f, d, p))
 
-pub place_grows : (end : Option Ended) (heard : Option Told) (o : Living) (done : List Living) (place : ℕ) → length done ≡ place → length (done ++ left_by end heard o) ≡ place_after end place
+pub place_grows : (end : Option Ended) (heard : DriveNews) (o : Living) (done : List Living) (place : ℕ) → length done ≡ place → length (done ++ left_by end heard o) ≡ place_after end place
 place_grows None heard o done place e = let a = length-append done (noted heard o ∷ []) in omega (arith, a, e)
 place_grows (Some x) heard o done place e = let a = length-append {A = Living} done [] in omega (arith, a, e)
 

@@ -1,11 +1,9 @@
 -- Something comes to one of the opens that live: what it is to the machine, to the output, and to all others.
 use Rattle.std.proofs.Common.{◌≡◌, ℕ, ◌≤◌, ◌==◌, ◌||◌, true, false, cond, List, [], ◌∷◌, ◌++◌, map, Option, Some, None, refl, sym, ◌∙◌, ap, subst, append-nil, arith, eq-eqb}
 use Rattle.std.specs.Prelude.{slice_get}
-use Rattle.std.specs.Option.{is_some}
 use Rattle.std.specs.List.{AllByRecursion, sum_by}
 use Rattle.std.proofs.lemmas.Grind.{flat_map-append}
 use Rattle.nb_defs.specs.Records.{Out, out_text, out_texts, ended}
-use Rattle.nb_drivechains.specs.declared.drive_answer.DriveAnswer.{DriveAnswer as Told}
 use Rattle.nb_defs.specs.Causes.{is_ok_cause}
 use Rattle.nb_frames.specs.Frames.{KeepsOthers, is_one_of}
 use Rattle.nb_graph.specs.Noded.{AreNoded}
@@ -21,7 +19,6 @@ use Rattle.nb_stack.specs.Bound.{without}
 use Rattle.nb_stack.specs.Client.{Client}
 use Rattle.nb_stack.specs.declared.ports.Port.{Port}
 use Rattle.nb_machine.specs.Lives.{OpenInput, Live, exchange, continued}
-use Rattle.nb_machine.specs.Kinds.{answered}
 use Rattle.nb_machine.specs.States.{bare, net0}
 use Rattle.nb_machine.specs.Takings.{Over, AllTake, all_have, lives_on, is_over}
 use Rattle.nb_chains.specs.declared.chain.Chain.{Chain}
@@ -46,8 +43,8 @@ use Rattle.nb_network.proofs.Lists.{HasOtherNumber, all_append, all_at, all_back
 use Rattle.nb_network.proofs.Ports.{either_test, freed_port, stands_alone}
 use Rattle.nb_network.proofs.Staying.{open_stays, waits_on}
 use Rattle.nb_network.proofs.Traces.{begins_entry, came_by, traces_end, traces_on}
-use Rattle.nb_network.specs.Drives.{has_answered, heard_by, noted}
-use Rattle.nb_network.proofs.Hearing.{answered_last, noted_is}
+use Rattle.nb_network.specs.Drives.{DriveNews, has_answered, heard_by, noted, read_by}
+use Rattle.nb_network.proofs.Hearing.{IsLastOf, known_last, noted_is}
 use Rattle.nb_network.proofs.Noting.{all_noted, apart_noted, leases_noted, map_noted, port_noted, rising_noted}
 
 -- WHAT IT GIVES
@@ -62,7 +59,7 @@ begins_some n o None records g h call more = tt
 begins_some n o (Some way) records g h call more = begins_entry o.speaker.number (own_serials (kin_of o)) (lowest_of (own_serials (kin_of o))) way records (run_state g.book []) (run_state h.book []) call more
 
 -- of this open of the machine
-pub record OneGives (m : Many) (net : Client) (opens : ℕ) (before : List Living) (o : Living) (behind : List Living) (l : Live) (came : OpenInput) (way : Option Way) (begun : Option ℕ) (awaited : Option ℕ) (end : Option Ended) (heard : Option Told) (answer : Option HasEnded) (m' : Many) (old new : Logged) : Type 0 where
+pub record OneGives (m : Many) (net : Client) (opens : ℕ) (before : List Living) (o : Living) (behind : List Living) (l : Live) (came : OpenInput) (way : Option Way) (begun : Option ℕ) (awaited : Option ℕ) (end : Option Ended) (heard : DriveNews) (answer : Option HasEnded) (m' : Many) (old new : Logged) : Type 0 where
   pub records : List Out
   pub puts : Puts old new (out_texts (step_records begun ++ records))
   pub after : List Live
@@ -81,8 +78,8 @@ answer_none (Some k) = refl
 pub answers_none : (awaited : Option ℕ) (answer : Option HasEnded) → answer ≡ None → AnswersBy answer (awaited_over awaited [])
 answers_none awaited answer e = subst (λ z. AnswersBy z (awaited_over awaited [])) (sym e) (subst (AnswersBy None) (sym (answer_none awaited)) tt)
 
-pub is_end : (o : Living) (l : Live) (e : Ended) (s : Spelling) → l.number ≡ o.speaker.number → (is_ok_cause e.cause ≡ true → HandsOut (bare_open o) l e s) → IsLeaseMessage (found_bytes o.objects s.bytes) → is_some (answered l) ≡ has_answered o →
-    IsEndOf (record { number = o.speaker.number; cause = e.cause; body = e.body; moved = e.moved; bytes = found_bytes o.objects s.bytes; address = s.address; answered = has_answered o }) (record { live = l; cause = e.cause })
+pub is_end : (o : Living) (l : Live) (e : Ended) (s : Spelling) → l.number ≡ o.speaker.number → (is_ok_cause e.cause ≡ true → HandsOut (bare_open o) l e s) → IsLeaseMessage (found_bytes o.objects s.bytes) → IsLastOf l o.drive →
+    IsEndOf (record { number = o.speaker.number; cause = e.cause; body = e.body; moved = e.moved; bytes = found_bytes o.objects s.bytes; address = s.address; answered = has_answered o; read = read_by o }) (record { live = l; cause = e.cause })
 is_end o l e s same hands message answers = record {
   number = same;
   cause = refl;
@@ -91,16 +88,17 @@ is_end o l e s same hands message answers = record {
   bytes = λ ok. (hands ok).bytes;
   address = λ ok. (hands ok).address;
   message = message;
-  answered = answers;
+  answered = answers.0;
+  read = answers.1;
 }
 
-answers_one : (awaited : Option ℕ) (o : Living) (l : Live) (e : Ended) (s : Spelling) → l.number ≡ o.speaker.number → (is_ok_cause e.cause ≡ true → HandsOut (bare_open o) l e s) → IsLeaseMessage (found_bytes o.objects s.bytes) → is_some (answered l) ≡ has_answered o →
+answers_one : (awaited : Option ℕ) (o : Living) (l : Live) (e : Ended) (s : Spelling) → l.number ≡ o.speaker.number → (is_ok_cause e.cause ≡ true → HandsOut (bare_open o) l e s) → IsLeaseMessage (found_bytes o.objects s.bytes) → IsLastOf l o.drive →
     AnswersBy (answer_for awaited o e s) (awaited_over awaited (record { live = l; cause = e.cause } ∷ []))
 answers_one None o l e s same hands message answers = tt
 answers_one (Some k) o l e s same hands message answers =
     let number = o.speaker.number in
     let over : Over = record { live = l; cause = e.cause } in
-    let found : HasEnded = record { number = number; cause = e.cause; body = e.body; moved = e.moved; bytes = found_bytes o.objects s.bytes; address = s.address; answered = has_answered o } in
+    let found : HasEnded = record { number = number; cause = e.cause; body = e.body; moved = e.moved; bytes = found_bytes o.objects s.bytes; address = s.address; answered = has_answered o; read = read_by o } in
     subst (λ b. AnswersBy (answer_for (Some k) o e s) (cond b (Some over) None)) (sym (ap (λ z. z == k) same))
     (either_test {P = AnswersBy (cond (number == k) (Some found) None) (cond (number == k) (Some over) None)} (number == k)
     (λ t. subst (λ b. AnswersBy (cond b (Some found) None) (cond b (Some over) None)) (sym t) (is_end o l e s same hands message answers))
@@ -113,7 +111,7 @@ pub texts_more : (xs ys : List Out) → out_texts (xs ++ ys) ≡ out_texts xs ++
 texts_more xs ys = flat_map-append out_text xs ys
 
 module _ (suits : Live → Type 0) (came : OpenInput) (way : Option Way) (begun : Option ℕ) (m : Many) (net : Client) (opens : ℕ) (before : List Living) (o : Living) (behind : List Living) (awaited : Option ℕ) (m' : Many) (old new : Logged) (is : m.list ≡ before ++ o ∷ behind) where
-  gives_on : (told : Spelling) (heard : Option Told) (answer : Option HasEnded) (net' : Client) → heard ≡ heard_by came told → EndIsSettled None before o behind net begun awaited heard told m'.list net' answer old new →
+  gives_on : (told : Spelling) (heard : DriveNews) (answer : Option HasEnded) (net' : Client) → heard ≡ heard_by came told → EndIsSettled None before o behind net begun awaited heard told m'.list net' answer old new →
       (l : Live) → IsOpenOf m.graph o l → Exchanges (bare_open o) l came (bare net) way m.graph m'.graph told None → OneGives m net opens before o behind l came way begun awaited None heard answer m' old new
   gives_on told heard answer net' hears s l i x =
       let put = without_graph x.records in
@@ -132,7 +130,7 @@ module _ (suits : Live → Type 0) (came : OpenInput) (way : Option Way) (begun 
         first = λ n. subst (BeginsBySome (came_by n o.speaker.number way)) (append-nil x.records) (begins_some n o way x.records m.graph m'.graph x.does.call []);
       }
 
-  gives_last : (e : Ended) (told : Spelling) (heard : Option Told) (answer : Option HasEnded) (net' : Client) → heard ≡ heard_by came told → EndIsSettled (Some e) before o behind net begun awaited heard told m'.list net' answer old new →
+  gives_last : (e : Ended) (told : Spelling) (heard : DriveNews) (answer : Option HasEnded) (net' : Client) → heard ≡ heard_by came told → EndIsSettled (Some e) before o behind net begun awaited heard told m'.list net' answer old new →
       (l : Live) → IsOpenOf m.graph o l → Exchanges (bare_open o) l came (bare net) way m.graph m'.graph told (Some e) → OneGives m net opens before o behind l came way begun awaited (Some e) heard answer m' old new
   gives_last e told heard answer net' hears s l i x =
       let k = o.speaker.number in
@@ -141,7 +139,7 @@ module _ (suits : Live → Type 0) (came : OpenInput) (way : Option Way) (begun 
       let same : put ≡ without_graph all = ap (λ z. without_graph x.records ++ (ended z e.cause ∷ [])) i.called.number ∙ sym (plain_append x.records (ended k e.cause ∷ [])) in
       let after = continued l (exchange came (bare net) put) in
       let over : Over = record { live = after; cause = e.cause } in
-      let known : is_some (answered after) ≡ has_answered (noted heard o) = answered_last m.graph l came (bare net) put told o i (x.answers (bare net) put) ∙ ap (λ z. has_answered (noted z o)) (sym hears) in
+      let known : IsLastOf after (noted heard o).drive = subst (λ z. IsLastOf after (noted z o).drive) (sym hears) (known_last m.graph l came (bare net) put told o i (x.answers (bare net) put)) in
       record {
         records = all;
         puts = subst (Puts old new) (ap (λ z. out_texts (step_records begun) ++ (z ++ out_texts (ended k e.cause ∷ []))) x.text
@@ -157,7 +155,7 @@ module _ (suits : Live → Type 0) (came : OpenInput) (way : Option Way) (begun 
         first = λ n. begins_some n o way x.records m.graph m'.graph x.does.call (ended k e.cause ∷ []);
       }
 
-  gives_by : (end : Option Ended) (told : Spelling) (heard : Option Told) (answer : Option HasEnded) (net' : Client) → heard ≡ heard_by came told → EndIsSettled end before o behind net begun awaited heard told m'.list net' answer old new →
+  gives_by : (end : Option Ended) (told : Spelling) (heard : DriveNews) (answer : Option HasEnded) (net' : Client) → heard ≡ heard_by came told → EndIsSettled end before o behind net begun awaited heard told m'.list net' answer old new →
       (l : Live) → IsOpenOf m.graph o l → Exchanges (bare_open o) l came (bare net) way m.graph m'.graph told end → OneGives m net opens before o behind l came way begun awaited end heard answer m' old new
   gives_by None told heard answer net' hears s l i x = gives_on told heard answer net' hears s l i x
   gives_by (Some e) told heard answer net' hears s l i x = gives_last e told heard answer net' hears s l i x
@@ -211,7 +209,7 @@ module _ (m : Many) (net : Client) (w opens : ℕ) (before : List Living) (o : L
   lives_as : AllByRecursion (LivesSome m.graph) (before ++ o ∷ behind)
   lives_as = subst (AllByRecursion (LivesSome m.graph)) is sound.lives
 
-  pub leaves_on : (heard : Option Told) → m'.list ≡ before ++ noted heard o ∷ behind → net' ≡ net → LivesSome m'.graph (noted heard o) → LeavesAll m net w opens o m' net'
+  pub leaves_on : (heard : DriveNews) → m'.list ≡ before ++ noted heard o ∷ behind → net' ≡ net → LivesSome m'.graph (noted heard o) → LeavesAll m net w opens o m' net'
   leaves_on heard new same lives =
       record {
         sound = record {
@@ -261,7 +259,7 @@ module _ (m : Many) (net : Client) (w opens : ℕ) (before : List Living) (o : L
       }
 
 module _ (suits : Live → Type 0) (came : OpenInput) (way : Option Way) (begun : Option ℕ) (m : Many) (net : Client) (w opens : ℕ) (before : List Living) (o : Living) (behind : List Living) (awaited : Option ℕ) (m' : Many) (net' : Client) (old new : Logged) (is : m.list ≡ before ++ o ∷ behind) (noded : AreNoded rank_of_obj m'.graph) (sound : AreSound w opens net m) where
-  leaves_by : (end : Option Ended) (told : Spelling) (heard : Option Told) (answer : Option HasEnded) → heard ≡ heard_by came told → EndIsSettled end before o behind net begun awaited heard told m'.list net' answer old new →
+  leaves_by : (end : Option Ended) (told : Spelling) (heard : DriveNews) (answer : Option HasEnded) → heard ≡ heard_by came told → EndIsSettled end before o behind net begun awaited heard told m'.list net' answer old new →
       (l : Live) → IsOpenOf m.graph o l → Exchanges (bare_open o) l came net way m.graph m'.graph told end → LeavesAll m net w opens o m' net'
   leaves_by None told heard answer hears s l i x =
       let put = without_graph x.records in
@@ -283,7 +281,7 @@ pub record AwaitsOn (m : Many) (awaited : Option ℕ) (answer : Option HasEnded)
   pub newest : (c : Chain) → GoesOnSo (λ k z. IsNewestBut k c z) awaited answer m m'
 
 module _ (suits : Live → Type 0) (came : OpenInput) (way : Option Way) (begun : Option ℕ) (m : Many) (net : Client) (w opens : ℕ) (before : List Living) (o : Living) (behind : List Living) (awaited : Option ℕ) (m' : Many) (net' : Client) (old new : Logged) (is : m.list ≡ before ++ o ∷ behind) (sound : AreSound w opens net m) where
-  awaits_by : (end : Option Ended) (told : Spelling) (heard : Option Told) (answer : Option HasEnded) → EndIsSettled end before o behind net begun awaited heard told m'.list net' answer old new →
+  awaits_by : (end : Option Ended) (told : Spelling) (heard : DriveNews) (answer : Option HasEnded) → EndIsSettled end before o behind net begun awaited heard told m'.list net' answer old new →
       (l : Live) → IsOpenOf m.graph o l → Exchanges (bare_open o) l came net way m.graph m'.graph told end → AwaitsOn m awaited answer m'
   awaits_by None told heard answer s l i x =
       let back = lived o way x.records (lowest_of (own_serials (kin_of o))) m.graph m'.graph x.does.call i.chained in

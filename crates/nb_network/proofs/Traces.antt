@@ -4,7 +4,6 @@ use Rattle.std.specs.List.{AllByRecursion}
 use Rattle.std.proofs.lemmas.List.{map-append}
 use Rattle.std.proofs.lemmas.List.Sums.{fold-append}
 use Rattle.nb_defs.specs.Records.{Out, step, sent, ended, graph}
-use Rattle.nb_drivechains.specs.declared.drive_answer.DriveAnswer.{DriveAnswer as Told}
 use Rattle.nb_terms.specs.declared.cause.Cause.{Cause}
 use Rattle.nb_ledger.specs.declared.event.Way.{Way}
 use Rattle.nb_ledger.specs.declared.event.GraphEvent.TheVariants.{Entered}
@@ -29,7 +28,7 @@ use Rattle.nb_open.specs.Open.{objects_pieces, pieces_below, pieces_of}
 use Rattle.nb_network.specs.Many.{FitsHoldings, Many, kin_of}
 use Rattle.nb_network.specs.Steps.{TracesAt}
 use Rattle.nb_network.specs.Takes.{TracesOn, arrival}
-use Rattle.nb_network.specs.Drives.{noted}
+use Rattle.nb_network.specs.Drives.{DriveNews, noted}
 
 -- THE LAST STEP
 
@@ -90,7 +89,7 @@ arrived_is outs n k None e = refl
 arrived_is outs n k (Some way) e = ap (λ z. arrival k way z ∷ []) e
 
 -- an open goes on
-pub traces_on : (heard : Option Told) (n : ℕ) (m : Many) (opens : ℕ) (before : List Living) (o : Living) (behind : List Living) (way : Option Way) (records : List Out) (m' : Many) →
+pub traces_on : (heard : DriveNews) (n : ℕ) (m : Many) (opens : ℕ) (before : List Living) (o : Living) (behind : List Living) (way : Option Way) (records : List Out) (m' : Many) →
     m.list ≡ before ++ o ∷ behind → m'.list ≡ before ++ noted heard o ∷ behind → CallsOpen (kin_of o) way records (run_state m.graph.book []) (run_state m'.graph.book []) →
     first_close_of (own_serials (kin_of o)) records ≡ None → TracesAt n m opens records (came_by n o.speaker.number way) m' opens
 traces_on heard n m opens before o behind way records m' is new call none = λ waits outs h so_far last traced fits.

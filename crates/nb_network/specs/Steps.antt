@@ -33,8 +33,7 @@ use Rattle.nb_network.specs.Takes.{AnswersBy, BeginsWithEntry, KeepsWaiting, Tra
 use Rattle.nb_graph.specs.Noded.{AreNoded}
 use Rattle.nb_nodes.specs.Objects.{rank_of_obj}
 use Rattle.nb_terms.specs.declared.cause.Cause.{Cause}
-use Rattle.nb_drivechains.specs.declared.drive_answer.DriveAnswer.{DriveAnswer as Told}
-use Rattle.nb_network.specs.Drives.{has_answered, heard_by, noted}
+use Rattle.nb_network.specs.Drives.{DriveNews, has_answered, heard_by, noted, read_by}
 use Rattle.nb_network.specs.declared.over.HasEnded.{HasEnded}
 
 -- records that are no step, from which the output goes on so
@@ -55,7 +54,7 @@ abbrev pub answer_for : Option ℕ → Living → Ended → Spelling → Option 
 answer_for None o e s = None
 answer_for (Some k) o e s =
     if o.speaker.number == k
-    then Some (record { number = o.speaker.number; cause = e.cause; body = e.body; moved = e.moved; bytes = found_bytes o.objects s.bytes; address = s.address; answered = has_answered o })
+    then Some (record { number = o.speaker.number; cause = e.cause; body = e.body; moved = e.moved; bytes = found_bytes o.objects s.bytes; address = s.address; answered = has_answered o; read = read_by o })
     else None
 
 -- the STEP, where one begins
@@ -67,8 +66,8 @@ step_records (Some n) = step n ∷ []
 abbrev pub GoesOnSo : (Option ℕ → Many → Type 0) → Option ℕ → Option HasEnded → Many → Many → Type 0
 GoesOnSo says awaited answer m m' = (says None m → says None m') × (says awaited m → says (still_awaited awaited answer) m')
 
--- what is left of an open that was known to answer this
-abbrev pub left_by : Option Ended → Option Told → Living → List Living
+-- what is left of an open of which this is noted
+abbrev pub left_by : Option Ended → DriveNews → Living → List Living
 left_by None heard o = noted heard o ∷ []
 left_by (Some e) heard o = []
 
@@ -81,19 +80,23 @@ place_after (Some e) place = place
 abbrev pub freed_of : Client → Living → Client
 freed_of net o = record net { ports = without (carrier_number o.speaker.carrier) o.speaker.own_port net.ports }
 
--- What was told of the open is put. Where it has ended, its end follows, it is taken from the list, and its port is free.
-abbrev pub EndIsSettled : Option Ended → List Living → Living → List Living → Client → Option ℕ → Option ℕ → Option Told → Spelling → List Living → Client → Option HasEnded → Logged → Logged → Type 0
+-- An open has ended: what was told of it is put, and its end, it is taken from the list, and its port is free.
+abbrev pub EndIsPut : Ended → List Living → Living → List Living → Client → Option ℕ → Option ℕ → Spelling → List Living → Client → Option HasEnded → Logged → Logged → Type 0
+EndIsPut e before o behind net begun awaited s list' net' answer old new =
+    (list' ≡ before ++ behind) × (net' ≡ freed_of net o) × (answer ≡ answer_for awaited o e s)
+    × Puts old new (out_texts (step_records begun) ++ (s.text ++ out_texts (ended o.speaker.number e.cause ∷ [])))
+
+-- What was told of an open of which this is noted is put; so is its end, where it has ended.
+abbrev pub EndIsSettled : Option Ended → List Living → Living → List Living → Client → Option ℕ → Option ℕ → DriveNews → Spelling → List Living → Client → Option HasEnded → Logged → Logged → Type 0
 EndIsSettled None before o behind net begun awaited heard s list' net' answer old new =
     (list' ≡ before ++ (noted heard o ∷ behind)) × (net' ≡ net) × (answer ≡ None) × Puts old new (out_texts (step_records begun) ++ s.text)
-EndIsSettled (Some e) before o behind net begun awaited heard s list' net' answer old new =
-    (list' ≡ before ++ behind) × (net' ≡ freed_of net o) × (answer ≡ answer_for awaited (noted heard o) e s)
-    × Puts old new (out_texts (step_records begun) ++ (s.text ++ out_texts (ended o.speaker.number e.cause ∷ [])))
+EndIsSettled (Some e) before o behind net begun awaited heard s list' net' answer old new = EndIsPut e before (noted heard o) behind net begun awaited s list' net' answer old new
 
 -- Something comes to this open by this way, or from above, among the others, and what is told of it is put.
 pub record ComesAt (suits : Live → Type 0) (came : OpenInput) (way : Option Way) (begun : Option ℕ) (m : Many) (net : Client) (before : List Living) (o : Living) (behind : List Living) (awaited : Option ℕ) (ended : Option Ended) (answer : Option HasEnded) (m' : Many) (net' : Client) (old new : Logged) : Type 0 where
   pub told : Spelling
   pub does : (l : Live) → IsOpenOf m.graph o l → suits l → Exchanges (bare_open o) l came net way m.graph m'.graph told ended
-  pub heard : Option Told
+  pub heard : DriveNews
   pub heard_is : (l : Live) → suits l → heard ≡ heard_by came told
   pub settles : EndIsSettled ended before o behind net begun awaited heard told m'.list net' answer old new
   pub noded : AreNoded rank_of_obj m'.graph

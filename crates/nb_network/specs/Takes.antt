@@ -20,7 +20,7 @@ use Rattle.nb_stack.specs.Client.{Client}
 use Rattle.nb_stack.specs.Brings.{Brought, datagram, echo_reply, segment, Brings}
 use Rattle.nb_machine.specs.Lives.{Live}
 use Rattle.std.specs.Option.{is_some}
-use Rattle.nb_machine.specs.Kinds.{answered, fetched, granted, is_for, is_reply_for, is_segment_for, moved, resolved}
+use Rattle.nb_machine.specs.Kinds.{answered, fetched, granted, is_for, is_reply_for, is_segment_for, moved, read_last, resolved}
 use Rattle.nb_machine.specs.Network.{IsFrameOn, Network, is_for_one}
 use Rattle.nb_machine.specs.Scripts.{is_number}
 use Rattle.nb_machine.specs.States.{State}
@@ -39,7 +39,7 @@ awaited_over None overs = None
 awaited_over (Some k) overs = find (is_number k) overs
 
 -- what has ended is this open of the machine's, with its cause; where it ended well, what it has fetched or found was handed out; and whether it has
--- answered as a drive
+-- answered as a drive, and what it has read last
 pub record IsEndOf (e : HasEnded) (o : Over) : Type 0 where
   pub number : o.live.number ≡ e.number
   pub cause : o.cause ≡ e.cause
@@ -49,6 +49,7 @@ pub record IsEndOf (e : HasEnded) (o : Over) : Type 0 where
   pub address : is_ok_cause e.cause ≡ true → resolved o.live ≡ e.address
   pub message : IsLeaseMessage e.bytes
   pub answered : is_some (answered o.live) ≡ e.answered
+  pub read : read_last o.live ≡ e.read
 
 abbrev pub AnswersBy : Option HasEnded → Option Over → Type 0
 AnswersBy None None = Unit {0}

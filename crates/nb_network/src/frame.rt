@@ -138,8 +138,8 @@ impl Opens {
         let open = self.list[place].bare();
         let (ended, desk) = open.receive(alloc, &mut self.graph, net, rec, arrival, now, desk)?;
         self.graph.has_nodes();
-        let (begun, heard) = (Some(rec), desk.told.answer());
-        let found = self.settle(alloc, net, place, begun, ended, awaited, heard, &desk, log)?;
+        let begun = Some(rec);
+        let found = self.settle(alloc, net, place, begun, ended, awaited, None, &desk, log)?;
         Ok((found, desk))
     }
 }

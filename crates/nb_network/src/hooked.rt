@@ -1,11 +1,11 @@
-//! The opens of drives, as a boot table has them.
+//! What drives have answered and read, and their opens as a boot table has them.
 
-ghost use Rattle.std.specs.Prelude.{◌≡◌, ◌∷◌, ◌++◌, [], ℕ, IfOk, OnOk, find, map, filter_map};
+ghost use Rattle.std.specs.Prelude.{◌≡◌, ◌∷◌, ◌++◌, [], ℕ, IfOk, OnOk, find, map, filter_map, option_copied, option_map};
 ghost use Rattle.std.specs.Option.{is_some, option_and_then};
 ghost use Rattle.nb_drivelogin.specs.DriveInfos.{LoginsFit};
 ghost use Rattle.nb_drivelogin.specs.DriveOpens.{drive_open};
 ghost use Rattle.nb_machine.specs.BootTables.{drive_open_of};
-ghost use Rattle.nb_machine.specs.Kinds.{answered};
+ghost use Rattle.nb_machine.specs.Kinds.{answered, read_last};
 ghost use Rattle.nb_machine.specs.Scripts.{has_number};
 ghost use Rattle.nb_machine.specs.States.{State};
 ghost use Rattle.nb_network.specs.Hooked.{hooked_by};
@@ -15,6 +15,7 @@ ghost use Rattle.nb_stack.specs.Client.{Client};
 use crate::{Living, Opens};
 use nb_drivelogin::HookedOpen;
 use nb_terms::NoMemory;
+use nb_wire::Text;
 use std::alloc::Global;
 
 impl Opens {
@@ -29,6 +30,17 @@ impl Opens {
         }
     }
 
+    /// The bytes of the blocks that the open of this number has read last, if all of them have come.
+    pub fn read(&self, number: u16) -> Option<&[u8]>
+        ensures { (net : Client) (now : ℕ) (s : State) → IsStateOf self.now net now s
+            → option_map (λ bytes. bytes.now) result ≡ option_and_then read_last (find (has_number number) s.live) }
+    {
+        match self.list.iter().find(|o| o.speaker.number == number) {
+            Some(living) => bytes_of(living.read()),
+            None => None,
+        }
+    }
+
     /// The opens of the drives, by rising number, as a boot table may have them.
     pub fn drive_opens(&self, alloc: Global) -> Result<Vec<HookedOpen<'_>>, NoMemory>
         ensures opens { IfOk result (λ opens. (net : Client) (now : ℕ) (s : State) → IsStateOf self.now net now s
@@ -36,6 +48,16 @@ impl Opens {
         ensures fits { IfOk result (λ opens. LoginsFit (map drive_open opens.items)) }
     {
         hooked_among(alloc, self.list.as_slice())
+    }
+}
+
+/// The bytes of this text, if there is one.
+fn bytes_of(text: Option<&Text>) -> Option<&[u8]>
+    ensures { option_map (λ bytes. bytes.now) result ≡ option_copied text.entry }
+{
+    match text {
+        Some(text) => Some(text.as_slice()),
+        None => None,
     }
 }
 

@@ -1,24 +1,29 @@
 //! An open that lives, with what is kept of a drive.
 
-ghost use Rattle.std.specs.Prelude.{◌≡◌, true, option_map, IfOk, IfSome};
+ghost use Rattle.std.specs.Prelude.{◌≡◌, ◌++◌, true, option_copied, option_map, IfOk, IfSome, OnOk};
+ghost use Rattle.std.specs.Option.{is_some};
 ghost use Rattle.nb_drivelogin.specs.DriveLogins.{FitsTable};
 ghost use Rattle.nb_drivelogin.specs.DriveOpens.{drive_open};
 ghost use Rattle.nb_ibft.specs.Infos.{IsShortText};
-ghost use Rattle.nb_network.specs.Drives.{drive_by, has_answered, noted, with_chap};
+ghost use Rattle.nb_network.specs.Drives.{brings, drive_by, has_answered, heard_of, noted, read_by, with_news, with_read};
 ghost use Rattle.nb_network.specs.Hooked.{hooked_by, hooked_with};
 ghost use Rattle.nb_network.specs.Many.{bare_open};
+ghost use Rattle.nb_open.specs.DriveAnswers.{would_take};
 
 use nb_drivechains::DriveAnswer;
 use nb_drivelogin::HookedOpen;
 use nb_login::LoginInfo;
 use nb_open::{Open, OpenObjects, Opening};
-use nb_teller::Speaker;
+use nb_teller::{Speaker, Spelled};
 use nb_terms::NoMemory;
 use nb_wire::Text;
 use std::alloc::Global;
 
 /// The most bytes of a login's text in a boot table.
 const MOST_TEXT: usize = 1088;
+
+/// The most blocks that are asked of a drive at once.
+const MOST_BLOCKS: u16 = 64;
 
 /// What is kept of a drive that lives.
 #[derive(Drop)]
@@ -27,6 +32,19 @@ pub struct KeptDrive {
     pub login: LoginInfo,
     /// Which kind of CHAP that used (RFC 1994), once the drive has answered.
     pub chap: Option<u32>,
+    /// How many blocks the disk has, likewise.
+    pub capacity: Option<u32>,
+    /// The bytes that have come of the read at work, if one is.
+    pub coming: Option<Text>,
+    /// The bytes of the read that it took last, once all of them have come.
+    pub read: Option<Text>,
+}
+
+/// So many blocks of a drive, from this one on, are asked for.
+#[derive(Clone, Copy, Debug)]
+pub(crate) struct BlocksAsked {
+    pub(crate) block: u32,
+    pub(crate) count: u16,
 }
 
 /// An open that lives.
@@ -75,24 +93,29 @@ impl Living {
         }
     }
 
-    /// Keeps what it is known to answer.
-    #[inline(always)]
-    pub(crate) fn note(&mut self, heard: Option<DriveAnswer>)
-        ensures { self.new ≡ noted heard self.old }
+    /// What it has read last as a drive.
+    pub(crate) fn read(&self) -> Option<&Text>
+        ensures { option_copied result ≡ read_by self.now }
     {
-        if let Some(answer) = heard {
-            self.keep(answer.chap);
+        match &self.drive {
+            Some(drive) => drive.read.as_ref(),
+            None => None,
         }
     }
 
-    /// Keeps which kind of CHAP its login used, where it is a drive's.
-    fn keep(&mut self, chap: u32)
-        ensures speaker { self.new.speaker ≡ self.old.speaker }
-        ensures objects { self.new.objects ≡ self.old.objects }
-        ensures drive { self.new.drive ≡ option_map (with_chap chap) self.old.drive }
+    /// Notes what was told of a drive, or that this is asked of it. An error where memory runs out.
+    #[inline(always)]
+    pub(crate) fn note(
+        &mut self,
+        alloc: Global,
+        asked: Option<BlocksAsked>,
+        told: &Spelled,
+    ) -> Result<(), NoMemory>
+        ensures { OnOk result (self.new ≡ noted (heard_of asked told.now) self.old) }
     {
-        if let Some(drive) = &mut self.drive {
-            drive.chap = Some(chap);
+        match &mut self.drive {
+            Some(drive) => drive.note(alloc, asked, told),
+            None => Ok(()),
         }
     }
 
@@ -109,6 +132,78 @@ impl Living {
             None => Ok(None),
         }
     }
+}
+
+impl KeptDrive {
+    /// Notes what was told of it, or that this is asked of it.
+    fn note(
+        &mut self,
+        alloc: Global,
+        asked: Option<BlocksAsked>,
+        told: &Spelled,
+    ) -> Result<(), NoMemory>
+        ensures { OnOk result (self.new ≡ with_news (heard_of asked told.now) self.old) }
+    {
+        match asked {
+            Some(asked) => {
+                self.ask(alloc, asked);
+                Ok(())
+            }
+            None => self.keep(told.answer(), told.blocks()),
+        }
+    }
+
+    /// Keeps these bytes of the read at work, and what was answered after them.
+    fn keep(&mut self, answer: Option<DriveAnswer>, blocks: &[u8]) -> Result<(), NoMemory>
+        ensures { OnOk result (self.new ≡ with_news (brings answer blocks.now) self.old) }
+    {
+        let bytes = with_blocks(self.coming.take(), blocks)?;
+        match answer {
+            Some(answer) => {
+                self.chap = Some(answer.chap);
+                self.capacity = Some(answer.blocks);
+                self.read = bytes;
+            }
+            None => self.coming = bytes,
+        }
+        Ok(())
+    }
+
+    /// This read is at work, if the drive takes it.
+    fn ask(&mut self, alloc: Global, asked: BlocksAsked)
+        ensures { self.new ≡ with_read (record { lba = asked.block; blocks = asked.count }) self.old }
+    {
+        if self.takes(asked) {
+            self.coming = Some(Text::from_vec(Vec::new(alloc)));
+            self.read = None;
+        }
+    }
+
+    /// Whether the drive takes this read: within the disk, while none is at work.
+    fn takes(&self, asked: BlocksAsked) -> bool
+        ensures { result ≡ would_take (is_some self.now.coming) (record { lba = asked.block; blocks = asked.count }) self.now.capacity }
+    {
+        match self.capacity {
+            Some(capacity) => {
+                let end = u64::from(asked.block) + u64::from(asked.count);
+                (0 < asked.count && asked.count <= MOST_BLOCKS)
+                    && (end <= u64::from(capacity) && self.coming.is_none())
+            }
+            None => false,
+        }
+    }
+}
+
+/// These bytes, if there are any, with more of them.
+fn with_blocks(bytes: Option<Text>, blocks: &[u8]) -> Result<Option<Text>, NoMemory>
+    ensures { IfOk result (λ all. all ≡ option_map (λ b. b ++ blocks.now) bytes) }
+{
+    let Some(text) = bytes else {
+        return Ok(None);
+    };
+    let mut all = text.into_vec();
+    all.extend_from_slice(blocks)?;
+    Ok(Some(Text::from_vec(all)))
 }
 
 /// What a boot table may say of a drive that this speaks for, at this port of its target.
@@ -163,6 +258,9 @@ fn kept(alloc: Global, opening: &Opening<'_>) -> Result<Option<KeptDrive>, NoMem
         Opening::Drive(drive) => Ok(Some(KeptDrive {
             login: drive.ask.info(alloc)?,
             chap: None,
+            capacity: None,
+            coming: None,
+            read: None,
         })),
         Opening::File(_)
         | Opening::Web(_)

@@ -11,6 +11,7 @@ ghost use Rattle.nb_open.specs.declared.ended.Ended.{Ended as TheEnded};
 ghost use Rattle.nb_network.specs.declared.living.Living.{Living as TheLiving};
 ghost use Rattle.nb_open.specs.Objects.{AreDriveObjects};
 
+use crate::living::BlocksAsked;
 use crate::{KeptEnd, Opens};
 use nb_record::Log;
 use nb_stack::Stack;
@@ -92,7 +93,8 @@ impl Opens {
         let (ended, desk) = open.ask(alloc, &mut self.graph, net, rec, block, count, now, desk)?;
         self.graph.has_nodes();
         // What it answers to that comes later.
-        let found = self.settle(alloc, net, place, None, ended, awaited, None, &desk, log)?;
+        let asked = Some(BlocksAsked { block, count });
+        let found = self.settle(alloc, net, place, None, ended, awaited, asked, &desk, log)?;
         Ok((found, desk))
     }
 

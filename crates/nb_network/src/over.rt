@@ -23,6 +23,8 @@ pub struct HasEnded {
     pub address: Option<Ip4>,
     /// It is a drive that has answered.
     pub answered: bool,
+    /// The bytes of the blocks that it has read last as a drive (RFC 7143), if all of them have come.
+    pub read: Option<Text>,
 }
 
 /// The same at one place of memory, where it stays: moving it moves its address alone.

@@ -1,12 +1,13 @@
 ghost use Rattle.std.specs.Prelude.{◌≡◌, ◌<◌, ℕ, List, ◌∷◌, ◌++◌, [], length, option_copied, Some, IfOk, OnErr};
 ghost use Rattle.nb_defs.specs.Records.{out_texts, ended};
-ghost use Rattle.nb_network.specs.Steps.{EndIsSettled, IsOpenAt, answer_for, freed_of, step_records};
+ghost use Rattle.nb_network.specs.Drives.{heard_of};
+ghost use Rattle.nb_network.specs.Steps.{EndIsPut, EndIsSettled, IsOpenAt, answer_for, freed_of, step_records};
 ghost use Rattle.nb_open.specs.DriveAnswers.{found_bytes};
 ghost use Rattle.nb_network.specs.declared.living.Living.{Living as TheLiving};
 ghost use Rattle.nb_record.specs.Logged.{Puts};
 
+use crate::living::BlocksAsked;
 use crate::{HasEnded, KeptEnd, Living, Opens};
-use nb_drivechains::DriveAnswer;
 use nb_open::{Ended, KeptEnded, OpenObjects};
 use nb_record::Log;
 use nb_runner::copy;
@@ -17,9 +18,9 @@ use nb_wire::Text;
 use std::alloc::Global;
 
 impl Opens {
-    /// Puts what was told of the open at this place, which is known to answer this, after the STEP of this record, if it
-    /// begins one. Where the open has ended, its end is put too, it is taken from the list, and its port is freed. Returns
-    /// what it has found, if it is awaited.
+    /// Puts what was told of the open at this place, of which this is asked or else that is noted, after the STEP of this
+    /// record, if it begins one. Where the open has ended, its end is put too, it is taken from the list, and its port is
+    /// freed. Returns what it has found, if it is awaited.
     #[inline(always)]
     pub(crate) fn settle(
         &mut self,
@@ -29,20 +30,20 @@ impl Opens {
         begun: Option<u32>,
         ended: Option<KeptEnded>,
         awaited: Option<u16>,
-        heard: Option<DriveAnswer>,
+        asked: Option<BlocksAsked>,
         desk: &Desk,
         log: &mut Log,
     ) -> Result<Option<KeptEnd>, NoMemory>
         requires place { place < length self.old.list }
         ensures graph { self.new.graph ≡ self.old.graph }
         ensures settles { IfOk result (λ answer. (o : TheLiving) → (at : IsOpenAt self.old.list place o) → EndIsSettled ended at.before o at.behind
-            net.old begun awaited heard desk.now.told.value self.new.list net.new answer log.old log.new) }
+            net.old begun awaited (heard_of asked desk.now.told.value) desk.now.told.value self.new.list net.new answer log.old log.new) }
         ensures nothing { OnErr result (log.new ≡ log.old) }
         ensures mac { net.new.mac ≡ net.old.mac }
         ensures address { net.new.address ≡ net.old.address }
         ensures up { net.new.up ≡ net.old.up }
     {
-        self.list[place].note(heard);
+        self.list[place].note(alloc, asked, &desk.told)?;
         match ended {
             Some(ended) => self.end(alloc, net, place, begun, ended, awaited, desk, log),
             None => {
@@ -68,8 +69,8 @@ impl Opens {
     ) -> Result<Option<KeptEnd>, NoMemory>
         requires place { place < length self.old.list }
         ensures graph { self.new.graph ≡ self.old.graph }
-        ensures settles { IfOk result (λ answer. (o : TheLiving) → (at : IsOpenAt self.old.list place o) → EndIsSettled (Some ended) at.before o
-            at.behind net.old begun awaited None desk.now.told.value self.new.list net.new answer log.old log.new) }
+        ensures settles { IfOk result (λ answer. (o : TheLiving) → (at : IsOpenAt self.old.list place o) → EndIsPut ended at.before o
+            at.behind net.old begun awaited desk.now.told.value self.new.list net.new answer log.old log.new) }
         ensures nothing { OnErr result (log.new ≡ log.old) }
         ensures mac { net.new.mac ≡ net.old.mac }
         ensures address { net.new.address ≡ net.old.address }
@@ -121,6 +122,7 @@ fn found_by(
                 bytes,
                 address,
                 answered: finished.has_answered(),
+                read: copied(alloc, finished.read())?,
             };
             let kept = KeptEnd::of(alloc, found)?;
             Ok(Some(kept))

@@ -109,9 +109,8 @@ impl Opens {
         let (ended, desk) = open.pass_time(alloc, &mut self.graph, net, now, desk)?;
         self.graph.has_nodes();
         let next = next_place(&ended, place);
-        let heard = desk.told.answer();
         let found = self.settle(
-            alloc, net, place, None, ended, awaited, heard, &desk, gathered,
+            alloc, net, place, None, ended, awaited, None, &desk, gathered,
         )?;
         Ok((found, next, desk))
     }

@@ -57,10 +57,10 @@ did s n r put after over (brings_segment _ _ _ link from p g before behind rest 
 did s n r put after over (passes_time ms rest _ _ all) = by_time ms rest refl all refl
 
 -- of a list, the one that takes it is one: the first of its kind stands at one place
-record SamePlace (xs xs' : List Live) (l l' : Live) (ys ys' : List Live) : Type 0 where
-  front : xs ≡ xs'
-  here : l ≡ l'
-  back : ys ≡ ys'
+pub record SamePlace (xs xs' : List Live) (l l' : Live) (ys ys' : List Live) : Type 0 where
+  pub front : xs ≡ xs'
+  pub here : l ≡ l'
+  pub back : ys ≡ ys'
 
 either_no : (a b : Bool) → (a || b) ≡ false → a ≡ true → ⊥
 either_no true b e f = cc
@@ -70,7 +70,7 @@ second_no : (a b : Bool) → (a || b) ≡ false → b ≡ false
 second_no true b e = absurd (cc)
 second_no false b e = e
 
-one_place : (p : Live → Bool) (xs xs' ys ys' : List Live) (l l' : Live) → xs ++ l ∷ ys ≡ xs' ++ l' ∷ ys' → p l ≡ true → p l' ≡ true → list_any p xs ≡ false → list_any p xs' ≡ false → SamePlace xs xs' l l' ys ys'
+pub one_place : (p : Live → Bool) (xs xs' ys ys' : List Live) (l l' : Live) → xs ++ l ∷ ys ≡ xs' ++ l' ∷ ys' → p l ≡ true → p l' ≡ true → list_any p xs ≡ false → list_any p xs' ≡ false → SamePlace xs xs' l l' ys ys'
 one_place p [] [] ys ys' l l' e t t' n n' = record { front = refl; here = cc; back = cc }
 one_place p [] (x ∷ xs') ys ys' l l' e t t' n n' = let same : l ≡ x = cc in absurd (either_no (p x) (list_any p xs') n' (subst (λ z. p z ≡ true) same t))
 one_place p (x ∷ xs) [] ys ys' l l' e t t' n n' = let same : x ≡ l' = cc in absurd (either_no (p x) (list_any p xs) n (subst (λ z. p z ≡ true) (sym same) t'))
@@ -109,9 +109,9 @@ pub record SameStep (put put' : List Out) (s s' : State) (over over' : List Over
   pub ended : over ≡ over'
 
 -- one of some has ended nothing where all have
-one_unended : (xs ys : List Live) (l : Live) → AllByRecursion IsUnended (xs ++ l ∷ ys) → IsUnended l
-one_unended [] ys l n = n.0
-one_unended (x ∷ xs) ys l n = one_unended xs ys l n.1
+pub other_unended : (xs ys : List Live) (l : Live) → AllByRecursion IsUnended (xs ++ l ∷ ys) → IsUnended l
+other_unended [] ys l n = n.0
+other_unended (x ∷ xs) ys l n = other_unended xs ys l n.1
 
 with_one : (s : State) (n : ℕ) (link : Client) (m : Brought) (put put' : List Out) (after after' : State) (over over' : List Over) → AllByRecursion IsUnended s.live → DidWith s n link m put after over → DidWith s n link m put' after' over' →
     SameStep put put' after after' over over'
@@ -120,7 +120,7 @@ with_one s n link m put put' after after' over over' u (was_passed none p a o) (
 with_one s n link m put put' after after' over over' u (was_taken before behind rest l lives takes first all a) (was_passed none p' a' o') = absurd (not_both m s.live before behind l none lives takes)
 with_one s n link m put put' after after' over over' u (was_taken before behind rest l lives takes first all a) (was_taken before' behind' rest' l' lives' takes' first' all' a') =
     let k = one_place (takes_it m) before before' behind behind' l l' (sym lives ∙ lives') takes takes' first first' in
-    let t = all_take_one s.devices (input_of n s.now m) (l ∷ []) put put' rest rest' over over' (one_unended before behind l (subst (AllByRecursion IsUnended) lives u), tt) all
+    let t = all_take_one s.devices (input_of n s.now m) (l ∷ []) put put' rest rest' over over' (other_unended before behind l (subst (AllByRecursion IsUnended) lives u), tt) all
     (subst (λ z. AllTake s.devices (input_of n s.now m) (z ∷ []) put' rest' over') (sym k.here) all') in
     record {
       records = t.records;
@@ -163,7 +163,7 @@ network_not_off s n r put after over x e = go (did s n r put after over x)
     go (by_time ms rest f all a) = let no : tick ms ≡ off = sym f ∙ e in cc
 
 -- all of three parts, of which the middle one is another now
-replaced : (xs ys zs : List Live) (l : Live) → AllByRecursion IsUnended (xs ++ l ∷ ys) → AllByRecursion IsUnended zs → AllByRecursion IsUnended (xs ++ zs ++ ys)
+pub replaced : (xs ys zs : List Live) (l : Live) → AllByRecursion IsUnended (xs ++ l ∷ ys) → AllByRecursion IsUnended zs → AllByRecursion IsUnended (xs ++ zs ++ ys)
 replaced [] ys zs l n m = joined zs ys m n.1
   where
     joined : (vs bs : List Live) → AllByRecursion IsUnended vs → AllByRecursion IsUnended bs → AllByRecursion IsUnended (vs ++ bs)
@@ -175,7 +175,7 @@ with_unended : (s : State) (n : ℕ) (link : Client) (m : Brought) (put : List O
 with_unended s n link m put after over u (was_passed none p a o) = subst (λ (z : State). AllByRecursion IsUnended z.live) (sym a) u
 with_unended s n link m put after over u (was_taken before behind rest l lives takes first all a) =
     let each = subst (AllByRecursion IsUnended) lives u in
-    subst (λ (z : State). AllByRecursion IsUnended z.live) (sym a) (replaced before behind rest l each (all_take_unended s.devices (input_of n s.now m) (l ∷ []) put rest over (one_unended before behind l each, tt) all))
+    subst (λ (z : State). AllByRecursion IsUnended z.live) (sym a) (replaced before behind rest l each (all_take_unended s.devices (input_of n s.now m) (l ∷ []) put rest over (other_unended before behind l each, tt) all))
 
 pub network_unended : (s : State) (n : ℕ) (r : In) (put : List Out) (after : State) (over : List Over) → AllByRecursion IsUnended s.live → Network s n r put after over → AllByRecursion IsUnended after.live
 network_unended s n r put after over u x = go (did s n r put after over x)

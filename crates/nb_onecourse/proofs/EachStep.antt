@@ -12,12 +12,14 @@ use Rattle.nb_machine.specs.Lives.{close}
 use Rattle.nb_machine.specs.States.{State, state_at_start, with_images, with_live}
 use Rattle.nb_machine.specs.Takings.{Over, AllTake}
 use Rattle.nb_machine.specs.Network.{Network}
-use Rattle.nb_machine.specs.Scripts.{Waiting, waiting_anew, Answer, answer_in, Upshot, concludes, settles, goes_onward, upshot_records, concluded_by, hooks_drive}
+use Rattle.nb_machine.specs.Scripts.{Waiting, waiting_anew, Answer, answer_in, Upshot, concludes, settles, goes_onward, upshot_records, concluded_by, hooks_drive, reads_drive, boots_drive_by}
 use Rattle.nb_machine.specs.Courses.{Standing, ready, running, waiting, reaching, yielded, handing, left, handed_off, stopped, Progress, stands, ScriptLeads, ConclusionLeads, LeadsTo, StepBegins, runs, refuses, waits_on, is_answered, switches_off, resumes, goes_off}
 use Rattle.nb_onecourse.specs.Answers.{AreUnended, StandsUnended}
 use Rattle.nb_onecourse.proofs.EachTakes.{all_take_one}
 use Rattle.nb_onecourse.proofs.EachRecord.{network_one, network_not_off, network_unended}
 use Rattle.nb_onecourse.proofs.Nexts.{still, what_next}
+use Rattle.nb_onecourse.proofs.Numbered.{IsNumbered, StandsNumbered, network_numbered}
+use Rattle.nb_onecourse.proofs.OneBlock.{reads_one}
 use Rattle.nb_onecourse.proofs.OneNext.{SameMove}
 
 -- a first step
@@ -120,27 +122,31 @@ conclusion_one s inner outer (fails cause) put put' p p' u h g = record { record
 conclusion_one s inner outer (boots list kernel) put put' p p' u (over, all, h) (over', all', g) =
     record { records = (all_take_one s.devices (close stopped_cause) s.live put put' [] [] over over' u all all').records; standing = h ∙ sym g }
 
-lead_one : (s : State) (inner : Running) (outer : List Running) (x : Upshot) (put put' : List Out) (p p' : Standing) → AreUnended s.live → LeadsTo s inner outer x put p → LeadsTo s inner outer x put' p' → SameLead put put' p p'
-lead_one s inner outer (concludes c) put put' p p' u h g = conclusion_one s inner outer c put put' p p' u h g
-lead_one s inner outer (settles x) put put' p p' u h g = record { records = h.0 ∙ sym g.0; standing = h.1 ∙ sym g.1 }
-lead_one s inner outer (hooks_drive d) put put' p p' u h g = record { records = h.0 ∙ sym g.0; standing = h.1 ∙ sym g.1 }
-lead_one s inner outer (goes_onward next) put put' p p' u h g = record { records = h.0 ∙ sym g.0; standing = h.1 ∙ sym g.1 }
+lead_one : (s : State) (inner : Running) (outer : List Running) (x : Upshot) (put put' : List Out) (p p' : Standing) → AreUnended s.live → IsNumbered s → LeadsTo s inner outer x put p → LeadsTo s inner outer x put' p' → SameLead put put' p p'
+lead_one s inner outer (concludes c) put put' p p' u r h g = conclusion_one s inner outer c put put' p p' u h g
+lead_one s inner outer (settles x) put put' p p' u r h g = record { records = h.0 ∙ sym g.0; standing = h.1 ∙ sym g.1 }
+lead_one s inner outer (hooks_drive d) put put' p p' u r h g = record { records = h.0 ∙ sym g.0; standing = h.1 ∙ sym g.1 }
+lead_one s inner outer (reads_drive d) put put' p p' u r h g =
+    let k = reads_one s inner outer d.open_number (Some d) put put' p p' u r h g in record { records = k.records; standing = k.standing }
+lead_one s inner outer (boots_drive_by d bytes) put put' p p' u r (over, all, h) (over', all', g) =
+    record { records = (all_take_one s.devices (close stopped_cause) s.live put put' [] [] over over' u all all').records; standing = h ∙ sym g }
+lead_one s inner outer (goes_onward next) put put' p p' u r h g = record { records = h.0 ∙ sym g.0; standing = h.1 ∙ sym g.1 }
 
-answered_one : (n : ℕ) (s : State) (w : Waiting) (put a b : List Out) (m m' : Progress) (x : Option Answer) → AreUnended s.live → Answered n s w put a m x → Answered n s w put b m' x → SameMove a b m m'
-answered_one n s w put a b m m' x u (with_none ea em) (with_none eb en) = record { records = ea ∙ sym eb; places = em ∙ sym en }
-answered_one n s w put a b m m' x u (with_it y more p leads ea em) (with_it y' more' p' leads' eb en) =
-    let k = lead_one s (anew w.script) w.outer (concluded_by s w.script.depth w.job y) more more' p p' u leads leads' in
+answered_one : (n : ℕ) (s : State) (w : Waiting) (put a b : List Out) (m m' : Progress) (x : Option Answer) → AreUnended s.live → IsNumbered s → Answered n s w put a m x → Answered n s w put b m' x → SameMove a b m m'
+answered_one n s w put a b m m' x u r (with_none ea em) (with_none eb en) = record { records = ea ∙ sym eb; places = em ∙ sym en }
+answered_one n s w put a b m m' x u r (with_it y more p leads ea em) (with_it y' more' p' leads' eb en) =
+    let k = lead_one s (anew w.script) w.outer (concluded_by s w.script.depth w.job y) more more' p p' u r leads leads' in
     record { records = ea ∙ ap (λ z. step (n + 1) ∷ put ++ upshot_records (concluded_by s w.script.depth w.job y) ++ z) k.records ∙ sym eb; places = em ∙ ap (stands (n + 1)) k.standing ∙ sym en }
 
-waiting_one : (n : ℕ) (s : State) (w : Waiting) (r : In) (a b : List Out) (m m' : Progress) → AreUnended s.live → AtWaiting n s w r a m → AtWaiting n s w r b m' → SameMove a b m m'
-waiting_one n s w r a b m m' u (by_network s1 put over acts x) (by_off put' over' is all eb en) = absurd (network_not_off s (n + 1) r put s1 over acts is)
-waiting_one n s w r a b m m' u (by_off put over is all ea em) (by_network s1 put' over' acts x) = absurd (network_not_off s (n + 1) r put' s1 over' acts is)
-waiting_one n s w r a b m m' u (by_off put over is all ea em) (by_off put' over' is' all' eb en) =
+waiting_one : (n : ℕ) (s : State) (w : Waiting) (r : In) (a b : List Out) (m m' : Progress) → AreUnended s.live → IsNumbered s → AtWaiting n s w r a m → AtWaiting n s w r b m' → SameMove a b m m'
+waiting_one n s w r a b m m' u f (by_network s1 put over acts x) (by_off put' over' is all eb en) = absurd (network_not_off s (n + 1) r put s1 over acts is)
+waiting_one n s w r a b m m' u f (by_off put over is all ea em) (by_network s1 put' over' acts x) = absurd (network_not_off s (n + 1) r put' s1 over' acts is)
+waiting_one n s w r a b m m' u f (by_off put over is all ea em) (by_off put' over' is' all' eb en) =
     record { records = ea ∙ ap (λ z. step (n + 1) ∷ z) (all_take_one s.devices (close stopped_cause) s.live put put' [] [] over over' u all all').records ∙ sym eb; places = em ∙ sym en }
-waiting_one n s w r a b m m' u (by_network s1 put over acts x) (by_network s2 put' over' acts' x') =
+waiting_one n s w r a b m m' u f (by_network s1 put over acts x) (by_network s2 put' over' acts' x') =
     let k = network_one s (n + 1) r put put' s1 s2 over over' u acts acts' in
     let y = subst (λ z. Answered n s1 w put b m' (answer_in s1 r z w.awaited)) (sym k.ended) (subst (λ z. Answered n z w put b m' (answer_in z r over' w.awaited)) (sym k.state) (subst (λ z. Answered n s2 w z b m' (answer_in s2 r over' w.awaited)) (sym k.records) x')) in
-    answered_one n s1 w put a b m m' (answer_in s1 r over w.awaited) (network_unended s (n + 1) r put s1 over u acts) x y
+    answered_one n s1 w put a b m m' (answer_in s1 r over w.awaited) (network_unended s (n + 1) r put s1 over u acts) (network_numbered s (n + 1) r put s1 over f acts) x y
 
 yielded_one : (n : ℕ) (s : State) (inner : Running) (outer : List Running) (r : In) (a b : List Out) (m m' : Progress) → AreUnended s.live → AtYielded n s inner outer r a m → AtYielded n s inner outer r b m' → SameMove a b m m'
 yielded_one n s inner outer r a b m m' u (by_any s1 put over acts ea em) (by_its_off put' over' is all eb en) = absurd (network_not_off s (n + 1) r put s1 over acts is)
@@ -151,16 +157,16 @@ yielded_one n s inner outer r a b m m' u (by_any s1 put over acts ea em) (by_any
     let k = network_one s (n + 1) r put put' s1 s2 over over' u acts acts' in
     record { records = ea ∙ ap (λ z. step (n + 1) ∷ z) k.records ∙ sym eb; places = em ∙ ap (λ z. stands (n + 1) (running z (anew inner) outer)) k.state ∙ sym en }
 
-at_one : (p : Standing) (n : ℕ) (r : In) (a b : List Out) (m m' : Progress) → StandsUnended p → BeginsAt p n r a m → BeginsAt p n r b m' → SameMove a b m m'
-at_one ready n r a b m m' u h g = first_one n r a b m m' h g
-at_one (running s inner outer) n r a b m m' u h g = absurd h
-at_one (waiting s w) n r a b m m' u h g = waiting_one n s w r a b m m' u h g
-at_one (reaching s inner outer next) n r a b m m' u h g = absurd h
-at_one (yielded s inner outer) n r a b m m' u h g = yielded_one n s inner outer r a b m m' u h g
-at_one (handing s rest) n r a b m m' u h g = absurd h
-at_one (left s outer cause) n r a b m m' u h g = absurd h
-at_one (handed_off s) n r a b m m' u h g = absurd h
-at_one (stopped s) n r a b m m' u h g = absurd h
+at_one : (p : Standing) (n : ℕ) (r : In) (a b : List Out) (m m' : Progress) → StandsUnended p → StandsNumbered p → BeginsAt p n r a m → BeginsAt p n r b m' → SameMove a b m m'
+at_one ready n r a b m m' u f h g = first_one n r a b m m' h g
+at_one (running s inner outer) n r a b m m' u f h g = absurd h
+at_one (waiting s w) n r a b m m' u f h g = waiting_one n s w r a b m m' u f h g
+at_one (reaching s inner outer next) n r a b m m' u f h g = absurd h
+at_one (yielded s inner outer) n r a b m m' u f h g = yielded_one n s inner outer r a b m m' u h g
+at_one (handing s rest) n r a b m m' u f h g = absurd h
+at_one (left s outer cause) n r a b m m' u f h g = absurd h
+at_one (handed_off s) n r a b m m' u f h g = absurd h
+at_one (stopped s) n r a b m m' u f h g = absurd h
 
-pub begins_one : (m : Progress) (r : In) (a b : List Out) (m1 m2 : Progress) → StandsUnended m.standing → StepBegins m r a m1 → StepBegins m r b m2 → SameMove a b m1 m2
-begins_one m r a b m1 m2 u x y = at_one m.standing m.used r a b m1 m2 u (begins_at m r a m1 x) (begins_at m r b m2 y)
+pub begins_one : (m : Progress) (r : In) (a b : List Out) (m1 m2 : Progress) → StandsUnended m.standing → StandsNumbered m.standing → StepBegins m r a m1 → StepBegins m r b m2 → SameMove a b m1 m2
+begins_one m r a b m1 m2 u f x y = at_one m.standing m.used r a b m1 m2 u f (begins_at m r a m1 x) (begins_at m r b m2 y)

@@ -33,17 +33,20 @@ use Rattle.nb_imagecmd.specs.Moving.{moved_file}
 use Rattle.nb_imagecmd.specs.CarryingOut.{image_effect}
 use Rattle.nb_imagecmd.specs.Executing.{ImageAnswer, script_of, taken_from, script_taken}
 use Rattle.nb_machine.specs.Conclusions.{Conclusion, keeps, tells, fails, boots, runs_script, file_conclusion, conclusion}
-use Rattle.nb_machine.specs.Effects.{Effect, says, asks, goes, sleeps, shuts_device, inquires, on_images, on_drives, hooks_disk, unhooks_drive, concludes_at_once, Surroundings, taken_effect, image_outcome_effect, image_answer_effect, settled_effect, effect_in, next_moved, effect, expanded_effect, expansion, words_effect, planned_effect, plan_effect, device_effect, unless_full, table_after, up_after, refusal_effect, drive_answer_effect}
+use Rattle.nb_machine.specs.Effects.{Effect, says, asks, goes, sleeps, shuts_device, inquires, on_images, on_drives, hooks_disk, unhooks_drive, boots_drive, concludes_at_once, Surroundings, taken_effect, image_outcome_effect, image_answer_effect, settled_effect, effect_in, next_moved, effect, expanded_effect, expansion, words_effect, planned_effect, plan_effect, device_effect, unless_full, table_after, up_after, refusal_effect, drive_answer_effect}
 use Rattle.nb_machine.specs.Queries.{for_lease}
 use Rattle.nb_machine.specs.Errands.{Wanted, Onward}
 use Rattle.nb_machine.specs.Findings.{Settlement}
-use Rattle.nb_machine.specs.Kinds.{fetched}
+use Rattle.nb_machine.specs.Kinds.{fetched, read_last}
 use Rattle.nb_machine.specs.Running.{Running}
 use Rattle.nb_machine.specs.States.{State}
 use Rattle.nb_machine.specs.Takings.{Over}
-use Rattle.nb_machine.specs.Scripts.{Doing, ends, opens, goes_to, waits_until, shuts, concludes_now, surroundings, doing, doing_by, Job, fetch, takes_lease, hears_echo, keeps_address, asks_on, sleep, Answer, by_end, by_time, Upshot, concludes, settles, goes_onward, next_of, place_moved_to, upshot_moved, upshot_fetched, concluded_by, hooks_one, lets_go, hooks, by_drive, hooks_drive}
+use Rattle.nb_machine.specs.Scripts.{Doing, ends, opens, goes_to, waits_until, shuts, concludes_now, surroundings, doing, doing_by, Job, fetch, takes_lease, hears_echo, keeps_address, asks_on, sleep, Answer, by_end, by_time, Upshot, concludes, settles, goes_onward, next_of, place_moved_to, upshot_moved, upshot_fetched, concluded_by, hooks_one, lets_go, boots_one, hooks, boots as boots_read, by_drive, hooks_drive, reads_drive, boots_drive_by, upshot_hooked, upshot_read, hooked_drive}
 use Rattle.nb_machine.proofs.Eithers.{either_of, full_either, asked_case, pinged_either, looked_up_either}
 use Rattle.nb_drivecmd.specs.declared.error.DriveRefusal.{DriveRefusal}
+use Rattle.nb_drivecmd.specs.declared.drive.Drive.{Drive}
+use Rattle.nb_drivecmd.specs.declared.outcome.AfterHook.{AfterHook}
+use Rattle.nb_drivecmd.specs.declared.outcome.AfterHook.TheVariants as after_hook
 use Rattle.nb_drivecmd.specs.declared.outcome.DriveOutcome.{DriveOutcome}
 use Rattle.nb_drivecmd.specs.declared.outcome.DriveOutcome.TheVariants as drive_outcome
 use Rattle.nb_drivecmd.specs.DriveEffect.{drive_effect}
@@ -70,6 +73,7 @@ EffectFits depth (on_images command) = Unit {0}
 EffectFits depth (on_drives c) = Unit {0}
 EffectFits depth (hooks_disk hooking) = Unit {0}
 EffectFits depth (unhooks_drive number cause) = Unit {0}
+EffectFits depth (boots_drive number) = Unit {0}
 
 -- words and settings alone come to no conclusion
 abbrev IsPlain : Effect → Type 0
@@ -84,6 +88,7 @@ IsPlain (on_images command) = Unit {0}
 IsPlain (on_drives c) = Unit {0}
 IsPlain (hooks_disk hooking) = Unit {0}
 IsPlain (unhooks_drive number cause) = Unit {0}
+IsPlain (boots_drive number) = Unit {0}
 
 device_plain : (done : Effect) (r : Result Bool ApplyError) → IsPlain done → IsPlain (device_effect done r)
 device_plain done (Ok up) p = p
@@ -162,6 +167,7 @@ settled_fits x (on_images command) p = answer_fits x (image_effect command (base
 settled_fits x (on_drives c) p = drives_fit x (drive_effect c (base_by x.base x.table) x.table x.drives)
 settled_fits x (hooks_disk hooking) p = tt
 settled_fits x (unhooks_drive number cause) p = tt
+settled_fits x (boots_drive number) p = tt
 settled_fits x (concludes_at_once c) p = absurd p
 settled_fits x (says o) p = tt
 settled_fits x (asks wanted) p = tt
@@ -183,6 +189,7 @@ DoingFits depth (waits_until time) = Unit {0}
 DoingFits depth (shuts s) = Unit {0}
 DoingFits depth (hooks_one hooking) = Unit {0}
 DoingFits depth (lets_go number cause) = Unit {0}
+DoingFits depth (boots_one number) = Unit {0}
 
 doing_by_fits : (depth : ℕ) (s : State) (table : TableLists) (up : Bool) (e : Effect) → EffectFits depth e → DoingFits depth (doing_by s table up e)
 doing_by_fits depth s table up (says o) f = tt
@@ -195,6 +202,7 @@ doing_by_fits depth s table up (on_images command) f = tt
 doing_by_fits depth s table up (on_drives c) f = tt
 doing_by_fits depth s table up (hooks_disk hooking) f = tt
 doing_by_fits depth s table up (unhooks_drive number cause) f = tt
+doing_by_fits depth s table up (boots_drive number) f = tt
 doing_by_fits depth s table up (concludes_at_once c) f = f
 
 pub doing_fits : (s : State) (inner : Running) (ws : List (List ℕ)) (d : Doing) → doing s inner ws ≡ d → DoingFits inner.depth d
@@ -238,6 +246,8 @@ abbrev pub UpshotFits : ℕ → Upshot → Type 0
 UpshotFits depth (concludes c) = Fits depth c
 UpshotFits depth (settles x) = Unit {0}
 UpshotFits depth (hooks_drive d) = Unit {0}
+UpshotFits depth (reads_drive d) = Unit {0}
+UpshotFits depth (boots_drive_by d bytes) = Unit {0}
 UpshotFits depth (goes_onward next) = Unit {0}
 
 next_fits : (depth : ℕ) (o : Option Onward) (x : Settlement) → UpshotFits depth (option_map_or goes_onward o (settles x))
@@ -251,6 +261,14 @@ moved_fits depth (Err cause) = tt
 fetched_fits : (s : State) (depth : ℕ) (wanted : Wanted) (o : Over) (place : Option (List ℕ)) → UpshotFits depth (upshot_fetched s depth wanted o place)
 fetched_fits s depth wanted o None = conclusion_fits o.cause wanted.asking (fetched o.live) depth s.images
 fetched_fits s depth wanted o (Some place) = moved_fits depth (next_moved s.opens s.table (moved_file wanted.asking place))
+
+hooked_fits : (depth : ℕ) (after : AfterHook) (d : Drive) → UpshotFits depth (upshot_hooked after d)
+hooked_fits depth after_hook.Keep d = tt
+hooked_fits depth (after_hook.Boot keep) d = tt
+
+read_fits : (s : State) (depth : ℕ) (d : Option Drive) (bytes : Option (List ℕ)) → UpshotFits depth (upshot_read s d bytes)
+read_fits s depth d None = tt
+read_fits s depth d (Some bytes) = tt
 
 pub upshot_fits : (s : State) (depth : ℕ) (job : Job) (a : Answer) → UpshotFits depth (concluded_by s depth job a)
 upshot_fits s depth (fetch wanted) (by_end o) = fetched_fits s depth wanted o (place_moved_to o)
@@ -267,7 +285,10 @@ upshot_fits s depth (asks_on errand) by_time = tt
 upshot_fits s depth sleep by_time = tt
 upshot_fits s depth (hooks hooking) (by_end o) = tt
 upshot_fits s depth (hooks hooking) by_time = tt
-upshot_fits s depth (hooks hooking) (by_drive l) = tt
+upshot_fits s depth (hooks hooking) (by_drive l) = hooked_fits depth hooking.after (hooked_drive hooking l)
+upshot_fits s depth (boots_read d) (by_end o) = tt
+upshot_fits s depth (boots_read d) by_time = tt
+upshot_fits s depth (boots_read d) (by_drive l) = read_fits s depth d (read_last l)
 upshot_fits s depth (fetch wanted) (by_drive l) = tt
 upshot_fits s depth takes_lease (by_drive l) = tt
 upshot_fits s depth hears_echo (by_drive l) = tt

@@ -8,6 +8,8 @@ pub mod EachKind
 pub mod EachTakes
 pub mod EachRecord
 pub mod Unended
+pub mod Numbered
+pub mod OneBlock
 pub mod Nexts
 pub mod OneNext
 pub mod EachStep

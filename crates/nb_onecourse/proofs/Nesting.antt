@@ -7,13 +7,15 @@ use Rattle.nb_defs.specs.Records.{In, Out}
 use Rattle.nb_defs.specs.ScriptLines.{Line, Item, items, script_reading}
 use Rattle.nb_defs.specs.ScriptLines as defs
 use Rattle.nb_image.specs.Images.{ImageList}
+use Rattle.nb_drivecmd.specs.declared.drive.Drive.{Drive}
 use Rattle.nb_imagecmd.specs.declared.outcome.ScriptImage.{ScriptImage}
 use Rattle.nb_machine.specs.Conclusions.{Conclusion, keeps, tells, fails, boots, runs_script}
 use Rattle.nb_machine.specs.Running.{Running, anew, entered, counting_on, Coming, passing, leaving, beginning, coming, rest_comes, line_comes, list_comes, words_come, behind_command, lets_run, AreNested}
 use Rattle.nb_machine.specs.FirstText.{text_refusal}
 use Rattle.nb_machine.specs.States.{State, with_images}
-use Rattle.nb_machine.specs.Scripts.{concludes_now, Upshot, concludes, settles, goes_onward, concluded_by, hooks_drive}
-use Rattle.nb_machine.specs.Courses.{Standing, Progress, ScriptLeads, ConclusionLeads, LeadsTo, text_standing, StepBegins, runs, refuses, waits_on, is_answered, switches_off, resumes, goes_off, Proceeds, passes, is_left, hands_back, yields, does, closes_device, concludes_there, leaves, jumps, finds_no_label, falls_asleep, opens_one, finds_no_route, opens_onward, finds_no_way, opens_no_more, hands, has_handed, Course, begins, uses, goes_on, goes_to_hook, hooks_none, unhooks}
+use Rattle.nb_machine.specs.Takings.{Over}
+use Rattle.nb_machine.specs.Scripts.{concludes_now, Upshot, concludes, settles, goes_onward, concluded_by, hooks_drive, reads_drive, boots_drive_by}
+use Rattle.nb_machine.specs.Courses.{Standing, Progress, ScriptLeads, ConclusionLeads, LeadsTo, text_standing, StepBegins, runs, refuses, waits_on, is_answered, switches_off, resumes, goes_off, Proceeds, passes, is_left, hands_back, yields, does, closes_device, concludes_there, leaves, jumps, finds_no_label, falls_asleep, opens_one, finds_no_route, opens_onward, finds_no_way, opens_no_more, hands, has_handed, Course, begins, uses, goes_on, goes_to_hook, hooks_none, unhooks, boots_hooked, ReadsBlock, block_standing}
 use Rattle.nb_onecourse.specs.Depths.{StandsNested}
 use Rattle.nb_onecourse.proofs.EntryDepths.{Fits, UpshotFits, doing_fits, upshot_fits}
 
@@ -41,10 +43,20 @@ conclusion_nested s inner outer (fails cause) put p n f h = subst StandsNested (
 conclusion_nested s inner outer (boots list kernel) put p n f h = subst StandsNested (sym h.2) tt
 conclusion_nested s inner outer (runs_script list image replaces) put p n f h = script_nested (with_images s list) inner outer list image replaces put p n f h
 
+-- where a drive was asked for its first block
+block_nested : (s : State) (inner : Running) (outer : List Running) (number : ℕ) (d : Option Drive) (over : List Over) → AreNested (inner ∷ outer) → StandsNested (block_standing s inner outer number d over)
+block_nested s inner outer number d [] n = n
+block_nested s inner outer number d (o ∷ over) n = n
+
+reads_nested : (s : State) (inner : Running) (outer : List Running) (number : ℕ) (d : Option Drive) (put : List Out) (p : Standing) → AreNested (inner ∷ outer) → ReadsBlock s inner outer number d put p → StandsNested p
+reads_nested s inner outer number d put p n h = subst StandsNested (sym h.stands_so) (block_nested h.next inner outer number d h.over n)
+
 lead_nested : (s : State) (inner : Running) (outer : List Running) (x : Upshot) (put : List Out) (p : Standing) → AreNested (inner ∷ outer) → UpshotFits inner.depth x → LeadsTo s inner outer x put p → StandsNested p
 lead_nested s inner outer (concludes c) put p n f h = conclusion_nested s inner outer c put p n f h
 lead_nested s inner outer (settles x) put p n f h = subst StandsNested (sym h.1) n
 lead_nested s inner outer (hooks_drive d) put p n f h = subst StandsNested (sym h.1) n
+lead_nested s inner outer (reads_drive d) put p n f h = reads_nested s inner outer d.open_number (Some d) put p n h
+lead_nested s inner outer (boots_drive_by d bytes) put p n f h = subst StandsNested (sym h.2) tt
 lead_nested s inner outer (goes_onward next) put p n f h = subst StandsNested (sym h.1) n
 
 begins_nested : (m : Progress) (r : In) (a : List Out) (m' : Progress) → StandsNested m.standing → StepBegins m r a m' → StandsNested m'.standing
@@ -103,6 +115,7 @@ proceeds_nested m a m' u (closes_device n s s' inner outer c cs put over h early
 proceeds_nested m a m' u (goes_to_hook n s s' inner outer c cs hooking put next h early e dropped asks) = u
 proceeds_nested m a m' u (hooks_none n s s' inner outer c cs hooking put cause h early e dropped asks) = u
 proceeds_nested m a m' u (unhooks n s s' inner outer c cs number put cause h early e dropped) = u
+proceeds_nested m a m' u (boots_hooked n s inner outer c cs number d put p h early e hooked reads) = reads_nested s (entered inner) outer d.open_number None put p u reads
 proceeds_nested m a m' u (concludes_there n s inner outer c cs x put p h early e leads) = conclusion_nested s (entered inner) outer x put p u (doing_fits s inner (c ∷ cs) (concludes_now x) e) leads
 proceeds_nested m a m' u (leaves n s s' inner outer c cs o h early e k) = counted_nested (entered inner) outer (outer_nested inner outer u)
 proceeds_nested m a m' u (jumps n s inner outer c cs name line h early e k) = u

@@ -17,22 +17,25 @@ use Rattle.nb_machine.specs.CommandRecords.{command_record, command_records, no_
 use Rattle.nb_machine.specs.Lives.{Live, open_record, end_record}
 use Rattle.nb_machine.specs.Kinds.{first_records}
 use Rattle.nb_machine.specs.States.{State, with_images, with_live, with_opened, with_one_made}
-use Rattle.nb_machine.specs.Scripts.{Job, sleep, Doing, ends, opens, goes_to, waits_until, shuts, concludes_now, doing, live_onward, job_onward, answer, moment, hooks_one, lets_go, awaited_onward}
+use Rattle.nb_machine.specs.Scripts.{Job, sleep, Doing, ends, opens, goes_to, waits_until, shuts, concludes_now, doing, live_onward, job_onward, answer, moment, hooks_one, lets_go, boots_one, awaited_onward}
 use Rattle.nb_machine.specs.Courses.{text_records, text_standing, Standing, ready, running, waiting, reaching, yielded, handing, left, handed_off, stopped, is_drives_own}
 use Rattle.nb_machine.specs.BootTables.{boot_table}
 use Rattle.nb_onecourse.specs.Rests.{HasComeToRest}
 use Rattle.nb_drivecmd.specs.declared.outcome.Hooking.{Hooking}
-use Rattle.nb_drivecmd.specs.HookedDrives.{is_drive}
+use Rattle.nb_drivecmd.specs.declared.drive.Drive.{Drive}
+use Rattle.nb_drivecmd.specs.HookedDrives.{is_drive, drive_numbered}
 use Rattle.nb_terms.specs.declared.cause.Cause.{Cause}
 
 -- what is next: nothing; these records, and then this standing; all that lives in this state is closed, after this record, the drives
--- first, or after these ones before a hand-off; or the drive of a number is closed, after this record and before these, and then this standing
+-- first, or after these ones before a hand-off; the drive of a number is closed, after this record and before these, and then this standing;
+-- or, after this record, the drive of the open of this number is asked for its first block
 pub data Next : Type 0 where
   still : Next
   puts : List Out → Standing → Next
   shuts_all : Out → State → Standing → Next
   closes_all : List Out → State → Standing → Next
   drops : Out → State → (number : ℕ) → List Out → Standing → Next
+  asks_one : Out → State → Running → (outer : List Running) → (number : ℕ) → Next
 
 abbrev pub next_ended : State → Running → List Running → List (List ℕ) → CommandOutcome → State → Bool → Next
 next_ended s inner outer ws o s' true = puts (command_records inner (shown_words s.table ws) o ++ (leave inner.depth o.cause ∷ [])) (left s' (counting_on (entered inner) outer) o.cause)
@@ -83,6 +86,11 @@ next_hooked s inner outer ws hooking (Err cause) =
 abbrev pub asked_then : State → Hooking → Result Onward Cause
 asked_then s hooking = next_at_target s.opens s.table s.drives hooking
 
+-- the drive that is booted is asked for its first block
+abbrev pub next_booted : State → Running → List Running → List (List ℕ) → Option Drive → Next
+next_booted s inner outer ws None = still
+next_booted s inner outer ws (Some d) = asks_one (command_record inner (shown_words s.table ws)) s (entered inner) outer d.open_number
+
 abbrev pub next_doing : State → Running → List Running → List (List ℕ) → Doing → Next
 next_doing s inner outer ws (ends o s') = next_ended s inner outer ws o s' o.leaves
 next_doing s inner outer ws (opens s' l job) = next_opened s inner outer ws s' l job (slice_get s'.devices l.device)
@@ -93,6 +101,7 @@ next_doing s inner outer ws (concludes_now x) = next_concluded s (entered inner)
 next_doing s inner outer ws (hooks_one hooking) = next_hooked s inner outer ws hooking (asked_then (without_number s hooking.number) hooking)
 next_doing s inner outer ws (lets_go number cause) =
     drops (command_record inner (shown_words s.table ws)) s number (result cause ∷ []) (running (without_number s number) (further inner cause) outer)
+next_doing s inner outer ws (boots_one number) = next_booted s inner outer ws (drive_numbered number s.drives)
 next_doing s inner outer ws (shuts s') = shuts_all (command_record inner (shown_words s.table ws)) s' (running (with_live s' []) (further inner ok) outer)
 
 abbrev pub next_begun : State → Running → List Running → List (List ℕ) → Bool → Next

@@ -6,6 +6,7 @@ use Rattle.nb_onecourse.specs.Answers.{StandsUnended}
 use Rattle.nb_onecourse.specs.Rests.{HasComeToRest, SameCourse}
 use Rattle.nb_onecourse.proofs.Ends.{snoc_same, snoc_some}
 use Rattle.nb_onecourse.proofs.Unended.{course_unended, begins_unended, proceeds_unended}
+use Rattle.nb_onecourse.proofs.Numbered.{StandsNumbered, begins_numbered, course_numbered, proceeds_numbered}
 use Rattle.nb_onecourse.proofs.Nexts.{still, what_next, rest_still}
 use Rattle.nb_onecourse.proofs.OneNext.{proceeds_one, still_proceeds}
 use Rattle.nb_onecourse.proofs.EachStep.{begins_one, begins_still}
@@ -24,13 +25,13 @@ abbrev HasNoNext : Progress → Type 0
 HasNoNext m = what_next m.standing ≡ still
 
 -- moves from one place that come to rest are one
-goes_one : (m m1 m2 : Progress) (a b : List Out) → StandsUnended m.standing → Goes m a m1 → Goes m b m2 → HasNoNext m1 → HasNoNext m2 → SameCourse a b m1 m2
-goes_one m m1 m2 a b u (stays _) (stays _) o o' = record { records = refl; place = refl }
-goes_one m m1 m2 a b u (stays _) (goes_first _ mid _ c rest v g) o o' = absurd (still_proceeds m c mid o v)
-goes_one m m1 m2 a b u (goes_first _ mid _ c rest v g) (stays _) o o' = absurd (still_proceeds m c mid o' v)
-goes_one m m1 m2 a b u (goes_first _ mid _ c rest v g) (goes_first _ mid' _ c' rest' v' g') o o' =
-    let k = proceeds_one m c c' mid mid' u v v' in
-    let t = goes_one mid m1 m2 rest rest' (proceeds_unended m c mid u v) g (subst (λ z. Goes z rest' m2) (sym k.places) g') o o' in
+goes_one : (m m1 m2 : Progress) (a b : List Out) → StandsUnended m.standing → StandsNumbered m.standing → Goes m a m1 → Goes m b m2 → HasNoNext m1 → HasNoNext m2 → SameCourse a b m1 m2
+goes_one m m1 m2 a b u f (stays _) (stays _) o o' = record { records = refl; place = refl }
+goes_one m m1 m2 a b u f (stays _) (goes_first _ mid _ c rest v g) o o' = absurd (still_proceeds m c mid o v)
+goes_one m m1 m2 a b u f (goes_first _ mid _ c rest v g) (stays _) o o' = absurd (still_proceeds m c mid o' v)
+goes_one m m1 m2 a b u f (goes_first _ mid _ c rest v g) (goes_first _ mid' _ c' rest' v' g') o o' =
+    let k = proceeds_one m c c' mid mid' u f v v' in
+    let t = goes_one mid m1 m2 rest rest' (proceeds_unended m c mid u v) (proceeds_numbered m c mid f v) g (subst (λ z. Goes z rest' m2) (sym k.places) g') o o' in
     record { records = ap (λ z. z ++ rest) k.records ∙ ap (λ z. c' ++ z) t.records; place = t.place }
 
 -- a course on some records and one more: one on those, the record, and moves
@@ -99,8 +100,9 @@ more_one ins r one outs outs' m m' p q o o' =
     let c = behind (ins ++ r ∷ []) outs' m' q ins r refl in
     let same = one b.before c.before b.rested c.rested b.course c.course (begins_still b.rested r b.begun b.mid b.begins) (begins_still c.rested r c.begun c.mid c.begins) in
     let unended = course_unended ins b.before b.rested b.course in
-    let steps = begins_one b.rested r b.begun c.begun b.mid c.mid unended b.begins (subst (λ z. StepBegins z r c.begun c.mid) (sym same.place) c.begins) in
-    let last = goes_one b.mid m m' b.rest c.rest (begins_unended b.rested r b.begun b.mid unended b.begins) b.goes (subst (λ z. Goes z c.rest m') (sym steps.places) c.goes) o o' in
+    let numbered = course_numbered ins b.before b.rested b.course in
+    let steps = begins_one b.rested r b.begun c.begun b.mid c.mid unended numbered b.begins (subst (λ z. StepBegins z r c.begun c.mid) (sym same.place) c.begins) in
+    let last = goes_one b.mid m m' b.rest c.rest (begins_unended b.rested r b.begun b.mid unended b.begins) (begins_numbered b.rested r b.begun b.mid numbered b.begins) b.goes (subst (λ z. Goes z c.rest m') (sym steps.places) c.goes) o o' in
     record {
       records = b.whole ∙ ap (λ z. z ++ (b.begun ++ b.rest)) same.records ∙ ap (λ z. c.before ++ (z ++ b.rest)) steps.records ∙ ap (λ z. c.before ++ (c.begun ++ z)) last.records ∙ sym c.whole;
       place = last.place;

@@ -9,17 +9,21 @@ use Rattle.nb_machine.specs.FirstText.{text_refusal}
 use Rattle.nb_imagecmd.specs.declared.outcome.ScriptImage.{ScriptImage}
 use Rattle.nb_terms.specs.declared.cause.Cause.{Cause}
 use Rattle.nb_defs.specs.ScriptLines.{script_reading}
-use Rattle.nb_machine.specs.Effects.{Effect, says, asks, goes, sleeps, shuts_device, inquires, on_images, on_drives, hooks_disk, unhooks_drive, concludes_at_once, effect_in, table_after, up_after}
+use Rattle.nb_machine.specs.Effects.{Effect, says, asks, goes, sleeps, shuts_device, inquires, on_images, on_drives, hooks_disk, unhooks_drive, boots_drive, concludes_at_once, effect_in, table_after, up_after}
 use Rattle.nb_machine.specs.Errands.{Onward, fetches_now, echoes_now, looks_up_now, hooks_now}
 use Rattle.nb_machine.specs.Queries.{Query, for_lease, for_echo, for_host, for_address}
 use Rattle.nb_machine.specs.Running.{Running, anew, entered}
-use Rattle.nb_machine.specs.Lives.{Live}
+use Rattle.nb_machine.specs.Drives.{first_block}
+use Rattle.nb_machine.specs.Lives.{task, Live}
 use Rattle.nb_machine.specs.States.{State, with_settings, with_images}
-use Rattle.nb_machine.specs.Scripts.{Doing, ends, opens, goes_to, waits_until, shuts, concludes_now, surroundings, doing, doing_by, live_for, live_onward, Upshot, concludes, settles, goes_onward, concluded_by, hooks_one, lets_go, hooks_drive}
-use Rattle.nb_machine.specs.Courses.{Standing, Progress, ScriptLeads, text_standing, ConclusionLeads, LeadsTo, StepBegins, runs, refuses, waits_on, is_answered, switches_off, resumes, goes_off, Proceeds, passes, is_left, hands_back, yields, does, closes_device, concludes_there, leaves, jumps, finds_no_label, falls_asleep, opens_one, finds_no_route, opens_onward, finds_no_way, opens_no_more, hands, has_handed, Course, begins, uses, goes_on, is_drives_own, DropsDrive, goes_to_hook, hooks_none, unhooks}
+use Rattle.nb_machine.specs.Takings.{Over}
+use Rattle.nb_machine.specs.Scripts.{Doing, ends, opens, goes_to, waits_until, shuts, concludes_now, surroundings, doing, doing_by, live_for, live_onward, Upshot, concludes, settles, goes_onward, concluded_by, hooks_one, lets_go, boots_one, hooks_drive, reads_drive, boots_drive_by}
+use Rattle.nb_machine.specs.Courses.{Standing, Progress, ScriptLeads, text_standing, ConclusionLeads, LeadsTo, StepBegins, runs, refuses, waits_on, is_answered, switches_off, resumes, goes_off, Proceeds, passes, is_left, hands_back, yields, does, closes_device, concludes_there, leaves, jumps, finds_no_label, falls_asleep, opens_one, finds_no_route, opens_onward, finds_no_way, opens_no_more, hands, has_handed, Course, begins, uses, goes_on, is_drives_own, DropsDrive, goes_to_hook, hooks_none, unhooks, boots_hooked, AsksBlock, ReadsBlock, block_standing}
 use Rattle.nb_onecourse.specs.Answers.{PutsNoEnd, IsUnended, AreUnended, StandsUnended}
 use Rattle.nb_onecourse.proofs.Ends.{all_snoc}
-use Rattle.nb_onecourse.proofs.EachRecord.{network_unended}
+use Rattle.nb_onecourse.proofs.EachRecord.{network_unended, other_unended, replaced}
+use Rattle.nb_onecourse.proofs.EachTakes.{all_take_unended}
+use Rattle.nb_drivecmd.specs.declared.drive.Drive.{Drive}
 use Rattle.nb_drivecmd.specs.HookedDrives.{is_drive}
 
 -- what a command comes to leaves the opens that live, and one that it opens has exchanged nothing
@@ -32,6 +36,7 @@ Leaves live (shuts s) = s.live ≡ live
 Leaves live (concludes_now x) = Unit {0}
 Leaves live (hooks_one hooking) = Unit {0}
 Leaves live (lets_go number cause) = Unit {0}
+Leaves live (boots_one number) = Unit {0}
 
 asked_fresh : (s : State) (q : Query) → (live_for s q).exchanges ≡ []
 asked_fresh s for_lease = refl
@@ -55,6 +60,7 @@ leaves_by s table up (on_images command) = tt
 leaves_by s table up (on_drives c) = tt
 leaves_by s table up (hooks_disk hooking) = tt
 leaves_by s table up (unhooks_drive number cause) = tt
+leaves_by s table up (boots_drive number) = tt
 leaves_by s table up (concludes_at_once c) = tt
 leaves_by s table up (inquires q) = (refl, asked_fresh (with_settings s table up) q)
 
@@ -82,10 +88,27 @@ concluded_unended s inner outer (runs_script list image replaces) put p u h = sc
 concluded_unended s inner outer (fails cause) put p u h = subst StandsUnended (sym h.1) u
 concluded_unended s inner outer (boots list kernel) put p u h = subst StandsUnended (sym h.2) tt
 
+-- where a drive was asked for its first block
+asked_unended : (s : State) (number : ℕ) (put : List Out) (s' : State) (over : List Over) → AreUnended s.live → AsksBlock s number put s' over → AreUnended s'.live
+asked_unended s number put s' over u h =
+    let each = subst AreUnended h.parted u in
+    subst (λ (z : State). AreUnended z.live) (sym h.leaves)
+    (replaced h.before h.behind h.after h.l each (all_take_unended s.devices (task first_block s.now) (h.l ∷ []) put h.after over (other_unended h.before h.behind h.l each, tt) h.takes))
+
+block_unended : (s : State) (inner : Running) (outer : List Running) (number : ℕ) (d : Option Drive) (over : List Over) → AreUnended s.live → StandsUnended (block_standing s inner outer number d over)
+block_unended s inner outer number d [] u = u
+block_unended s inner outer number d (o ∷ over) u = u
+
+reads_unended : (s : State) (inner : Running) (outer : List Running) (number : ℕ) (d : Option Drive) (put : List Out) (p : Standing) → AreUnended s.live → ReadsBlock s inner outer number d put p → StandsUnended p
+reads_unended s inner outer number d put p u h =
+    subst StandsUnended (sym h.stands_so) (block_unended h.next inner outer number d h.over (asked_unended s number h.asked h.next h.over u h.asks))
+
 leads_unended : (s : State) (inner : Running) (outer : List Running) (x : Upshot) (put : List Out) (p : Standing) → AreUnended s.live → LeadsTo s inner outer x put p → StandsUnended p
 leads_unended s inner outer (concludes c) put p u h = concluded_unended s inner outer c put p u h
 leads_unended s inner outer (settles x) put p u h = subst StandsUnended (sym h.1) u
 leads_unended s inner outer (hooks_drive d) put p u h = subst StandsUnended (sym h.1) u
+leads_unended s inner outer (reads_drive d) put p u h = reads_unended s inner outer d.open_number (Some d) put p u h
+leads_unended s inner outer (boots_drive_by d bytes) put p u h = subst StandsUnended (sym h.2) tt
 leads_unended s inner outer (goes_onward next) put p u h = subst StandsUnended (sym h.1) u
 
 -- where a drive was closed, the others live on
@@ -119,6 +142,7 @@ proceeds_unended m a m' u (closes_device n s s' inner outer c cs put over h earl
 proceeds_unended m a m' u (goes_to_hook n s s' inner outer c cs hooking put next h early e dropped next_asked) = dropped_unended s hooking.number put s' u dropped
 proceeds_unended m a m' u (hooks_none n s s' inner outer c cs hooking put cause h early e dropped next_asked) = dropped_unended s hooking.number put s' u dropped
 proceeds_unended m a m' u (unhooks n s s' inner outer c cs number put cause h early e dropped) = dropped_unended s number put s' u dropped
+proceeds_unended m a m' u (boots_hooked n s inner outer c cs number d put p h early e hooked reads) = reads_unended s (entered inner) outer d.open_number None put p u reads
 proceeds_unended m a m' u (hands_back n s inner outer cause) = u
 proceeds_unended m a m' u (concludes_there n s inner outer c cs x put p h early e leads) = concluded_unended s (entered inner) outer x put p u leads
 proceeds_unended m a m' u (leaves n s s' inner outer c cs o h early e k) = subst AreUnended (sym (doing_leaves s inner (c ∷ cs) (ends o s') e)) u

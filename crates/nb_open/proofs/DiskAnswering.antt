@@ -18,7 +18,7 @@ use Rattle.nb_disk.proofs.WorkLemmas.{at-idle, at-reading, at-sizing, at-testing
 use Rattle.nb_sans.specs.Sessions.{TaskAnswer, answers_of, blocks_read, read_refused, read_results, read_short, task_answer}
 use Rattle.nb_machine.specs.Drives.{last_answer}
 use Rattle.nb_drivetalks.specs.Comings.{IsPart}
-use Rattle.nb_open.specs.DriveAnswers.{bytes_of_read}
+use Rattle.nb_open.specs.DriveAnswers.{bytes_of_read, is_read}
 
 -- where a drive is that goes on
 pub data Phase (r : DiskReading) : Type 0 where
@@ -39,10 +39,16 @@ abbrev pub read_last : Option ℕ → List ℕ → Option TaskAnswer
 read_last None bytes = None
 read_last (Some capacity) bytes = Some (blocks_read bytes)
 
--- it went on, and gave these bytes; a command of its user's was answered then, or none was
+-- whether a read is at work
+abbrev pub reads_of : DiskReading → Bool
+reads_of r = is_read (at_work r)
+
+-- It went on, and gave these bytes; a command of its user's was answered then, or none was. The first is answered before its capacity is
+-- known, and each later one is a read.
 abbrev pub GoesTo : DiskReading → DiskReading → Option ℕ → List ℕ → Type 0
-GoesTo r q None bytes = (capacity_read q ≡ capacity_read r) × (last_of q ≡ last_of r) × (bytes_of q ≡ bytes_of r ++ bytes)
-GoesTo r q (Some capacity) bytes = (capacity_read q ≡ Some capacity) × (last_of q ≡ read_last (capacity_read r) (bytes_of r ++ bytes)) × (bytes_of q ≡ []) × (at_work q ≡ None)
+GoesTo r q None bytes = (capacity_read q ≡ capacity_read r) × (last_of q ≡ last_of r) × (bytes_of q ≡ bytes_of r ++ bytes) × (reads_of q ≡ reads_of r)
+GoesTo r q (Some capacity) bytes =
+    (capacity_read q ≡ Some capacity) × (last_of q ≡ read_last (capacity_read r) (bytes_of r ++ bytes)) × (bytes_of q ≡ []) × (at_work q ≡ None) × (reads_of r ≡ is_some (capacity_read r))
 
 -- whether one was, by what is at work before and after
 abbrev pub answer_by : DiskReading → DiskReading → Option ℕ
@@ -87,13 +93,27 @@ last_read [] last (d ∷ done) result same = absurd (omega (arith, same))
 last_read (b ∷ before) last [] result same = absurd (omega (arith, same))
 last_read (b ∷ before) last (d ∷ done) result same = last_read before last done result (omega (arith, same))
 
+none_yet : (before : List (ℕ × ℕ)) (last : ℕ × ℕ) (done : List TaskResult) → length done ≡ length before → slice_get (answers_of (before ++ last ∷ []) done) (length before) ≡ None
+none_yet [] last [] same = refl
+none_yet [] last (d ∷ done) same = absurd (omega (arith, same))
+none_yet (b ∷ before) last [] same = absurd (omega (arith, same))
+none_yet (b ∷ before) last (d ∷ done) same = none_yet before last done (omega (arith, same))
+
+-- while a read is at work, nothing is read last
+pub unread_yet : (r : DiskReading) (capacity wanted got : ℕ) → IsReadingDisk r capacity wanted got → last_of r ≡ None
+unread_yet r capacity wanted got is =
+    let place : length (is.before ++ is.last ∷ []) - 1 ≡ length is.before = let l = length-append is.before (is.last ∷ []) in omega (arith, l) in
+    ap (λ z. last_answer z (answers_of z (read_results r.results))) is.reads
+    ∙ (ap (λ z. last_answer (is.before ++ is.last ∷ []) (answers_of (is.before ++ is.last ∷ []) z)) (results_read r (is.sized.first ∷ is.done) is.sized.ready)
+    ∙ (ap (slice_get (answers_of (is.before ++ is.last ∷ []) is.done)) place ∙ none_yet is.before is.last is.done is.all))
+
 -- ONE CALL
 
 module _ (o : SessionNumbers) (r : DiskReading) (rec : ℕ) where
   -- nothing is read
   stands_still : Phase r → Stepped r r []
   stands_still p = record {
-    goes = subst (λ z. GoesTo r r z []) (sym (ap (λ b. cond b (capacity_read r) None) (not_both (is_some (at_work r))))) (refl, refl, sym (append-nil (bytes_of r)));
+    goes = subst (λ z. GoesTo r r z []) (sym (ap (λ b. cond b (capacity_read r) None) (not_both (is_some (at_work r))))) (refl, refl, sym (append-nil (bytes_of r)), refl);
     phase = p;
   }
 
@@ -141,7 +161,7 @@ module _ (o : SessionNumbers) (r : DiskReading) (rec : ℕ) where
   goes_more : (c : Command) → at_work r ≡ Some c → (d : DataInParts) → fits o r (Some c) d ≡ true → Phase r → Stepped r (more d.bytes) (given c d.bytes)
   goes_more c at d fit p = record {
     goes = subst (λ z. GoesTo r (more d.bytes) z (given c d.bytes)) (sym (still_busy r (more d.bytes) c c at at))
-        (refl, refl, ap (bytes_of_read (more d.bytes)) at ∙ (more_bytes c d.bytes ∙ ap (λ z. z ++ given c d.bytes) (sym (bytes_by r (Some c) at))));
+        (refl, refl, ap (bytes_of_read (more d.bytes)) at ∙ (more_bytes c d.bytes ∙ ap (λ z. z ++ given c d.bytes) (sym (bytes_by r (Some c) at))), refl);
     phase = more_phase c at d fit p;
   }
 
@@ -167,7 +187,7 @@ module _ (o : SessionNumbers) (r : DiskReading) (rec : ℕ) where
           let then = at-sizing q [] after in
           record {
             goes = subst (λ z. GoesTo r q z []) (sym (still_busy r q TestUnitReady ReadCapacity at then))
-                (size-ready q [] ready ∙ sym (size-testing r checks is), none_last q is.unasked ∙ sym (none_last r is.unasked), bytes_by q (Some ReadCapacity) then ∙ sym (ap (λ z. z ++ []) (bytes_by r (Some TestUnitReady) at)));
+                (size-ready q [] ready ∙ sym (size-testing r checks is), none_last q is.unasked ∙ sym (none_last r is.unasked), bytes_by q (Some ReadCapacity) then ∙ sym (ap (λ z. z ++ []) (bytes_by r (Some TestUnitReady) at)), ap is_read then ∙ sym (ap is_read at));
             phase = is_sizing [] after;
           }
 
@@ -183,7 +203,7 @@ module _ (o : SessionNumbers) (r : DiskReading) (rec : ℕ) where
           let then = at-testing q (checks + 1) after in
           record {
             goes = subst (λ z. GoesTo r q z []) (sym (still_busy r q TestUnitReady TestUnitReady at then))
-                (size-testing q (checks + 1) after ∙ sym (size-testing r checks is), none_last q is.unasked ∙ sym (none_last r is.unasked), bytes_by q (Some TestUnitReady) then ∙ sym (ap (λ z. z ++ []) (bytes_by r (Some TestUnitReady) at)));
+                (size-testing q (checks + 1) after ∙ sym (size-testing r checks is), none_last q is.unasked ∙ sym (none_last r is.unasked), bytes_by q (Some TestUnitReady) then ∙ sym (ap (λ z. z ++ []) (bytes_by r (Some TestUnitReady) at)), ap is_read then ∙ sym (ap is_read at));
             phase = is_testing (checks + 1) after;
           }
 
@@ -220,7 +240,7 @@ module _ (o : SessionNumbers) (r : DiskReading) (rec : ℕ) where
           let was : capacity_read r ≡ None = size-ready r [] is.ready in
           record {
             goes = subst (λ z. GoesTo r q z []) (sym (now_idle r q ReadCapacity capacity at then (size-sized q capacity [] after.sized)))
-                (size-sized q capacity [] after.sized, none_last q is.unasked ∙ sym (ap (λ z. read_last z (bytes_of r ++ [])) was), bytes_by q None then, then);
+                (size-sized q capacity [] after.sized, none_last q is.unasked ∙ sym (ap (λ z. read_last z (bytes_of r ++ [])) was), bytes_by q None then, then, ap is_read at ∙ sym (ap is_some was));
             phase = is_idle capacity after;
           }
 
@@ -266,7 +286,7 @@ module _ (o : SessionNumbers) (r : DiskReading) (rec : ℕ) where
           ∙ (ap (slice_get (answers_of (is.before ++ is.last ∷ []) done)) place ∙ (last_read is.before is.last is.done result is.all ∙ ap Some task))) in
           record {
             goes = subst (λ z. GoesTo r q z bytes) (sym (now_idle r q (Read lba blocks) capacity at then is_size))
-                (is_size, answers ∙ (sym (ap (λ z. read_last z (bytes_of r ++ bytes)) was ∙ ap (λ z. Some (blocks_read (z ++ bytes))) (bytes_by r (Some (Read lba blocks)) at))), bytes_by q None then, then);
+                (is_size, answers ∙ (sym (ap (λ z. read_last z (bytes_of r ++ bytes)) was ∙ ap (λ z. Some (blocks_read (z ++ bytes))) (bytes_by r (Some (Read lba blocks)) at))), bytes_by q None then, then, ap is_read at ∙ sym (ap is_some was));
             phase = is_idle capacity after;
           }
 
@@ -347,10 +367,8 @@ idle_call o r (asked lba blocks) is idle over = absurd is
 idle_call o r (stream_ended rec) is idle over = absurd (cc)
 
 -- a read that is taken is at work then
-pub asked_call : (o : SessionNumbers) (r : DiskReading) (lba blocks : ℕ) → at_work r ≡ None → Phase r → Phase (after_call o r (asked lba blocks))
-asked_call o r lba blocks none (is_testing checks is) = absurd (let z : None ≡ Some TestUnitReady = sym none ∙ at-testing r checks is in cc)
-asked_call o r lba blocks none (is_sizing size is) = absurd (let z : None ≡ Some ReadCapacity = sym none ∙ at-sizing r size is in cc)
-asked_call o r lba blocks none (is_idle capacity is) = is_reading capacity (512 * blocks) 0 (record {
+pub asked_reads : (o : SessionNumbers) (r : DiskReading) (lba blocks capacity : ℕ) → IsIdleDisk r capacity → IsReadingDisk (after_call o r (asked lba blocks)) capacity (512 * blocks) 0
+asked_reads o r lba blocks capacity is = record {
   done = is.done;
   before = r.reads;
   last = (lba, blocks);
@@ -359,7 +377,12 @@ asked_call o r lba blocks none (is_idle capacity is) = is_reading capacity (512 
   all = is.all;
   is = refl;
   came = ap length is.none;
-})
+}
+
+pub asked_call : (o : SessionNumbers) (r : DiskReading) (lba blocks : ℕ) → at_work r ≡ None → Phase r → Phase (after_call o r (asked lba blocks))
+asked_call o r lba blocks none (is_testing checks is) = absurd (let z : None ≡ Some TestUnitReady = sym none ∙ at-testing r checks is in cc)
+asked_call o r lba blocks none (is_sizing size is) = absurd (let z : None ≡ Some ReadCapacity = sym none ∙ at-sizing r size is in cc)
+asked_call o r lba blocks none (is_idle capacity is) = is_reading capacity (512 * blocks) 0 (asked_reads o r lba blocks capacity is)
 asked_call o r lba blocks none (is_reading capacity wanted got is) = absurd (let z : None ≡ Some (Read is.last.0 is.last.1) = sym none ∙ at-reading r capacity wanted got is in cc)
 
 pub phase_first : Phase nothing_read
@@ -367,10 +390,10 @@ phase_first = is_testing 0 (record { all = tt; count = refl; few = omega arith; 
 
 -- one after another
 pub goes_both : (r q z : DiskReading) (a b : Option ℕ) (xs ys : List ℕ) → GoesTo r q a xs → GoesTo q z b ys → (at_work q ≡ None → (b ≡ None) × (ys ≡ []) × (at_work z ≡ None)) → GoesTo r z (option_or a b) (xs ++ ys)
-goes_both r q z None None xs ys h k idle = (k.0 ∙ h.0, k.1 ∙ h.1, k.2 ∙ (ap (λ w. w ++ ys) h.2 ∙ append_assoc (bytes_of r) xs ys))
+goes_both r q z None None xs ys h k idle = (k.0 ∙ h.0, k.1 ∙ h.1, k.2 ∙ (ap (λ w. w ++ ys) h.2 ∙ append_assoc (bytes_of r) xs ys), k.3 ∙ h.3)
 goes_both r q z None (Some c) xs ys h k idle =
-    (k.0, k.1 ∙ (ap (λ w. read_last w (bytes_of q ++ ys)) h.0 ∙ ap (read_last (capacity_read r)) (ap (λ w. w ++ ys) h.2 ∙ append_assoc (bytes_of r) xs ys)), k.2, k.3)
+    (k.0, k.1 ∙ (ap (λ w. read_last w (bytes_of q ++ ys)) h.0 ∙ ap (read_last (capacity_read r)) (ap (λ w. w ++ ys) h.2 ∙ append_assoc (bytes_of r) xs ys)), k.2, k.3, sym h.3 ∙ (k.4 ∙ ap is_some h.0))
 goes_both r q z (Some c) b xs ys h k idle =
     let i = idle h.3 in
     let none = subst (λ w. GoesTo q z w ys) i.0 k in
-    (none.0 ∙ h.0, none.1 ∙ (h.1 ∙ ap (λ w. read_last (capacity_read r) (bytes_of r ++ w)) (sym (append-nil xs) ∙ ap (λ w. xs ++ w) (sym i.1))), none.2 ∙ (ap (λ w. w ++ ys) h.2 ∙ i.1), i.2)
+    (none.0 ∙ h.0, none.1 ∙ (h.1 ∙ ap (λ w. read_last (capacity_read r) (bytes_of r ++ w)) (sym (append-nil xs) ∙ ap (λ w. xs ++ w) (sym i.1))), none.2 ∙ (ap (λ w. w ++ ys) h.2 ∙ i.1), i.2, h.4)

@@ -20,12 +20,12 @@ use Rattle.nb_sans.specs.Sessions.{answers_of, blocks_read, read_refused, read_r
 use Rattle.nb_machine.specs.Drives.{last_answer}
 use Rattle.nb_drivetalks.specs.Comings.{IsPart}
 use Rattle.nb_open.specs.DriveAnswers.{IsNotRead}
-use Rattle.nb_open.proofs.DiskAnswering.{Phase, is_idle, is_reading, is_sizing, is_testing, last_of, last_read, none_last, results_read}
+use Rattle.nb_open.proofs.DiskAnswering.{Phase, is_idle, is_reading, is_sizing, is_testing, last_of, last_read, none_last, results_read, unread_yet}
 
--- nothing was answered by it, or the read at work was, but not by all its bytes
+-- nothing was answered by it, or the read at work was, but not by all its bytes, and none was answered last before
 pub data EndsAs (r q : DiskReading) : Type 0 where
   ends_unread : capacity_read q ≡ capacity_read r → last_of q ≡ last_of r → EndsAs r q
-  ends_badly : (capacity : ℕ) → capacity_read r ≡ Some capacity → capacity_read q ≡ Some capacity → IsNotRead (last_of q) → EndsAs r q
+  ends_badly : (capacity : ℕ) → capacity_read r ≡ Some capacity → capacity_read q ≡ Some capacity → IsNotRead (last_of q) → last_of r ≡ None → EndsAs r q
 
 -- LEMMAS
 
@@ -93,6 +93,7 @@ module _ (o : SessionNumbers) (r : DiskReading) (rec : ℕ) where
           ends_badly capacity (size-sized r capacity is.done is.sized) (size-sized q capacity (is.done ++ result ∷ []) sized_then)
           (subst IsNotRead (sym last_then)
           (subst (λ b. IsNotRead (Some (cond (s.status == 0) (cond b (blocks_read (r.bytes ++ bytes)) read_short) (read_refused s.status)))) (sym long) (unread_by (s.status == 0) (length r.bytes + length bytes == 512 * blocks) x over)))
+          (unread_yet r capacity wanted got is)
 
     status_ends : (c : Command) → at_work r ≡ Some c → Phase r → (x : Cause) → (answered o r rec c bytes s).over ≡ Some x → EndsAs r q
     status_ends TestUnitReady at (is_testing checks is) x over = untested checks is

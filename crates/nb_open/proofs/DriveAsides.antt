@@ -1,5 +1,6 @@
 -- Where nothing is handed up of a drive, and no more of its stream has come, it has answered what it had.
 use Rattle.std.proofs.Common.{◌≡◌, inl, ℕ, List, [], ◌∷◌, ◌++◌, None, sym, ◌∙◌, ap, subst, append-nil}
+use Rattle.std.specs.Option.{option_and_then}
 use Rattle.std.specs.List.{AllByRecursion, flat_map}
 use Rattle.std.proofs.lemmas.List.Concat.{flat_map-append}
 use Rattle.std.proofs.lemmas.List.Sums.{fold-append}
@@ -11,14 +12,14 @@ use Rattle.nb_streams.specs.Streams.{front}
 use Rattle.nb_streams.proofs.OtherSendLaws.{phase_append}
 use Rattle.nb_disk.specs.Histories.{at_work}
 use Rattle.nb_talks.specs.Talking.{Came, Talk, Talker, begun_talk, by_time, talk_after, talk_held, talks_on}
-use Rattle.nb_machine.specs.Drives.{came_to_session, session_answer, session_of}
+use Rattle.nb_machine.specs.Drives.{came_to_session, last_read, session_answer, session_of}
 use Rattle.nb_machine.specs.Kinds.{answered, answered_by}
 use Rattle.nb_machine.specs.Lives.{Exchange, Live, continued, iscsi}
 use Rattle.nb_teller.specs.Deliveries.{delivered_answer, delivered_blocks}
 use Rattle.nb_drivechains.specs.declared.drive_chain.DriveChain.{DriveChain}
 use Rattle.nb_drivetalks.specs.Tellings.{told_above, told_below}
 use Rattle.nb_webtalks.specs.Tellings.{messages_of}
-use Rattle.nb_open.specs.DriveAnswers.{AnswersAfter, AnswersAtEnd, bytes_by, bytes_of_read, bytes_so_far}
+use Rattle.nb_open.specs.DriveAnswers.{AnswersAfter, AnswersAtEnd, bytes_by, bytes_of_read, bytes_so_far, is_read, is_reading, reads_by}
 use Rattle.nb_open.proofs.Delivering.{DeliversNone}
 use Rattle.nb_open.proofs.DrivePuts.{answer_among, answer_up, blocks_among, blocks_up}
 
@@ -61,6 +62,13 @@ module _ (c : DriveChain) (l : Live) (x : Exchange) (ns : List Notice) (isn : �
         ∙ (ap (λ h. (let r = session_reading i (front h) talk.tasks in bytes_of_read r (at_work r))) (time_held isn now (session_talker i) talk)
         ∙ ap (λ z. bytes_by z l) (sym of)))
 
+    same_reading : is_reading after ≡ is_reading l
+    same_reading =
+        ap (λ z. reads_by z after) of
+        ∙ (ap (λ (d : Talk ReadTask). is_read (at_work (session_reading i (front (talk_held isn d)) d.tasks))) goes_on
+        ∙ (ap (λ h. is_read (at_work (session_reading i (front h) talk.tasks))) (time_held isn now (session_talker i) talk)
+        ∙ ap (λ z. reads_by z l) (sym of)))
+
     no_answer_told : delivered_answer ns ≡ None
     no_answer_told = answer_up c.unit.0 ns none ∙ ap answer_among above
 
@@ -68,7 +76,7 @@ module _ (c : DriveChain) (l : Live) (x : Exchange) (ns : List Notice) (isn : �
     no_blocks_told = blocks_up c.unit.0 ns none ∙ ap blocks_among above
 
     pub aside_after : AnswersAfter l after (delivered_answer ns) (delivered_blocks ns)
-    aside_after = subst (λ z. AnswersAfter l after z (delivered_blocks ns)) (sym no_answer_told) (same_answer, same_bytes ∙ (sym (append-nil (bytes_so_far l)) ∙ ap (λ z. bytes_so_far l ++ z) (sym no_blocks_told)))
+    aside_after = subst (λ z. AnswersAfter l after z (delivered_blocks ns)) (sym no_answer_told) (same_answer, same_bytes ∙ (sym (append-nil (bytes_so_far l)) ∙ ap (λ z. bytes_so_far l ++ z) (sym no_blocks_told)), same_reading)
 
     pub aside_at_end : AnswersAtEnd l after (delivered_answer ns) (delivered_blocks ns)
-    aside_at_end = subst (λ z. AnswersAtEnd l after z (delivered_blocks ns)) (sym no_answer_told) (inl same_answer)
+    aside_at_end = subst (λ z. AnswersAtEnd l after z (delivered_blocks ns)) (sym no_answer_told) (inl same_answer, ap (option_and_then last_read) same_answer)

@@ -1,6 +1,6 @@
 -- What a segment brings a drive to answer.
 use Rattle.std.proofs.Common.{◌≡◌, inl, inr, ℕ, ◌||◌, Bool, true, false, cond, List, [], ◌∷◌, ◌++◌, length, drop, fold, Option, Some, None, refl, sym, ◌∙◌, ap, subst}
-use Rattle.std.specs.Option.{is_some, option_map, option_or}
+use Rattle.std.specs.Option.{is_some, option_and_then, option_map, option_or}
 use Rattle.std.specs.List.{AllByRecursion}
 use Rattle.std.proofs.lemmas.List.{drop_at}
 use Rattle.nb_terms.specs.declared.cause.Cause.{Cause}
@@ -12,7 +12,7 @@ use Rattle.nb_drivenodes.specs.UnitTalks.{answered_says, blocks_says}
 use Rattle.nb_ledger.specs.Flat.{Notice}
 use Rattle.nb_login.specs.declared.info.LoginInfo.{LoginInfo}
 use Rattle.nb_login.specs.declared.session.Session.{Session}
-use Rattle.nb_sans.specs.Sessions.{ReadTask, TaskAnswer, drive_calls, drive_comes, over_from, over_or_short, read_by, session_come, session_end, session_end_by, session_reading, session_talker}
+use Rattle.nb_sans.specs.Sessions.{ReadTask, TaskAnswer, blocks_read, read_refused, read_short, drive_calls, drive_comes, over_from, over_or_short, read_by, session_come, session_end, session_end_by, session_reading, session_talker}
 use Rattle.nb_sans.proofs.RecordLaws.{records_show}
 use Rattle.nb_streams.specs.Endings.{segment_end}
 use Rattle.nb_streams.specs.Segments.{Arrival}
@@ -20,7 +20,7 @@ use Rattle.nb_streams.specs.Streams.{front, has_ended}
 use Rattle.nb_talks.specs.Talking.{Talk, by_segment, come_of, receives, talk_held, talks_on, texts_for}
 use Rattle.nb_talks.specs.TalkPromises.{earlier, phase_of, segment_put, talker_end}
 use Rattle.nb_talks.proofs.TalkLaws.{held_with_texts}
-use Rattle.nb_machine.specs.Drives.{DriveAnswer, came_to_session, drive_answer, session_answer, session_of}
+use Rattle.nb_machine.specs.Drives.{DriveAnswer, bytes_read, came_to_session, last_read, drive_answer, session_answer, session_of}
 use Rattle.nb_machine.specs.Kinds.{answered, answered_by as answered_for}
 use Rattle.nb_machine.specs.Lives.{Exchange, Live, continued, iscsi}
 use Rattle.nb_teller.specs.Deliveries.{delivered_answer, delivered_blocks}
@@ -29,10 +29,10 @@ use Rattle.nb_drivechains.specs.declared.drive_chain.DriveChain.{DriveChain}
 use Rattle.nb_drivetalks.specs.Comings.{AddsParts, calls_by, drive_hands, handed_up, session_calls, unit_says, units_say}
 use Rattle.nb_drivetalks.specs.Tellings.{told_above, told_below}
 use Rattle.nb_webtalks.specs.Tellings.{messages_of}
-use Rattle.nb_open.specs.DriveAnswers.{AnswersAfter, AnswersAtEnd, IsRefused, bytes_by, bytes_so_far, read_answer}
+use Rattle.nb_open.specs.DriveAnswers.{AnswersAfter, AnswersAtEnd, IsNotRead, IsRefused, bytes_by, bytes_so_far, is_read, is_reading, read_answer, reads_by}
 use Rattle.nb_open.proofs.Callings.{each_append}
 use Rattle.nb_open.proofs.Delivering.{DeliversNone}
-use Rattle.nb_open.proofs.DiskAnswering.{GoesTo, Phase, bytes_of, last_of, phase_first, read_last}
+use Rattle.nb_open.proofs.DiskAnswering.{GoesTo, Phase, bytes_of, last_of, phase_first, read_last, reads_of}
 use Rattle.nb_open.proofs.DriveAsides.{session_more}
 use Rattle.nb_open.proofs.DrivePuts.{AreHandedUp, IsHandedUp, answer_among, answer_up as answer_told, blocks_among, blocks_up as blocks_told}
 use Rattle.nb_open.proofs.UnitAnswering.{all_handed, or_none, told_by}
@@ -70,12 +70,13 @@ are_handed_up rec i come later tasks = handed_by_up rec (session_calls i come ta
 
 -- what is answered where an open goes on may be where it ends
 pub at_end : (l after : Live) (answer : Option Told) (blocks : List ℕ) → AnswersAfter l after answer blocks → AnswersAtEnd l after answer blocks
-at_end l after None blocks h = inl h.0
+at_end l after None blocks h = (inl h.0, ap (option_and_then last_read) h.0)
 at_end l after (Some a) blocks h = h
 
 -- of an open session, by what had been read before and what has been then
 module _ (l after : Live) (chap : ℕ) (r q : DiskReading) (was : answered l ≡ drive_answer l.server (Some chap) (capacity_read r) (last_of r))
-    (is : answered after ≡ drive_answer l.server (Some chap) (capacity_read q) (last_of q)) (had : bytes_so_far l ≡ bytes_of r) (has : bytes_so_far after ≡ bytes_of q) where
+    (is : answered after ≡ drive_answer l.server (Some chap) (capacity_read q) (last_of q)) (had : bytes_so_far l ≡ bytes_of r) (has : bytes_so_far after ≡ bytes_of q)
+    (held : is_reading l ≡ reads_of r) (holds : is_reading after ≡ reads_of q) where
   size_is : (size : Option ℕ) → capacity_read q ≡ size → answered after ≡ drive_answer l.server (Some chap) size (last_of q)
   size_is size e = is ∙ ap (λ (z : Option ℕ). drive_answer l.server (Some chap) z (last_of q)) e
 
@@ -91,14 +92,37 @@ module _ (l after : Live) (chap : ℕ) (r q : DiskReading) (was : answered l ≡
       read_before (capacity_read r) (last_of r) (bytes_of r ++ bytes)
       ∙ (ap (λ (z : Option DriveAnswer). read_answer z (bytes_of r ++ bytes)) (sym was) ∙ ap (λ z. read_answer (answered l) (z ++ bytes)) (sym had))
 
+  -- it has answered where its capacity was read
+  size_known : (size : Option ℕ) (last : Option TaskAnswer) → is_some (drive_answer l.server (Some chap) size last) ≡ is_some size
+  size_known None last = refl
+  size_known (Some n) last = refl
+
   goes_by : (answer : Option ℕ) (bytes : List ℕ) → GoesTo r q answer bytes → AnswersAfter l after (told_by chap answer) bytes
-  goes_by None bytes goes = (same_answer goes.0 goes.1, has ∙ (goes.2 ∙ ap (λ z. z ++ bytes) (sym had)))
-  goes_by (Some n) bytes goes = (size_is (Some n) goes.0 ∙ ap (λ (z : Option TaskAnswer). drive_answer l.server (Some chap) (Some n) z) (goes.1 ∙ last_is bytes), has ∙ goes.2)
+  goes_by None bytes goes = (same_answer goes.0 goes.1, has ∙ (goes.2 ∙ ap (λ z. z ++ bytes) (sym had)), holds ∙ (goes.3 ∙ sym held))
+  goes_by (Some n) bytes goes = (
+    size_is (Some n) goes.0 ∙ ap (λ (z : Option TaskAnswer). drive_answer l.server (Some chap) (Some n) z) (goes.1 ∙ last_is bytes),
+    has ∙ goes.2,
+    holds ∙ ap is_read goes.3,
+    held ∙ (goes.4 ∙ sym (ap is_some was ∙ size_known (capacity_read r) (last_of r))),
+  )
+
+  -- nothing was read last where a read was at work, nor where it has failed
+  none_read : (size : Option ℕ) (last : Option TaskAnswer) → last ≡ None → option_and_then last_read (drive_answer l.server (Some chap) size last) ≡ None
+  none_read None last e = refl
+  none_read (Some n) last e = ap (option_and_then bytes_read) e
+
+  not_read : (last : Option TaskAnswer) → IsNotRead last → option_and_then bytes_read last ≡ None
+  not_read None bad = absurd bad
+  not_read (Some (blocks_read bytes)) bad = absurd bad
+  not_read (Some (read_refused status)) bad = refl
+  not_read (Some read_short) bad = refl
 
   ends_by : (answer : Option ℕ) (bytes : List ℕ) → GoesLast r q answer bytes → AnswersAtEnd l after (told_by chap answer) bytes
-  ends_by None bytes (inl same) = inl (same_answer same.0 same.1)
-  ends_by None bytes (inr (n, had_size, size, bad)) =
-      inr (ap is_some (was ∙ ap (λ (z : Option ℕ). drive_answer l.server (Some chap) z (last_of r)) had_size), subst IsRefused (sym (size_is (Some n) size)) bad)
+  ends_by None bytes (inl same) = let e = same_answer same.0 same.1 in (inl e, ap (option_and_then last_read) e)
+  ends_by None bytes (inr (n, had_size, size, bad, none)) = (
+    inr (ap is_some (was ∙ ap (λ (z : Option ℕ). drive_answer l.server (Some chap) z (last_of r)) had_size), subst IsRefused (sym (size_is (Some n) size)) bad),
+    ap (option_and_then last_read) (size_is (Some n) size) ∙ (not_read (last_of q) bad ∙ sym (ap (option_and_then last_read) was ∙ none_read (capacity_read r) (last_of r) none)),
+  )
   ends_by (Some n) bytes goes = goes_by (Some n) bytes goes
 
 -- CALLS THAT END NOTHING
@@ -109,7 +133,7 @@ over_lives o r (call ∷ calls) e =
     let two = or_none (disk_answer o r call).over (over_from o (after_call o r call) calls) e in
     ap (λ (z : Option Cause). is_some z || ended_from o (after_call o r call) calls) two.0 ∙ over_lives o (after_call o r call) calls two.1
 
-lives_over : (o : SessionNumbers) (r : DiskReading) (calls : List DiskCall) → ended_from o r calls ≡ false → over_from o r calls ≡ None
+pub lives_over : (o : SessionNumbers) (r : DiskReading) (calls : List DiskCall) → ended_from o r calls ≡ false → over_from o r calls ≡ None
 lives_over o r [] e = refl
 lives_over o r (call ∷ calls) e = by (lives_over o (after_call o r call) calls) (disk_answer o r call).over e
   where
@@ -169,7 +193,12 @@ module _ (c : DriveChain) (l : Live) (x : Exchange) (ns : List Notice) (isn : �
       ap (λ z. bytes_by z after) of
       ∙ (ap (λ (d : Talk ReadTask). bytes_of (session_reading i (front (talk_held isn d)) d.tasks)) goes_on ∙ ap (λ h. bytes_of (session_reading i (front h) tasks)) held_then)
 
-  -- the answer and the bytes by the session that a stream has opened
+  reading_then : is_reading after ≡ reads_of (session_reading i later tasks)
+  reading_then =
+      ap (λ z. reads_by z after) of
+      ∙ (ap (λ (d : Talk ReadTask). reads_of (session_reading i (front (talk_held isn d)) d.tasks)) goes_on ∙ ap (λ h. reads_of (session_reading i (front h) tasks)) held_then)
+
+  -- the answer, the bytes and what is at work by the session that a stream has opened
   answer_for : (stream : List ℕ) (w : Option Session) → session_come 0 i stream ≡ w
       → session_answer l.server i stream tasks ≡ drive_answer l.server (option_map (λ (s : Session). s.chap) w) (capacity_read (read_by i stream tasks w)) (last_of (read_by i stream tasks w))
   answer_for stream w e = ap (λ (z : Option Session). drive_answer l.server (option_map (λ (s : Session). s.chap) z) (capacity_read (read_by i stream tasks z)) (last_of (read_by i stream tasks z))) e
@@ -177,11 +206,17 @@ module _ (c : DriveChain) (l : Live) (x : Exchange) (ns : List Notice) (isn : �
   bytes_for : (stream : List ℕ) (w : Option Session) → session_come 0 i stream ≡ w → bytes_of (session_reading i stream tasks) ≡ bytes_of (read_by i stream tasks w)
   bytes_for stream w e = ap (λ (z : Option Session). bytes_of (read_by i stream tasks z)) e
 
+  reading_for : (stream : List ℕ) (w : Option Session) → session_come 0 i stream ≡ w → reads_of (session_reading i stream tasks) ≡ reads_of (read_by i stream tasks w)
+  reading_for stream w e = ap (λ (z : Option Session). reads_of (read_by i stream tasks z)) e
+
   answered_at : (w : Option Session) → session_come 0 i come ≡ w → answered l ≡ drive_answer l.server (option_map (λ (s : Session). s.chap) w) (capacity_read (read_by i come tasks w)) (last_of (read_by i come tasks w))
   answered_at w e = ap (λ z. answered_for z l) of ∙ answer_for come w e
 
   bytes_at : (w : Option Session) → session_come 0 i come ≡ w → bytes_so_far l ≡ bytes_of (read_by i come tasks w)
   bytes_at w e = ap (λ z. bytes_by z l) of ∙ bytes_for come w e
+
+  reading_at : (w : Option Session) → session_come 0 i come ≡ w → is_reading l ≡ reads_of (read_by i come tasks w)
+  reading_at w e = ap (λ z. reads_by z l) of ∙ reading_for come w e
 
   -- what was delivered
   module _ (answer : Option Told) (blocks : List ℕ) (says : answer_among (handed_up m.rec i come later tasks) ≡ answer) (gives : blocks_among (handed_up m.rec i come later tasks) ≡ blocks) where
@@ -211,7 +246,7 @@ module _ (c : DriveChain) (l : Live) (x : Exchange) (ns : List Notice) (isn : �
       let was = none_before e in
       let hands : handed_up m.rec i come later tasks ≡ [] = ap (drive_hands m.rec before (session_calls i later tasks)) e in
       then_after None [] (ap answer_among hands) (ap blocks_among hands)
-      (answered_then ∙ (answer_for later None e ∙ sym (answered_at None was)), bytes_then ∙ (bytes_for later None e ∙ sym (ap (λ z. z ++ []) (bytes_at None was))))
+      (answered_then ∙ (answer_for later None e ∙ sym (answered_at None was)), bytes_then ∙ (bytes_for later None e ∙ sym (ap (λ z. z ++ []) (bytes_at None was))), reading_then ∙ (reading_for later None e ∙ sym (reading_at None was)))
 
   -- A SESSION IS OPEN
 
@@ -229,12 +264,15 @@ module _ (c : DriveChain) (l : Live) (x : Exchange) (ns : List Notice) (isn : �
     record Stood : Type 0 where
       answer : answered l ≡ drive_answer l.server (Some s.chap) (capacity_read (reading o before)) (last_of (reading o before))
       bytes : bytes_so_far l ≡ bytes_of (reading o before)
+      at_work : is_reading l ≡ reads_of (reading o before)
       phase : Phase (reading o before)
 
-    stood_at : (calls : List DiskCall) → before ≡ calls → answered l ≡ drive_answer l.server (Some s.chap) (capacity_read (reading o calls)) (last_of (reading o calls)) → bytes_so_far l ≡ bytes_of (reading o calls) → Phase (reading o calls) → Stood
-    stood_at calls same answer bytes phase = record {
+    stood_at : (calls : List DiskCall) → before ≡ calls → answered l ≡ drive_answer l.server (Some s.chap) (capacity_read (reading o calls)) (last_of (reading o calls)) → bytes_so_far l ≡ bytes_of (reading o calls)
+        → is_reading l ≡ reads_of (reading o calls) → Phase (reading o calls) → Stood
+    stood_at calls same answer bytes at_work phase = record {
       answer = subst (λ (z : List DiskCall). answered l ≡ drive_answer l.server (Some s.chap) (capacity_read (reading o z)) (last_of (reading o z))) (sym same) answer;
       bytes = subst (λ (z : List DiskCall). bytes_so_far l ≡ bytes_of (reading o z)) (sym same) bytes;
+      at_work = subst (λ (z : List DiskCall). is_reading l ≡ reads_of (reading o z)) (sym same) at_work;
       phase = subst (λ (z : List DiskCall). Phase (reading o z)) (sym same) phase;
     }
 
@@ -242,10 +280,10 @@ module _ (c : DriveChain) (l : Live) (x : Exchange) (ns : List Notice) (isn : �
     stood_open here =
         let calls = drive_calls 0 i come tasks s in
         let over = (or_none (over_from o nothing_read calls) None (sym (ap (session_end_by 0 i come false tasks) here) ∙ adds.lives)).0 in
-        stood_at calls (ap (calls_by i come tasks) here) (answered_at (Some s) here) (bytes_at (Some s) here) (phase_taken o nothing_read (drive_comes 0 i come tasks) phase_first over)
+        stood_at calls (ap (calls_by i come tasks) here) (answered_at (Some s) here) (bytes_at (Some s) here) (reading_at (Some s) here) (phase_taken o nothing_read (drive_comes 0 i come tasks) phase_first over)
 
     stood_by : (w : Option Session) → session_come 0 i come ≡ w → Stood
-    stood_by None e = stood_at [] (ap (calls_by i come tasks) e) (answered_at None e) (bytes_at None e) phase_first
+    stood_by None e = stood_at [] (ap (calls_by i come tasks) e) (answered_at None e) (bytes_at None e) (reading_at None e) phase_first
     stood_by (Some t) e = let same : Some t ≡ Some s = sym (adds.stays t e) ∙ opens in stood_open (e ∙ same)
 
     stood : Stood
@@ -258,6 +296,9 @@ module _ (c : DriveChain) (l : Live) (x : Exchange) (ns : List Notice) (isn : �
     bytes_now : bytes_so_far after ≡ bytes_of (reading o (before ++ adds.new))
     bytes_now = bytes_then ∙ (bytes_for later (Some s) opens ∙ ap (λ (z : List DiskCall). bytes_of (reading o z)) all_calls)
 
+    reading_now : is_reading after ≡ reads_of (reading o (before ++ adds.new))
+    reading_now = reading_then ∙ (reading_for later (Some s) opens ∙ ap (λ (z : List DiskCall). reads_of (reading o z)) all_calls)
+
     hands_new : handed_up m.rec i come later tasks ≡ units_say m.rec s.chap o before adds.new
     hands_new =
         ap (drive_hands m.rec before (session_calls i later tasks)) opens
@@ -268,14 +309,14 @@ module _ (c : DriveChain) (l : Live) (x : Exchange) (ns : List Notice) (isn : �
         let st = stood in
         let h = all_handed m.rec s.chap o before adds.new st.phase adds.each over in
         then_after (told_by s.chap h.answer) h.bytes (ap answer_among hands_new ∙ h.says_answer) (ap blocks_among hands_new ∙ h.says_blocks)
-        (goes_by l after s.chap (reading o before) (reading o (before ++ adds.new)) st.answer answered_now st.bytes bytes_now h.answer h.bytes h.goes)
+        (goes_by l after s.chap (reading o before) (reading o (before ++ adds.new)) st.answer answered_now st.bytes bytes_now st.at_work reading_now h.answer h.bytes h.goes)
 
     has_gone : (y : Cause) → over_from o (reading o before) adds.new ≡ Some y → AnswersAtEnd l after (delivered_answer ns) (delivered_blocks ns)
     has_gone y over =
         let st = stood in
         let h = all_handed_last m.rec s.chap o before adds.new y st.phase adds.each ends_last over in
         then_at_end (told_by s.chap h.answer) h.bytes (ap answer_among hands_new ∙ h.says_answer) (ap blocks_among hands_new ∙ h.says_blocks)
-        (ends_by l after s.chap (reading o before) (reading o (before ++ adds.new)) st.answer answered_now st.bytes bytes_now h.answer h.bytes h.goes)
+        (ends_by l after s.chap (reading o before) (reading o (before ++ adds.new)) st.answer answered_now st.bytes bytes_now st.at_work reading_now h.answer h.bytes h.goes)
 
     at_last : (v : Option Cause) → over_from o (reading o before) adds.new ≡ v → AnswersAtEnd l after (delivered_answer ns) (delivered_blocks ns)
     at_last None e = at_end l after (delivered_answer ns) (delivered_blocks ns) (went_on e)

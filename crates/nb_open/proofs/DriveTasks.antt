@@ -32,6 +32,7 @@ use Rattle.nb_open.specs.Open.{IsDriveUnderWay, IsOpenOf, IsTalkingDrive, carrie
 use Rattle.nb_open.proofs.Delivering.{DeliversNone}
 use Rattle.nb_open.proofs.Doings.{Did, fails}
 use Rattle.nb_open.proofs.DriveAsides.{session_more}
+use Rattle.nb_open.proofs.DriveAsked.{asks_after}
 use Rattle.nb_open.proofs.DriveExchanges.{drive_did}
 use Rattle.nb_open.proofs.DriveLaws.{drive_tasks}
 use Rattle.nb_open.proofs.DrivePuts.{AreHandedUp, below_lacks, below_records, no_address_up}
@@ -86,8 +87,8 @@ module _ (who : Speaker) (port : ℕ) (own : Ip4) (c : DriveChain) (l : Live) (o
           stands = λ outs over. subst (λ z. StandsForSession (session_ask isn own i l) l.since z c new) (sym (session_more isn i l (exchange (task blocks now) link outs) (by_task blocks now) refl)) stands;
           unfound = no_address_up c.unit.0 k.ns up silent;
           up = up;
-          answers = λ over any outs. tt;
-          answers_last = λ x over any outs. tt;
+          answers = λ over any outs. asks_after c l isn i e own old t is.chained blocks now (exchange (task blocks now) any outs) refl;
+          answers_last = λ x over any outs. asks_after c l isn i e own old t is.chained blocks now (exchange (task blocks now) any outs) refl;
         })
 
     asked_so : Did o l (task blocks now) link new k.ns

@@ -49,7 +49,7 @@ drive_last : (came : OpenInput) (l after : Live) (answer : Option DriveAnswer) (
 drive_last (message rec port body now) l after answer blocks h = at_end l after answer blocks h
 drive_last (tcp_segment rec g now) l after answer blocks h = at_end l after answer blocks h
 drive_last (time now) l after answer blocks h = at_end l after answer blocks h
-drive_last (task t now) l after answer blocks h = tt
+drive_last (task t now) l after answer blocks h = h
 drive_last (close cause) l after answer blocks h = at_end l after answer blocks h
 
 answers_last : (os : OpenObjects) (came : OpenInput) (l after : Live) (answer : Option DriveAnswer) (blocks : List ℕ) → AnswersFor os came l after answer blocks → AnswersLast os came l after answer blocks

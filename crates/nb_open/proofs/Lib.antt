@@ -51,6 +51,7 @@ pub mod DriveExchanges
 pub mod DriveAsides
 pub mod DriveTimes
 pub mod DriveReceiving
+pub mod DriveAsked
 pub mod DriveTasks
 pub mod DriveBegins
 pub mod DriveReading

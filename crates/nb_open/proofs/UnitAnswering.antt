@@ -77,7 +77,7 @@ module _ (rec chap : ℕ) (o : SessionNumbers) where
     bytes = [];
     says_answer = refl;
     says_blocks = refl;
-    goes = subst (λ z. GoesTo (reading o before) (reading o z) None []) (sym (append-nil before)) (refl, refl, sym (append-nil _));
+    goes = subst (λ z. GoesTo (reading o before) (reading o z) None []) (sym (append-nil before)) (refl, refl, sym (append-nil _), refl);
     phase = subst (λ z. Phase (reading o z)) (sym (append-nil before)) p;
     idle = λ none. (refl, refl, ap (λ z. at_work (reading o z)) (append-nil before) ∙ none);
   }

@@ -35,7 +35,7 @@ not_true true e = absurd (false≢true e)
 not_true false e = refl
 
 -- a read that is taken finds no command at work
-idle_takes : (r : DiskReading) (lba n : ℕ) → takes_read r lba n ≡ true → at_work r ≡ None
+pub idle_takes : (r : DiskReading) (lba n : ℕ) → takes_read r lba n ≡ true → at_work r ≡ None
 idle_takes r lba n e =
     by (at_work r) (not_true (is_some (at_work r)) (both_true (not (is_out r lba n)) (not (is_some (at_work r))) (both_true (nat_lt 0 n && nat_le n 64) (not (is_out r lba n) && not (is_some (at_work r))) e)))
   where
@@ -141,7 +141,7 @@ option_none (Some y) = refl
 
 -- what a drive that has ended has answered
 abbrev pub GoesLast : DiskReading → DiskReading → Option ℕ → List ℕ → Type 0
-GoesLast r q None bytes = ((capacity_read q ≡ capacity_read r) × (last_of q ≡ last_of r)) ⊎ ((capacity : ℕ) × (capacity_read r ≡ Some capacity) × (capacity_read q ≡ Some capacity) × IsNotRead (last_of q))
+GoesLast r q None bytes = ((capacity_read q ≡ capacity_read r) × (last_of q ≡ last_of r)) ⊎ ((capacity : ℕ) × (capacity_read r ≡ Some capacity) × (capacity_read q ≡ Some capacity) × IsNotRead (last_of q) × (last_of r ≡ None))
 GoesLast r q (Some capacity) bytes = GoesTo r q (Some capacity) bytes
 
 -- what is handed up by calls of which the last ends it is what these come to
@@ -183,7 +183,7 @@ module _ (rec chap : ℕ) (o : SessionNumbers) (before first : List DiskCall) (l
 
   ends_none : GoesTo (reading o before) r None h.bytes → EndsAs r (after_call o r last) → GoesLast (reading o before) (after_call o r last) None (h.bytes ++ (given ++ []))
   ends_none goes (ends_unread size answer) = inl (size ∙ goes.0, answer ∙ goes.1)
-  ends_none goes (ends_badly capacity was size bad) = inr (capacity, sym goes.0 ∙ was, size, bad)
+  ends_none goes (ends_badly capacity was size bad none) = inr (capacity, sym goes.0 ∙ was, size, bad, sym goes.1 ∙ none)
 
   ends_some : (capacity : ℕ) → GoesTo (reading o before) r (Some capacity) h.bytes → GoesLast (reading o before) (after_call o r last) (Some capacity) (h.bytes ++ (given ++ []))
   ends_some capacity goes =

@@ -16,11 +16,13 @@ use Rattle.nb_laws.specs.Histories.{client}
 use Rattle.nb_laws.specs.Lists.{hardware, openings}
 use Rattle.nb_laws.specs.Progress.{IsAdvanced}
 use Rattle.nb_laws.proofs.Tellings.{told, advanced_more}
-use Rattle.nb_openlaws.specs.Standings.{live_opening, heard_call, IsKindBy, HasLogin, ComesToOwnPort, IsOngoing, AgreesLive, AreLive, lives_among, HaveOwnNumbers}
+use Rattle.nb_openlaws.specs.Standings.{live_opening, heard_call, IsKindBy, ComesToOwnPort, IsOngoing, AgreesLive, AreLive, lives_among, HaveOwnNumbers}
 use Rattle.nb_laws.specs.Endings.{WhyClosed, by_unhooking}
 use Rattle.nb_laws.specs.Hookings.{LetsGo}
 use Rattle.nb_openlaws.specs.OpenEndings.{EndsBecause, by_itself}
 use Rattle.nb_openlaws.specs.OpenReasons.{OpenReasons}
+use Rattle.nb_openlaws.specs.Sessions.{AgreesBy, AgreesSession, SessionsAgree}
+use Rattle.nb_openlaws.proofs.SessionsDue.{other_session, sessions_on}
 use Rattle.nb_streams.proofs.FlowLaws.{all_append}
 use Rattle.nb_openlaws.proofs.OpenRecords.{AreOf, left, of_later, kept_puts, IsFrame, AreLater, IsLater}
 use Rattle.nb_openlaws.proofs.NetworkDevices.{client_some, some_of}
@@ -62,20 +64,21 @@ datagrams_close kind l x cause plain came keeps going own = by (last_as kind l x
     by (took_as h call acts t) = absurd (let none : [] ≡ call ∷ [] = sym (ap (heard_call kind) came) ∙ t.heard in cc)
     by (closed_as other is put) = let both : close other ≡ close cause = sym is ∙ came in let same : other ≡ cause = cc in put ∙ ap (λ z. ended l.number z ∷ []) same
 
-kind_closes : (kind : OpenKind) (es : List Event) (l : Live) (x : Exchange) (cause : Cause) → l.kind ≡ kind → x.came ≡ close cause → is_ok_cause cause ≡ false → client es ≡ x.link → AgreesLive es l → Keeps l → KeepsBy kind (continued l x) → IsAdvanced es → EndsFor cause es → OpenReasons es x.put
-kind_closes tftp es l x cause is came bad same a k keeps advanced why =
+kind_closes : (kind : OpenKind) (es : List Event) (l : Live) (x : Exchange) (cause : Cause) → l.kind ≡ kind → x.came ≡ close cause → is_ok_cause cause ≡ false → client es ≡ x.link → AgreesLive es l → AgreesSession es l → Keeps l →
+    KeepsBy kind (continued l x) → IsAdvanced es → EndsFor cause es → OpenReasons es x.put
+kind_closes tftp es l x cause is came bad same a w k keeps advanced why =
     subst (λ z. OpenReasons es z) (sym (datagrams_close tftp l x cause refl came keeps (subst (λ z. AllByRecursion (IsOngoing z l.number l.own) l.exchanges) is a.goes_on) tt)) (end_closes es l cause bad a k advanced why)
-kind_closes (http isn) es l x cause is came bad same a k keeps advanced why =
+kind_closes (http isn) es l x cause is came bad same a w k keeps advanced why =
     web_closes es l x isn cause came bad same (subst (λ z. IsKindBy (hardware es) l.number z (opening_as z l)) is a.kind_is) (a.opening ∙ ap (λ z. opening_as z l ∷ []) is) a.lives a.streams (subst (λ z. KeepsBy z l) is k) keeps
     (subst (λ z. AllByRecursion (IsOngoing z l.number l.own) l.exchanges) is a.goes_on) advanced (subst WhyClosed (append-nil es) (why [] tt).1) (λ frames alone. (why frames (frames_close cause frames alone)).0 l.number)
-kind_closes (iscsi isn i) es l x cause is came bad same a k keeps advanced why =
-    drive_closes es l x isn i cause came bad same (subst (λ z. IsKindBy (hardware es) l.number z (opening_as z l)) is a.kind_is) (a.opening ∙ ap (λ z. opening_as z l ∷ []) is) a.lives (subst (λ z. HasLogin l.number es z (opening_as z l)) is a.login) a.streams keeps
-    (subst (λ z. AllByRecursion (IsOngoing z l.number l.own) l.exchanges) is a.goes_on) advanced (closes_with_all (subst WhyClosed (append-nil es) (why [] tt).1)) (λ frames alone. (why frames (frames_close cause frames alone)).0 l.number)
-kind_closes (dns id) es l x cause is came bad same a k keeps advanced why =
+kind_closes (iscsi isn i) es l x cause is came bad same a w k keeps advanced why =
+    drive_closes es l x isn i cause came bad same (subst (λ z. IsKindBy (hardware es) l.number z (opening_as z l)) is a.kind_is) (a.opening ∙ ap (λ z. opening_as z l ∷ []) is) a.lives (subst (λ z. AgreesBy es z l) is w) keeps
+    advanced (closes_with_all (subst WhyClosed (append-nil es) (why [] tt).1)) (λ frames alone. (why frames (frames_close cause frames alone)).0 l.number)
+kind_closes (dns id) es l x cause is came bad same a w k keeps advanced why =
     subst (λ z. OpenReasons es z) (sym (datagrams_close (dns id) l x cause refl came keeps (subst (λ z. AllByRecursion (IsOngoing z l.number l.own) l.exchanges) is a.goes_on) tt)) (end_closes es l cause bad a k advanced why)
-kind_closes (dhcp b) es l x cause is came bad same a k keeps advanced why =
+kind_closes (dhcp b) es l x cause is came bad same a w k keeps advanced why =
     subst (λ z. OpenReasons es z) (sym (datagrams_close (dhcp b) l x cause refl came keeps (subst (λ z. AllByRecursion (IsOngoing z l.number l.own) l.exchanges) is a.goes_on) tt)) (end_closes es l cause bad a k advanced why)
-kind_closes ping es l x cause is came bad same a k keeps advanced why =
+kind_closes ping es l x cause is came bad same a w k keeps advanced why =
     subst (λ z. OpenReasons es z) (sym (datagrams_close ping l x cause refl came keeps (subst (λ z. AllByRecursion (IsOngoing z l.number l.own) l.exchanges) is a.goes_on) tt)) (end_closes es l cause bad a k advanced why)
 
 why_on : (es : List Event) (put : List Out) (cause : Cause) → AreClosing cause put → EndsFor cause es → EndsFor cause (es ++ told put)
@@ -93,27 +96,32 @@ others_live es k put ls of none a =
     let f = left es put (of_later k put of) in
     all_same es (es ++ told put) ls (grown es (told put)) f.made_is f.hardware_is (λ j some. others_same es k j put of (apart_from k j ls none some)) a
 
+-- and so do their sessions
+others_agree : (es : List Event) (k : ℕ) (put : List Out) (ls : List Live) → AreOf k put → lives_among k ls ≡ false → SessionsAgree es ls → SessionsAgree (es ++ told put) ls
+others_agree es k put ls of none w = sessions_on es (es ++ told put) ls (λ j some. other_session k j es put of (apart_from k j ls none some)) w
+
 -- one, of several
-one_closes : (devices : List Client) (es : List Event) (l : Live) (link : Client) (cause : Cause) (put : List Out) → devices ≡ client es ∷ [] → slice_get devices l.device ≡ Some link → is_ok_cause cause ≡ false → AgreesLive es l → Keeps l → Keeps (continued l (exchange (close cause) link put)) →
-    IsAdvanced es → EndsFor cause es → OpenReasons es put
-one_closes devices es l link cause put d got_it bad a k keeps advanced why = kind_closes l.kind es l (exchange (close cause) link put) cause refl refl bad (link_of es devices l link d a.on_net0 got_it) a k keeps advanced why
+one_closes : (devices : List Client) (es : List Event) (l : Live) (link : Client) (cause : Cause) (put : List Out) → devices ≡ client es ∷ [] → slice_get devices l.device ≡ Some link → is_ok_cause cause ≡ false → AgreesLive es l →
+    AgreesSession es l → Keeps l →
+    Keeps (continued l (exchange (close cause) link put)) → IsAdvanced es → EndsFor cause es → OpenReasons es put
+one_closes devices es l link cause put d got_it bad a w k keeps advanced why = kind_closes l.kind es l (exchange (close cause) link put) cause refl refl bad (link_of es devices l link d a.on_net0 got_it) a w k keeps advanced why
 
 -- all are closed
 pub closes_reasons : (devices : List Client) (cause : Cause) (ls : List Live) (put : List Out) (after : List Live) (over : List Over) → AllTake devices (close cause) ls put after over → is_ok_cause cause ≡ false →
-    (es : List Event) → devices ≡ client es ∷ [] → AreLive es ls → HaveOwnNumbers ls → AreKept ls → IsAdvanced es → EndsFor cause es → OpenReasons es put
-closes_reasons devices cause ls put after over all_have bad es d a apart kept advanced why = no_reasons es advanced
-closes_reasons devices cause ls0 put0 after0 over0 (lives_on l ls after link put more over got_it keeps_so none rest) bad es d a apart kept advanced why =
+    (es : List Event) → devices ≡ client es ∷ [] → AreLive es ls → HaveOwnNumbers ls → AreKept ls → IsAdvanced es → EndsFor cause es → SessionsAgree es ls → OpenReasons es put
+closes_reasons devices cause ls put after over all_have bad es d a apart kept advanced why w = no_reasons es advanced
+closes_reasons devices cause ls0 put0 after0 over0 (lives_on l ls after link put more over got_it keeps_so none rest) bad es d a apart kept advanced why w =
     let of = (kept_puts l (exchange (close cause) link put) keeps_so).of in
-    let one = one_closes devices es l link cause put d got_it bad a.0 kept.0 keeps_so advanced why in
+    let one = one_closes devices es l link cause put d got_it bad a.0 w.0 kept.0 keeps_so advanced why in
     let closing = closed_put l.number cause link put (puts_so l (exchange (close cause) link put) keeps_so) in
     reasons_then es put more one
-    (closes_reasons devices cause ls more after over rest bad (es ++ told put) (d ∙ ap (λ c. c ∷ []) (sym (client_some es put (some_of l.number put of)))) (others_live es l.number put ls of apart.0 a.1) apart.1 kept.1 one.after (why_on es put cause closing why))
-closes_reasons devices cause ls0 put0 after0 over0 (is_over l ls after link put more over c got_it keeps_so some rest) bad es d a apart kept advanced why =
+    (closes_reasons devices cause ls more after over rest bad (es ++ told put) (d ∙ ap (λ c. c ∷ []) (sym (client_some es put (some_of l.number put of)))) (others_live es l.number put ls of apart.0 a.1) apart.1 kept.1 one.after (why_on es put cause closing why) (others_agree es l.number put ls of apart.0 w.1))
+closes_reasons devices cause ls0 put0 after0 over0 (is_over l ls after link put more over c got_it keeps_so some rest) bad es d a apart kept advanced why w =
     let of = (kept_puts l (exchange (close cause) link put) keeps_so).of in
-    let one = one_closes devices es l link cause put d got_it bad a.0 kept.0 keeps_so advanced why in
+    let one = one_closes devices es l link cause put d got_it bad a.0 w.0 kept.0 keeps_so advanced why in
     let closing = closed_put l.number cause link put (puts_so l (exchange (close cause) link put) keeps_so) in
     reasons_then es put more one
-    (closes_reasons devices cause ls more after over rest bad (es ++ told put) (d ∙ ap (λ c. c ∷ []) (sym (client_some es put (some_of l.number put of)))) (others_live es l.number put ls of apart.0 a.1) apart.1 kept.1 one.after (why_on es put cause closing why))
+    (closes_reasons devices cause ls more after over rest bad (es ++ told put) (d ∙ ap (λ c. c ∷ []) (sym (client_some es put (some_of l.number put of)))) (others_live es l.number put ls of apart.0 a.1) apart.1 kept.1 one.after (why_on es put cause closing why) (others_agree es l.number put ls of apart.0 w.1))
 
 -- A DRIVE IS LET GO
 
@@ -150,12 +158,13 @@ frames_later (o ∷ outs) h = (one o h.0, frames_later outs h.1)
     one (step number) h = absurd h
     one _ h = absurd h
 
-one_let_go : (devices : List Client) (es : List Event) (l : Live) (link : Client) (put : List Out) → devices ≡ client es ∷ [] → slice_get devices l.device ≡ Some link → AgreesLive es l → Keeps (continued l (exchange (close stopped_cause) link put)) →
+one_let_go : (devices : List Client) (es : List Event) (l : Live) (link : Client) (put : List Out) → devices ≡ client es ∷ [] → slice_get devices l.device ≡ Some link → AgreesLive es l → AgreesSession es l →
+    Keeps (continued l (exchange (close stopped_cause) link put)) →
     IsAdvanced es → IsDrives l × LetsGoFor l.number es → OpenReasons es put
-one_let_go devices es l link put d got_it a keeps advanced ((isn, i, is), why) =
+one_let_go devices es l link put d got_it a w keeps advanced ((isn, i, is), why) =
     drive_closes es l (exchange (close stopped_cause) link put) isn i stopped_cause refl refl (link_of es devices l link d a.on_net0 got_it) (subst (λ z. IsKindBy (hardware es) l.number z (opening_as z l)) is a.kind_is)
-    (a.opening ∙ ap (λ z. opening_as z l ∷ []) is) a.lives (subst (λ z. HasLogin l.number es z (opening_as z l)) is a.login) a.streams (subst (λ z. KeepsBy z (continued l (exchange (close stopped_cause) link put))) is keeps)
-    (subst (λ z. AllByRecursion (IsOngoing z l.number l.own) l.exchanges) is a.goes_on) advanced (closes_alone (subst (LetsGo l.number) (append-nil es) (why [] tt)))
+    (a.opening ∙ ap (λ z. opening_as z l ∷ []) is) a.lives (subst (λ z. AgreesBy es z l) is w) (subst (λ z. KeepsBy z (continued l (exchange (close stopped_cause) link put))) is keeps)
+    advanced (closes_alone (subst (LetsGo l.number) (append-nil es) (why [] tt)))
     (λ frames alone.
     let es1 = es ++ told frames in
     let same : openings l.number es1 ≡ opening_as (iscsi isn i) l ∷ [] = (left es frames (frames_later frames alone)).openings_is l.number ∙ a.opening ∙ ap (λ z. opening_as z l ∷ []) is in
@@ -163,17 +172,17 @@ one_let_go devices es l link put d got_it a keeps advanced ((isn, i, is), why) =
 
 -- they are closed, and put what each puts
 pub let_go_reasons : (devices : List Client) (ls : List Live) (put : List Out) (after : List Live) (over : List Over) → AllTake devices (close stopped_cause) ls put after over →
-    (es : List Event) → devices ≡ client es ∷ [] → AreLive es ls → HaveOwnNumbers ls → IsAdvanced es → AreLetGo es ls → OpenReasons es put
-let_go_reasons devices ls put after over all_have es d a apart advanced why = no_reasons es advanced
-let_go_reasons devices ls0 put0 after0 over0 (lives_on l ls after link put more over got_it keeps_so none rest) es d a apart advanced why =
+    (es : List Event) → devices ≡ client es ∷ [] → AreLive es ls → HaveOwnNumbers ls → IsAdvanced es → AreLetGo es ls → SessionsAgree es ls → OpenReasons es put
+let_go_reasons devices ls put after over all_have es d a apart advanced why w = no_reasons es advanced
+let_go_reasons devices ls0 put0 after0 over0 (lives_on l ls after link put more over got_it keeps_so none rest) es d a apart advanced why w =
     let of = (kept_puts l (exchange (close stopped_cause) link put) keeps_so).of in
-    let one = one_let_go devices es l link put d got_it a.0 keeps_so advanced why.0 in
+    let one = one_let_go devices es l link put d got_it a.0 w.0 keeps_so advanced why.0 in
     let closing = closed_put l.number stopped_cause link put (puts_so l (exchange (close stopped_cause) link put) keeps_so) in
     reasons_then es put more one
-    (let_go_reasons devices ls more after over rest (es ++ told put) (d ∙ ap (λ c. c ∷ []) (sym (client_some es put (some_of l.number put of)))) (others_live es l.number put ls of apart.0 a.1) apart.1 one.after (go_on es put ls closing why.1))
-let_go_reasons devices ls0 put0 after0 over0 (is_over l ls after link put more over c got_it keeps_so some rest) es d a apart advanced why =
+    (let_go_reasons devices ls more after over rest (es ++ told put) (d ∙ ap (λ c. c ∷ []) (sym (client_some es put (some_of l.number put of)))) (others_live es l.number put ls of apart.0 a.1) apart.1 one.after (go_on es put ls closing why.1) (others_agree es l.number put ls of apart.0 w.1))
+let_go_reasons devices ls0 put0 after0 over0 (is_over l ls after link put more over c got_it keeps_so some rest) es d a apart advanced why w =
     let of = (kept_puts l (exchange (close stopped_cause) link put) keeps_so).of in
-    let one = one_let_go devices es l link put d got_it a.0 keeps_so advanced why.0 in
+    let one = one_let_go devices es l link put d got_it a.0 w.0 keeps_so advanced why.0 in
     let closing = closed_put l.number stopped_cause link put (puts_so l (exchange (close stopped_cause) link put) keeps_so) in
     reasons_then es put more one
-    (let_go_reasons devices ls more after over rest (es ++ told put) (d ∙ ap (λ c. c ∷ []) (sym (client_some es put (some_of l.number put of)))) (others_live es l.number put ls of apart.0 a.1) apart.1 one.after (go_on es put ls closing why.1))
+    (let_go_reasons devices ls more after over rest (es ++ told put) (d ∙ ap (λ c. c ∷ []) (sym (client_some es put (some_of l.number put of)))) (others_live es l.number put ls of apart.0 a.1) apart.1 one.after (go_on es put ls closing why.1) (others_agree es l.number put ls of apart.0 w.1))

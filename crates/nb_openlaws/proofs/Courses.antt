@@ -12,7 +12,7 @@ use Rattle.nb_laws.specs.Agreement.{AreStill}
 use Rattle.nb_defs.specs.Records.{Start, In, Out, result, enter, leave}
 use Rattle.nb_settings.specs.Tables.{TableLists}
 use Rattle.nb_stack.specs.Client.{Client}
-use Rattle.nb_machine.specs.Effects.{Effect, says, asks, goes, sleeps, shuts_device, inquires, on_images, on_drives, hooks_disk, unhooks_drive, concludes_at_once, full_opens, shown_words}
+use Rattle.nb_machine.specs.Effects.{Effect, says, asks, goes, sleeps, shuts_device, inquires, on_images, on_drives, hooks_disk, unhooks_drive, boots_drive, concludes_at_once, full_opens, shown_words}
 use Rattle.nb_defs.specs.Causes.{ok}
 use Rattle.nb_machine.specs.Running.{Running, no_label, entered, anew}
 use Rattle.nb_machine.specs.CommandRecords.{command_record, command_records, no_route, stopped_cause}
@@ -20,20 +20,21 @@ use Rattle.nb_machine.specs.Conclusions.{Conclusion, keeps, tells, fails, boots,
 use Rattle.nb_image.specs.Images.{ImageList}
 use Rattle.nb_machine.specs.Lives.{close, Live, open_record, end_record}
 use Rattle.nb_machine.specs.States.{State, following, state_at_start, with_images, with_settings, with_live, with_opened, with_one_made, with_drive}
+use Rattle.nb_drivecmd.specs.declared.drive.Drive.{Drive}
 use Rattle.nb_machine.specs.Takings.{Over, AllTake}
-use Rattle.nb_machine.specs.Scripts.{Job, ends, opens, shuts, doing_by, transfer_for, live_for, live_onward, net0_mac, Upshot, concludes, settles, goes_onward, upshot_records, concluded_by, hooks_drive}
+use Rattle.nb_machine.specs.Scripts.{Job, ends, opens, shuts, doing_by, transfer_for, live_for, live_onward, net0_mac, Upshot, concludes, settles, goes_onward, upshot_records, concluded_by, hooks_drive, reads_drive, boots_drive_by}
 use Rattle.nb_machine.specs.Courses as course
-use Rattle.nb_machine.specs.Courses.{Standing, Progress, stands, nowhere, text_records, text_standing, ScriptLeads, ConclusionLeads, LeadsTo, StepBegins, Proceeds, Course}
+use Rattle.nb_machine.specs.Courses.{ReadsBlock, block_lost, block_standing, Standing, Progress, stands, nowhere, text_records, text_standing, ScriptLeads, ConclusionLeads, LeadsTo, StepBegins, Proceeds, Course}
 use Rattle.nb_machine.specs.BootTables.{boot_table}
 use Rattle.nb_laws.specs.Events.{Event, starts, stops, puts, inputs, outputs, used_by, written_by, put_one}
 use Rattle.nb_laws.specs.Lists.{time, made, port_offset, hardware, gathered, openings, open_has_ended, live, calls, marks}
 use Rattle.nb_laws.specs.Webs.{brought_to, try_marks_of}
 use Rattle.nb_openlaws.specs.Standings.{AgreesState, AgreesStanding}
 use Rattle.nb_laws.proofs.Tellings.{told}
-use Rattle.nb_laws.proofs.Asides.{more_still, still_command, still_conclusion, still_handoff, silent_handoff}
+use Rattle.nb_laws.proofs.Asides.{more_still, still_command, still_conclusion, still_handoff, silent_handoff, still_disk, silent_disk}
 use Rattle.nb_openlaws.proofs.UsedEvents.{IsUsed}
 use Rattle.nb_openlaws.proofs.LiveStates.{as_state, nothing_came, close_agrees, SameStart, some_close, splits_first, drop_agrees}
-use Rattle.nb_openlaws.proofs.Networks.{network_agrees}
+use Rattle.nb_openlaws.proofs.Networks.{network_agrees, asks_agrees}
 use Rattle.nb_openlaws.proofs.OpenStates.{still_state, IsNext, opened_state, failed_state, begun_so}
 use Rattle.nb_openlaws.proofs.NextOpens.{query_next, transfer_next, opens_settings, onward_settings, onward_so, MayHook}
 
@@ -64,6 +65,7 @@ ends_keep s t table up (on_images c) o e = absurd (cc)
 ends_keep s t table up (on_drives c) o e = absurd (cc)
 ends_keep s t table up (hooks_disk hooking) o e = absurd (cc)
 ends_keep s t table up (unhooks_drive number cause) o e = absurd (cc)
+ends_keep s t table up (boots_drive number) o e = absurd (cc)
 ends_keep s t table up (concludes_at_once c) o e = absurd (cc)
 ends_keep s t table up shuts_device o e = absurd (cc)
 
@@ -78,6 +80,7 @@ shuts_keep s t table up (on_images c) e = absurd (cc)
 shuts_keep s t table up (on_drives c) e = absurd (cc)
 shuts_keep s t table up (hooks_disk hooking) e = absurd (cc)
 shuts_keep s t table up (unhooks_drive number cause) e = absurd (cc)
+shuts_keep s t table up (boots_drive number) e = absurd (cc)
 shuts_keep s t table up (concludes_at_once c) e = absurd (cc)
 
 pub opens_next : (s t : State) (table : TableLists) (up : Bool) (e : Effect) (l : Live) (job : Job) → doing_by s table up e ≡ opens t l job → KeepsOpens s t × IsNext t l
@@ -97,6 +100,7 @@ opens_next s t table up (on_images c) l job e = absurd (cc)
 opens_next s t table up (on_drives c) l job e = absurd (cc)
 opens_next s t table up (hooks_disk hooking) l job e = absurd (cc)
 opens_next s t table up (unhooks_drive number cause) l job e = absurd (cc)
+opens_next s t table up (boots_drive number) l job e = absurd (cc)
 opens_next s t table up (concludes_at_once c) l job e = absurd (cc)
 
 pub kept_state : (es : List Event) (s t : State) → KeepsOpens s t → AgreesState es s → AgreesState es t
@@ -169,6 +173,25 @@ conclusion_agrees es s inner outer (boots list kernel) put p (over, all, is) a =
     subst (AgreesStanding (es ++ told put)) (sym is)
     (as_state (es ++ told put) (with_live s []) (with_live (with_images s list) []) (record { now = refl; opens = refl; offset = refl; mac = refl; identity = refl }) refl (close_agrees es s stopped_cause put [] over a all), still_handoff kernel list.images (boot_table s), silent_handoff kernel list.images (boot_table s))
 
+pub told_two : (es : List Event) (a b : List Out) → (es ++ told a) ++ told b ≡ es ++ told (a ++ b)
+told_two es a b = append_assoc es (told a) (told b) ∙ ap (λ z. es ++ z) (sym (map-append puts a b))
+
+-- a drive is asked for its first block, and the command waits for it, or has its cause
+reads_agrees : (es : List Event) (s : State) (inner : Running) (outer : List Running) (number : ℕ) (d : Option Drive) (put : List Out) (p : Standing) → ReadsBlock s inner outer number d put p → AgreesState es s → AgreesStanding (es ++ told put) p
+reads_agrees es s inner outer number d put p r a =
+    subst (AgreesStanding (es ++ told put)) (sym r.stands_so) (subst (λ z. AgreesStanding z (block_standing r.next inner outer number d r.over)) (told_two es r.asked (block_lost r.over) ∙ ap (λ z. es ++ told z) (sym r.all)) (by r.over))
+  where
+    asked : AgreesState (es ++ told r.asked) r.next
+    asked = asks_agrees es s r.next number r.asked r.over r.asks a
+
+    by : (over : List Over) → AgreesStanding ((es ++ told r.asked) ++ told (block_lost over)) (block_standing r.next inner outer number d over)
+    by [] = still_state (es ++ told r.asked) [] r.next tt asked
+    by (o ∷ over) = still_state (es ++ told r.asked) (result o.cause ∷ []) r.next (tt, tt) asked
+
+same_booted : (s : State) (d : Option Drive) → SameStart (with_live s []) (with_live (course.with_booted s d) [])
+same_booted s None = record { now = refl; opens = refl; offset = refl; mac = refl; identity = refl }
+same_booted s (Some d) = record { now = refl; opens = refl; offset = refl; mac = refl; identity = refl }
+
 upshot_agrees : (es : List Event) (s : State) (inner : Running) (outer : List Running) (u : Upshot) (put : List Out) (p : Standing) → LeadsTo s inner outer u put p → AgreesState es s → AgreesStanding ((es ++ told (upshot_records u)) ++ told put) p
 upshot_agrees es s inner outer (concludes c) put p leads a = conclusion_agrees (es ++ told (conclusion_records c)) s inner outer c put p leads (still_state es (conclusion_records c) s (still_conclusion c) a)
 upshot_agrees es s inner outer (settles x) put p (none, is) a =
@@ -179,12 +202,15 @@ upshot_agrees es s inner outer (hooks_drive d) put p (none, is) a =
     let es1 = es ++ told (result ok ∷ []) in
     subst (AgreesStanding (es1 ++ told put)) (sym is) (as_state (es1 ++ told put) s (with_drive s d) (record { now = refl; opens = refl; offset = refl; mac = refl; identity = refl }) refl
     (subst (λ z. AgreesState (es1 ++ told z) s) (sym none) (subst (λ z. AgreesState z s) (sym (append-nil es1)) (still_state es (result ok ∷ []) s (tt, tt) a))))
+upshot_agrees es s inner outer (reads_drive d) put p reads a = reads_agrees (es ++ told []) s inner outer d.open_number (Some d) put p reads (still_state es [] s tt a)
+upshot_agrees es s inner outer (boots_drive_by d bytes) put p (over, all, is) a =
+    let es1 = es ++ told (result ok ∷ []) in
+    let table = boot_table (course.with_booted s d) in
+    subst (AgreesStanding (es1 ++ told put)) (sym is)
+    (as_state (es1 ++ told put) (with_live s []) (with_live (course.with_booted s d) []) (same_booted s d) refl (close_agrees es1 s stopped_cause put [] over (still_state es (result ok ∷ []) s (tt, tt) a) all), still_disk bytes table, silent_disk bytes table)
 upshot_agrees es s inner outer (goes_onward next) put p (none, is) a =
     let es1 = es ++ told [] in
     subst (AgreesStanding (es1 ++ told put)) (sym is) (subst (λ z. AgreesState (es1 ++ told z) s) (sym none) (subst (λ z. AgreesState z s) (sym (append-nil es1)) (still_state es [] s tt a)))
-
-pub told_two : (es : List Event) (a b : List Out) → (es ++ told a) ++ told b ≡ es ++ told (a ++ b)
-told_two es a b = append_assoc es (told a) (told b) ∙ ap (λ z. es ++ z) (sym (map-append puts a b))
 
 off_state : (es : List Event) (n : ℕ) (s : State) (put : List Out) (over : List Over) → AgreesState es s → AllTake s.devices (close stopped_cause) s.live put [] over → AgreesState ((es ++ stops n ∷ []) ++ told put) (with_live s [])
 off_state es n s put over a all =
@@ -304,6 +330,9 @@ move_told es m added m2 (course.goes_to_hook n s s2 inner outer c cs hooking put
     subst (λ z. AgreesState z s2) (told_two es b put) (drop_agrees (es ++ told b) s s2 hooking.number put (still_state es b s (tt, tt) a) drops)
 move_told es m added m2 (course.hooks_none n s s2 inner outer c cs hooking put cause comes few is drops next_asked) a r = dropped_told es s s2 inner (c ∷ cs) hooking.number put cause drops a
 move_told es m added m2 (course.unhooks n s s2 inner outer c cs number put cause comes few is drops) a r = dropped_told es s s2 inner (c ∷ cs) number put cause drops a
+move_told es m added m2 (course.boots_hooked n s inner outer c cs number d put p comes few is some reads) a r =
+    let b = command_record inner (shown_words s.table (c ∷ cs)) ∷ [] in
+    subst (λ z. AgreesStanding z p) (told_two es b put) (reads_agrees (es ++ told b) s (entered inner) outer d.open_number None put p reads (still_state es b s (tt, tt) a))
 move_told es m added m2 (course.leaves n s s2 inner outer c cs x comes few is away) a r =
     let b = command_records inner (shown_words s.table (c ∷ cs)) x ++ (leave inner.depth x.cause ∷ []) in
     kept_state (es ++ told b) s s2 (ends_keep s s2 _ _ _ x is)

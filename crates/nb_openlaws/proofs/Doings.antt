@@ -2,7 +2,7 @@
 use Rattle.std.proofs.Common.{◌≡◌, ℕ, ◌+◌, ◌*◌, Bool, List, refl, sym, ap, ◌∙◌}
 use Rattle.nb_defs.specs.Commands.{CommandOutcome}
 use Rattle.nb_settings.specs.Tables.{TableLists}
-use Rattle.nb_machine.specs.Effects.{Effect, says, asks, goes, sleeps, shuts_device, inquires, on_images, on_drives, hooks_disk, unhooks_drive, concludes_at_once, Surroundings, settled_effect, effect, effect_in, table_after, up_after}
+use Rattle.nb_machine.specs.Effects.{Effect, says, asks, goes, sleeps, shuts_device, inquires, on_images, on_drives, hooks_disk, unhooks_drive, boots_drive, concludes_at_once, Surroundings, settled_effect, effect, effect_in, table_after, up_after}
 use Rattle.nb_machine.specs.Errands.{Wanted}
 use Rattle.nb_machine.specs.Queries.{Query}
 use Rattle.nb_machine.specs.Conclusions.{Conclusion}
@@ -11,7 +11,7 @@ use Rattle.nb_machine.proofs.Eithers.{images_either}
 use Rattle.nb_machine.proofs.Words.{KeepsTable, keeps_table_in, KeepsUp, keeps_up_in}
 use Rattle.nb_machine.specs.Lives.{Live}
 use Rattle.nb_machine.specs.States.{State, with_settings}
-use Rattle.nb_machine.specs.Scripts.{Job, fetch, job_for, live_for, transfer_for, ends, opens, goes_to, waits_until, shuts, concludes_now, surroundings, doing_by, doing, hooks_one, lets_go}
+use Rattle.nb_machine.specs.Scripts.{Job, fetch, job_for, live_for, transfer_for, ends, opens, goes_to, waits_until, shuts, concludes_now, surroundings, doing_by, doing, hooks_one, lets_go, boots_one}
 use Rattle.nb_terms.specs.declared.cause.Cause.{Cause}
 use Rattle.nb_drivecmd.specs.declared.outcome.Hooking.{Hooking}
 use Rattle.nb_machine.proofs.Eithers.{drives_either}
@@ -29,6 +29,7 @@ ends_so s table up (on_images c) o s' is = absurd (cc)
 ends_so s table up (on_drives c) o s' is = absurd (cc)
 ends_so s table up (hooks_disk hooking) o s' is = absurd (cc)
 ends_so s table up (unhooks_drive number cause) o s' is = absurd (cc)
+ends_so s table up (boots_drive number) o s' is = absurd (cc)
 ends_so s table up (concludes_at_once c) o s' is = absurd (cc)
 ends_so s table up (says x) o s' is = let same : x ≡ o = cc is in let state : with_settings s table up ≡ s' = cc is in (ap says same, sym state)
 ends_so s table up (asks wanted) o s' is = absurd (cc)
@@ -45,6 +46,7 @@ shuts_so s table up (on_images c) s' is = absurd (cc)
 shuts_so s table up (on_drives c) s' is = absurd (cc)
 shuts_so s table up (hooks_disk hooking) s' is = absurd (cc)
 shuts_so s table up (unhooks_drive number cause) s' is = absurd (cc)
+shuts_so s table up (boots_drive number) s' is = absurd (cc)
 shuts_so s table up (concludes_at_once c) s' is = absurd (cc)
 shuts_so s table up (says x) s' is = absurd (cc)
 shuts_so s table up (asks wanted) s' is = absurd (cc)
@@ -61,6 +63,7 @@ goes_so s table up (on_images c) name is = absurd (cc)
 goes_so s table up (on_drives c) name is = absurd (cc)
 goes_so s table up (hooks_disk hooking) name is = absurd (cc)
 goes_so s table up (unhooks_drive number cause) name is = absurd (cc)
+goes_so s table up (boots_drive number) name is = absurd (cc)
 goes_so s table up (concludes_at_once c) name is = absurd (cc)
 goes_so s table up (says x) name is = absurd (cc)
 goes_so s table up (asks wanted) name is = absurd (cc)
@@ -77,6 +80,7 @@ waits_so s table up (on_images c) time is = absurd (cc)
 waits_so s table up (on_drives c) time is = absurd (cc)
 waits_so s table up (hooks_disk hooking) time is = absurd (cc)
 waits_so s table up (unhooks_drive number cause) time is = absurd (cc)
+waits_so s table up (boots_drive number) time is = absurd (cc)
 waits_so s table up (concludes_at_once c) time is = absurd (cc)
 waits_so s table up (says x) time is = absurd (cc)
 waits_so s table up (asks wanted) time is = absurd (cc)
@@ -98,6 +102,7 @@ opens_so s table up (on_images c) s' l job is = absurd (cc)
 opens_so s table up (on_drives c) s' l job is = absurd (cc)
 opens_so s table up (hooks_disk hooking) s' l job is = absurd (cc)
 opens_so s table up (unhooks_drive number cause) s' l job is = absurd (cc)
+opens_so s table up (boots_drive number) s' l job is = absurd (cc)
 opens_so s table up (concludes_at_once c) s' l job is = absurd (cc)
 opens_so s table up (says x) s' l job is = absurd (cc)
 opens_so s table up (asks wanted) s' l job is =
@@ -123,6 +128,7 @@ IsSettled (on_images c) = ⊥
 IsSettled (on_drives c) = ⊥
 IsSettled (hooks_disk hooking) = Unit {0}
 IsSettled (unhooks_drive number cause) = Unit {0}
+IsSettled (boots_drive number) = Unit {0}
 IsSettled (says o) = Unit {0}
 IsSettled (asks wanted) = Unit {0}
 IsSettled (goes name) = Unit {0}
@@ -133,9 +139,10 @@ IsSettled (concludes_at_once c) = Unit {0}
 
 settles : (x : Surroundings) (e : Effect) → IsSettled (settled_effect x e)
 settles x (on_images c) = images_either IsSettled (λ o. tt) (λ y. tt) (λ wanted. tt) (λ q. tt) x c
-settles x (on_drives c) = drives_either IsSettled (λ o. tt) (λ hooking. tt) (λ number cause. tt) x c
+settles x (on_drives c) = drives_either IsSettled (λ o. tt) (λ hooking. tt) (λ number cause. tt) (λ number. tt) x c
 settles x (hooks_disk hooking) = tt
 settles x (unhooks_drive number cause) = tt
+settles x (boots_drive number) = tt
 settles x (says o) = tt
 settles x (asks wanted) = tt
 settles x (goes name) = tt
@@ -154,6 +161,7 @@ concludes_so s table up (on_images x) c settled is = absurd settled
 concludes_so s table up (on_drives y) c settled is = absurd settled
 concludes_so s table up (hooks_disk hooking) c settled is = absurd (cc)
 concludes_so s table up (unhooks_drive number cause) c settled is = absurd (cc)
+concludes_so s table up (boots_drive number) c settled is = absurd (cc)
 concludes_so s table up (says x) c settled is = absurd (cc)
 concludes_so s table up (asks wanted) c settled is = absurd (cc)
 concludes_so s table up (goes name) c settled is = absurd (cc)
@@ -170,6 +178,7 @@ hooks_so s table up (on_images c) hooking is = absurd (cc)
 hooks_so s table up (on_drives c) hooking is = absurd (cc)
 hooks_so s table up (hooks_disk x) hooking is = let same : x ≡ hooking = cc is in ap hooks_disk same
 hooks_so s table up (unhooks_drive number cause) hooking is = absurd (cc)
+hooks_so s table up (boots_drive number) hooking is = absurd (cc)
 hooks_so s table up (concludes_at_once c) hooking is = absurd (cc)
 hooks_so s table up (says x) hooking is = absurd (cc)
 hooks_so s table up (asks wanted) hooking is = absurd (cc)
@@ -187,6 +196,7 @@ lets_so s table up (on_images c) number cause is = absurd (cc)
 lets_so s table up (on_drives c) number cause is = absurd (cc)
 lets_so s table up (hooks_disk hooking) number cause is = absurd (cc)
 lets_so s table up (unhooks_drive x y) number cause is = let same : x ≡ number = cc is in let also : y ≡ cause = cc is in ap (λ z. unhooks_drive z y) same ∙ ap (unhooks_drive number) also
+lets_so s table up (boots_drive n) number cause is = absurd (cc)
 lets_so s table up (concludes_at_once c) number cause is = absurd (cc)
 lets_so s table up (says x) number cause is = absurd (cc)
 lets_so s table up (asks wanted) number cause is = absurd (cc)
@@ -197,6 +207,24 @@ lets_so s table up (inquires q) number cause is = absurd (cc)
 
 pub lets_by : (s : State) (inner : Running) (ws : List (List ℕ)) (number : ℕ) (cause : Cause) → doing s inner ws ≡ lets_go number cause → comes_to s inner ws ≡ unhooks_drive number cause
 lets_by s inner ws number cause is = lets_so s (table_after s.table ws) (up_after s.table s.up ws) (comes_to s inner ws) number cause is
+
+-- it boots a drive that is hooked
+boots_so : (s : State) (table : TableLists) (up : Bool) (e : Effect) (number : ℕ) → doing_by s table up e ≡ boots_one number → e ≡ boots_drive number
+boots_so s table up (on_images c) number is = absurd (cc)
+boots_so s table up (on_drives c) number is = absurd (cc)
+boots_so s table up (hooks_disk hooking) number is = absurd (cc)
+boots_so s table up (unhooks_drive n cause) number is = absurd (cc)
+boots_so s table up (boots_drive n) number is = let same : n ≡ number = cc is in ap boots_drive same
+boots_so s table up (concludes_at_once c) number is = absurd (cc)
+boots_so s table up (says x) number is = absurd (cc)
+boots_so s table up (asks wanted) number is = absurd (cc)
+boots_so s table up (goes name) number is = absurd (cc)
+boots_so s table up (sleeps seconds) number is = absurd (cc)
+boots_so s table up shuts_device number is = absurd (cc)
+boots_so s table up (inquires q) number is = absurd (cc)
+
+pub boots_by : (s : State) (inner : Running) (ws : List (List ℕ)) (number : ℕ) → doing s inner ws ≡ boots_one number → comes_to s inner ws ≡ boots_drive number
+boots_by s inner ws number is = boots_so s (table_after s.table ws) (up_after s.table s.up ws) (comes_to s inner ws) number is
 
 -- WHAT STAYS
 

@@ -42,7 +42,7 @@ use Rattle.nb_readings.specs.Ends.{is_whole}
 use Rattle.nb_streams.specs.Streams.{next}
 use Rattle.nb_talks.specs.Talking.{talk_held}
 use Rattle.nb_streams.specs.Trying.{tries_at}
-use Rattle.nb_laws.specs.Drives.{session_place_by, session_place}
+use Rattle.nb_laws.specs.Drives.{came_to_session, session_place_by, session_place}
 use Rattle.nb_laws.proofs.SessionOpenings.{no_session_of}
 use Rattle.nb_laws.specs.Webs.{opens_web, opens_session, opens_connection, brought_to, talk_by, response_by, stream_place_by, try_marks_of}
 use Rattle.nb_machine.specs.Transfers.{transfer_of, earlier, finds_none, end_records}
@@ -59,6 +59,7 @@ use Rattle.nb_openlaws.proofs.LastEntries.{Promised, exchange_end, EndsUntried, 
 use Rattle.nb_openlaws.proofs.Sendings.{reasons_then, MaySend, core_reasons, transfer_reasons, each_open}
 use Rattle.nb_openlaws.proofs.KindFacts.{ByDatagrams, by_datagrams, no_stream, no_session, no_connection, answer_as, opening_as, first_of, unanswered_as, IsCore, core_asks, core_ends, no_way_as}
 use Rattle.nb_openlaws.proofs.TransferEnds.{within_limit, transfer_holds}
+use Rattle.nb_openlaws.proofs.SessionsDue.{SessionBrought}
 
 -- it has come to an open, were it of this kind, over this client
 pub record ComeAs (kind : OpenKind) (es : List Event) (input : OpenInput) (l : Live) (link : Client) : Type 0 where
@@ -77,7 +78,7 @@ pub record ComeAs (kind : OpenKind) (es : List Event) (input : OpenInput) (l : L
   -- its last ADVANCE has the last block that it had received before, or the end of what had come of its stream
   pub placed : ByDatagrams kind → (h : List Entry) → heard_calls kind l.exchanges ≡ map (λ e. e.call) h → last_place l.number es ≡ blocks_where ((opening_as kind l).kind == 1) (got h)
   pub streamed_to : opens_web (opening_as kind l) ≡ true → last_place l.number es ≡ stream_place_by (hardware es) l.number (streamed l.exchanges) (opening_as kind l)
-  pub session_to : (isn : ℕ) (i : LoginInfo) → kind ≡ iscsi isn i → last_place l.number es ≡ session_place_by (hardware es) l.number (streamed l.exchanges) (record { opening = opening_as kind l; login = i })
+  pub session_to : (isn : ℕ) (i : LoginInfo) → kind ≡ iscsi isn i → SessionBrought es input l isn i
   pub others : (j : ℕ) → (l.number == j) ≡ false → last_place j es ≡ file_place j es
 
 now_of : (kind : OpenKind) (input : OpenInput) (call : Call) (t : ℕ) → heard_call kind input ≡ call ∷ [] → IsNow input t → t ≡ moment_in input
@@ -161,7 +162,7 @@ place_so k es o e plain =
     let neither = neither_one (opens_web o) (opens_session o) plain in
     ap (λ os. file_blocks k es + sum_by (stream_place_by (hardware es) k (brought_to k es)) os + session_place k es) e
     ∙ ap (λ b. file_blocks k es + (0 + cond b (next (talk_held (first_word (hardware es).identity k) (talk_by (hardware es) k o (brought_to k es)))) 0) + session_place k es) neither.0
-    ∙ ap (λ ss. file_blocks k es + 0 + sum_by (session_place_by (hardware es) k (brought_to k es)) ss) (no_session_of k es o e neither.1)
+    ∙ ap (λ ss. file_blocks k es + 0 + sum_by (session_place_by (hardware es) k (came_to_session k es)) ss) (no_session_of k es o e neither.1)
     ∙ add-zero (file_blocks k es + 0) ∙ add-zero (file_blocks k es) ∙ blocks_so k es o e
 
 core_advanced : (kind : OpenKind) (es : List Event) (l : Live) (x : Exchange) (h : List Entry) (call : Call) (acts : Acts) → IsCore kind → Context kind es l x h call acts → IsAdvanced es

@@ -27,7 +27,10 @@ use Rattle.nb_readings.specs.Ends.{is_whole}
 use Rattle.nb_webs.specs.Webs.{response_come}
 use Rattle.nb_machine.specs.Kinds.{first_records, is_connection}
 use Rattle.nb_machine.specs.States.{State}
-use Rattle.nb_laws.specs.Drives.{sessions, session_by, came_to}
+use Rattle.nb_laws.specs.Drives.{session_by, came_to_session}
+use Rattle.nb_laws.proofs.Tellings.{came_session_more}
+use Rattle.nb_openlaws.specs.Sessions.{session_of_live}
+use Rattle.nb_openlaws.proofs.SessionBegins.{unopened_came}
 use Rattle.nb_laws.specs.Events.{Event, puts}
 use Rattle.nb_laws.specs.Histories.{client}
 use Rattle.nb_laws.specs.Lists.{Hardware, hardware, openings, open_has_ended, calls, datagrams_of}
@@ -47,7 +50,6 @@ use Rattle.nb_openlaws.proofs.Requests.{calls_after, said_once}
 use Rattle.nb_openlaws.proofs.WebStands.{begins_well, goes_unwhole}
 use Rattle.nb_openlaws.proofs.WebSendings.{segment_reasons}
 use Rattle.nb_openlaws.proofs.SessionSendings.{session_reason}
-use Rattle.nb_openlaws.proofs.SessionEnds.{drive_opening}
 use Rattle.nb_openlaws.proofs.KindFacts.{opening_as, first_of, no_way_as}
 use Rattle.nb_openlaws.proofs.OpenStates.{IsNext, SaysSettings, opens_here, hardware_now, opens_login}
 use Rattle.nb_openlaws.proofs.Closings.{ended_advanced}
@@ -105,6 +107,10 @@ kind_then es s l link o = subst (λ z. IsKindBy z l.number l.kind (live_opening 
 
 none_streamed : (es : List Event) (s : State) (l : Live) (link : Client) → Opens es s l link → brought_to l.number (es ++ puts (open_record l) ∷ []) ≡ []
 none_streamed es s l link o = came_more l.number es (puts (open_record l)) ∙ append-nil (brought_to l.number es) ∙ (o.base.unstreamed l.number (omega (arith, o.next.number_is, o.base.opens))).0
+
+none_asked : (es : List Event) (s : State) (l : Live) (link : Client) → Opens es s l link → came_to_session l.number (es ++ puts (open_record l) ∷ []) ≡ []
+none_asked es s l link o =
+    came_session_more l.number es (puts (open_record l)) ∙ append-nil (came_to_session l.number es) ∙ unopened_came l.number es (o.base.unopened l.number (omega (arith, o.next.number_is, o.base.opens)))
 
 -- what the history says of it then
 record OpenedSo (es : List Event) (l : Live) (link : Client) : Type 0 where
@@ -184,36 +190,38 @@ bare_asks : (isn : ℕ) → conn_phase isn [] ≡ asking []
 unfolding conn_phase
 bare_asks isn = refl
 
-drive_begins : (es : List Event) (l : Live) (link : Client) (isn : ℕ) (i : LoginInfo) → client es ≡ link → openings l.number es ≡ opening_as (iscsi isn i) l ∷ [] → open_has_ended l.number es ≡ false → brought_to l.number es ≡ [] → IsDue l.number es →
-    IsKindBy (hardware es) l.number (iscsi isn i) (opening_as (iscsi isn i) l) → sessions l.number es ≡ drive_opening i isn l ∷ [] → IsAdvanced es → OpenReasons es (send_records link l.number (Some 1) (first_of (iscsi isn i) l))
-drive_begins es l link isn i same opening lives streams due is login a =
-    session_reason es (opening_as (iscsi isn i) l) link (connection_of isn l) (drive_opening i isn l) [] (syn isn) (Some 1) a due (record {
+drive_begins : (es : List Event) (l : Live) (link : Client) (isn : ℕ) (i : LoginInfo) → client es ≡ link → openings l.number es ≡ opening_as (iscsi isn i) l ∷ [] → open_has_ended l.number es ≡ false → came_to_session l.number es ≡ [] →
+    IsDue l.number es →
+    IsKindBy (hardware es) l.number (iscsi isn i) (opening_as (iscsi isn i) l) → HasLogin l.number es (iscsi isn i) (opening_as (iscsi isn i) l) → IsAdvanced es → OpenReasons es (send_records link l.number (Some 1) (first_of (iscsi isn i) l))
+drive_begins es l link isn i same opening lives came due is login a =
+    session_reason es (opening_as (iscsi isn i) l) link (connection_of isn l) (session_of_live l i login.0) [] (syn isn) (Some 1) a due (record {
       client_is = same;
       opening = opening;
       lives = lives;
       kind_is = refl;
-      session = login;
+      session = login.1;
       link_is = ap (λ z. record { own_port = l.own; peer = host l.server; peer_port = l.port; isn = z }) (sym is);
       texts = unsaid (session_talker i) (first_word (hardware es).identity l.number) (record { calls = []; tasks = [] }) ∷ [];
       now = l.since;
-      calls_are = ap (λ z. (session_by (hardware es) l.number (drive_opening i isn l) (came_to z)).calls) streams ∙ sym (append-nil (begun_talk (session_talker i) (first_word (hardware es).identity l.number) l.since).calls);
+      calls_are = ap (λ z. (session_by (hardware es) l.number (session_of_live l i login.0) z).calls) came ∙ sym (append-nil (begun_talk (session_talker i) (first_word (hardware es).identity l.number) l.since).calls);
     }) (by_asking [] (bare_asks isn) refl) (λ n tries. ap (tried_again isn) (sym (bare_asks isn)))
 
-kind_begins : (kind : OpenKind) (es : List Event) (l : Live) (link : Client) → client es ≡ link → openings l.number es ≡ opening_as kind l ∷ [] → open_has_ended l.number es ≡ false → datagrams_of l.number es ≡ [] → brought_to l.number es ≡ [] → IsDue l.number es →
+kind_begins : (kind : OpenKind) (es : List Event) (l : Live) (link : Client) → client es ≡ link → openings l.number es ≡ opening_as kind l ∷ [] → open_has_ended l.number es ≡ false → datagrams_of l.number es ≡ [] → brought_to l.number es ≡ [] →
+    came_to_session l.number es ≡ [] → IsDue l.number es →
     IsKindBy (hardware es) l.number kind (opening_as kind l) → HasLogin l.number es kind (opening_as kind l) → IsAdvanced es → OpenReasons es (send_records link l.number (Some 1) (first_of kind l))
-kind_begins tftp es l link same opening lives received streams due is login a = datagrams_begin tftp es l link refl same opening lives received due is a
-kind_begins (http isn) es l link same opening lives received streams due is login a = web_begins es l link isn same opening lives streams due is a
-kind_begins (iscsi isn i) es l link same opening lives received streams due is login a = drive_begins es l link isn i same opening lives streams due is login a
-kind_begins (dns id) es l link same opening lives received streams due is login a = datagrams_begin (dns id) es l link refl same opening lives received due is a
-kind_begins (dhcp b) es l link same opening lives received streams due is login a = datagrams_begin (dhcp b) es l link refl same opening lives received due is a
-kind_begins ping es l link same opening lives received streams due is login a = datagrams_begin ping es l link refl same opening lives received due is a
+kind_begins tftp es l link same opening lives received streams came due is login a = datagrams_begin tftp es l link refl same opening lives received due is a
+kind_begins (http isn) es l link same opening lives received streams came due is login a = web_begins es l link isn same opening lives streams due is a
+kind_begins (iscsi isn i) es l link same opening lives received streams came due is login a = drive_begins es l link isn i same opening lives came due is login a
+kind_begins (dns id) es l link same opening lives received streams came due is login a = datagrams_begin (dns id) es l link refl same opening lives received due is a
+kind_begins (dhcp b) es l link same opening lives received streams came due is login a = datagrams_begin (dhcp b) es l link refl same opening lives received due is a
+kind_begins ping es l link same opening lives received streams came due is login a = datagrams_begin ping es l link refl same opening lives received due is a
 
 pub begins_reasons : (es : List Event) (s : State) (l : Live) (link : Client) (put : List Out) → Opens es s l link → first_records l.kind l link ≡ Some put → OpenReasons es (open_record l ∷ put)
 begins_reasons es s l link put o first =
     let es1 = es ++ puts (open_record l) ∷ [] in
     let r = open_reasons es s l link o in
     let m = opened_so es s l link o in
-    let sends = kind_begins l.kind es1 l link m.client_is m.opening m.lives m.received m.streams m.due (kind_then es s l link o) (opens_login es s l o.next o.settings o.base) r.after in
+    let sends = kind_begins l.kind es1 l link m.client_is m.opening m.lives m.received m.streams (none_asked es s l link o) m.due (kind_then es s l link o) (opens_login es s l o.next o.settings o.base) r.after in
     reasons_then es (open_record l ∷ []) put r (by es1 l.kind first sends)
   where
     by : (es1 : List Event) (kind : OpenKind) → first_records kind l link ≡ Some put → OpenReasons es1 (send_records link l.number (Some 1) (first_of kind l)) → OpenReasons es1 put

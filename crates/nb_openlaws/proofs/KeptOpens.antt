@@ -30,11 +30,12 @@ use Rattle.nb_terms.specs.declared.cause.Cause.{Cause}
 use Rattle.nb_defs.specs.ScriptLines.{script_reading}
 use Rattle.nb_imagecmd.specs.declared.outcome.ScriptImage.{ScriptImage}
 use Rattle.nb_machine.specs.FirstText.{text_refusal}
+use Rattle.nb_drivecmd.specs.declared.drive.Drive.{Drive}
 use Rattle.nb_machine.specs.Takings.{Over, AllTake, all_have, lives_on, is_over}
 use Rattle.nb_machine.specs.Network.{Network, passes_by, brings, brings_reply, brings_segment, passes_time}
-use Rattle.nb_machine.specs.Scripts.{Job, transfer_kind, transfer_for, live_for, live_onward, Upshot, concludes, settles, goes_onward, concluded_by, hooks_drive}
+use Rattle.nb_machine.specs.Scripts.{Job, transfer_kind, transfer_for, live_for, live_onward, Upshot, concludes, settles, goes_onward, concluded_by, hooks_drive, reads_drive, boots_drive_by}
 use Rattle.nb_machine.specs.Courses as course
-use Rattle.nb_machine.specs.Courses.{Standing, Progress, text_standing, ScriptLeads, ConclusionLeads, LeadsTo, StepBegins, Proceeds, Course, DropsDrive, is_drives_own}
+use Rattle.nb_machine.specs.Courses.{Standing, Progress, text_standing, ScriptLeads, ConclusionLeads, LeadsTo, StepBegins, Proceeds, Course, DropsDrive, AsksBlock, ReadsBlock, block_standing, is_drives_own}
 use Rattle.nb_laws.specs.Events.{Event}
 use Rattle.nb_laws.specs.Lists.{hardware, Opening, live, calls}
 use Rattle.nb_laws.specs.Webs.{brought_to, talk_by}
@@ -141,11 +142,24 @@ conclusion_kept s inner outer (runs_script list image replaces) put p leads h = 
 conclusion_kept s inner outer (fails cause) put p (none, is) h = subst KeptAt (sym is) h
 conclusion_kept s inner outer (boots list kernel) put p (over, all, is) h = subst KeptAt (sym is) tt
 
+-- the others live on where a drive is asked for its first block
+pub asks_kept : (s s' : State) (number : ℕ) (put : List Out) (over : List Over) → AsksBlock s number put s' over → AreKept s.live → AreKept s'.live
+asks_kept s s' number put over a h = subst (λ (z : State). AreKept z.live) (sym a.leaves) (around Keeps s.live a.before a.behind a.after a.l a.parted (taken_kept _ _ _ _ _ _ a.takes) h)
+
+pub reads_kept : (s : State) (inner : Running) (outer : List Running) (number : ℕ) (d : Option Drive) (put : List Out) (p : Standing) → ReadsBlock s inner outer number d put p → AreKept s.live → KeptAt p
+reads_kept s inner outer number d put p r h = subst KeptAt (sym r.stands_so) (by r.over (asks_kept s r.next number r.asked r.over r.asks h))
+  where
+    by : (over : List Over) → AreKept r.next.live → KeptAt (block_standing r.next inner outer number d over)
+    by [] k = k
+    by (o ∷ over) k = k
+
 upshot_kept : (s : State) (inner : Running) (outer : List Running) (u : Upshot) (put : List Out) (p : Standing) → LeadsTo s inner outer u put p → AreKept s.live → KeptAt p
 upshot_kept s inner outer (concludes c) put p leads h = conclusion_kept s inner outer c put p leads h
 upshot_kept s inner outer (settles x) put p (none, is) h = subst KeptAt (sym is) h
 upshot_kept s inner outer (hooks_drive d) put p (none, is) h = subst KeptAt (sym is) h
 upshot_kept s inner outer (goes_onward next) put p (none, is) h = subst KeptAt (sym is) h
+upshot_kept s inner outer (reads_drive d) put p reads h = reads_kept s inner outer d.open_number (Some d) put p reads h
+upshot_kept s inner outer (boots_drive_by d bytes) put p (over, all, is) h = subst KeptAt (sym is) tt
 
 -- the others live on where a drive was closed
 drop_kept : (s s' : State) (number : ℕ) (put : List Out) → DropsDrive s number put s' → AreKept s.live → AreKept s'.live
@@ -171,6 +185,7 @@ move_kept m added m2 (course.closes_device n s s2 inner outer c cs put over come
 move_kept m added m2 (course.goes_to_hook n s s2 inner outer c cs hooking put next comes few is drops asks) h = drop_kept s s2 hooking.number put drops h
 move_kept m added m2 (course.hooks_none n s s2 inner outer c cs hooking put cause comes few is drops asks) h = drop_kept s s2 hooking.number put drops h
 move_kept m added m2 (course.unhooks n s s2 inner outer c cs number put cause comes few is drops) h = drop_kept s s2 number put drops h
+move_kept m added m2 (course.boots_hooked n s inner outer c cs number d put p comes few is some reads) h = reads_kept s (entered inner) outer d.open_number None put p reads h
 move_kept m added m2 (course.leaves n s s2 inner outer c cs x comes few is away) h = subst (λ (z : State). AreKept z.live) (sym (ends_by s inner (c ∷ cs) x s2 is).1) h
 move_kept m added m2 (course.jumps n s inner outer c cs name line comes few is there) h = h
 move_kept m added m2 (course.finds_no_label n s inner outer c cs name comes few is none) h = h

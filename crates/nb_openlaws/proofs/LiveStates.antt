@@ -7,7 +7,7 @@ use Rattle.nb_terms.specs.declared.cause.Cause.{Cause}
 use Rattle.nb_defs.specs.Records.{Out}
 use Rattle.nb_tftp.proofs.BlockLemmas.{either_way}
 use Rattle.nb_tftp.specs.History.{ticked}
-use Rattle.nb_machine.specs.Lives.{OpenKind, tftp, http, iscsi, dns, dhcp, ping, time as time_came, close, Live}
+use Rattle.nb_machine.specs.Lives.{OpenKind, tftp, http, iscsi, dns, dhcp, ping, time as time_came, task, close, Live}
 use Rattle.nb_machine.specs.States.{State, with_live, later_by}
 use Rattle.nb_machine.specs.Takings.{Over, AllTake}
 use Rattle.nb_laws.specs.Events.{Event, waits}
@@ -15,6 +15,7 @@ use Rattle.nb_laws.specs.Lists.{time, ms_of, made, Hardware, hardware, Opening, 
 use Rattle.nb_laws.specs.Webs.{try_marks_of}
 use Rattle.nb_talks.specs.Talking.{by_time}
 use Rattle.nb_streams.specs.Trying.{tries_at}
+use Rattle.nb_sans.specs.Sessions.{ReadTask}
 use Rattle.nb_openlaws.specs.Standings.{heard_calls, heard_marks, streamed, streamed_marks, live_opening, ComesToOwnPort, AreLive, lives_among, HaveOwnNumbers, AgreesState, told_tries, AgreesLive}
 use Rattle.nb_laws.proofs.Histories.{time_more}
 use Rattle.nb_laws.specs.Frames.{by_call}
@@ -23,7 +24,7 @@ use Rattle.nb_machine.specs.CommandRecords.{stopped_cause}
 use Rattle.nb_machine.specs.Courses.{is_drives_own, drives_first, DropsDrive}
 use Rattle.nb_laws.proofs.Tellings.{told, try_marks_by, no_more, live_same}
 use Rattle.nb_openlaws.proofs.OpenRecords.{AreLater, ends_in, left}
-use Rattle.nb_openlaws.proofs.Takings.{SameAt, then_same, Grows, grown, AllCome, live_on, both_false, all_taken}
+use Rattle.nb_openlaws.proofs.Takings.{SameAt, then_same, Grows, grown, HasCome, AllCome, live_on, both_false, all_taken}
 use Rattle.nb_openlaws.proofs.UsedEvents.{IsUsed, IsFurther, BringsNone, live_ended, live_one, no_call, made_used, used_same, offset_used, hardware_used, has_come}
 use Rattle.nb_openlaws.proofs.LiveParts.{all_filter, left_by_test, among_both, not_taken, own_taken, parts_apart, all_first, among_first, own_first}
 use Rattle.nb_drivecmd.specs.declared.drive.Drive.{Drive}
@@ -175,6 +176,33 @@ time_agrees es n ms s put after over a all =
       untold = λ j more. let u = a.untold j (subst (λ z. z ≤ j) made_is more) in ((away_same j (few j more)).calls_are ∙ u.0, (away_same j (few j more)).marks_are ∙ u.1);
       unstreamed = λ j more. let u = a.unstreamed j (subst (λ z. z ≤ j) made_is more) in ((away_same j (few j more)).came_are ∙ u.0, (away_same j (few j more)).try_marks_are ∙ u.1);
     }
+
+own_at_task : (kind : OpenKind) (own now : ℕ) (t : ReadTask) → ComesToOwnPort kind own (task t now)
+own_at_task tftp own now t = tt
+own_at_task (http isn) own now t = tt
+own_at_task (iscsi isn i) own now t = tt
+own_at_task (dns id) own now t = tt
+own_at_task (dhcp a) own now t = tt
+own_at_task ping own now t = tt
+
+-- a task is no event of the history
+pub task_comes : (es : List Event) (t : ReadTask) (now : ℕ) (l : Live) → time es ≡ now → AgreesLive es l → HasCome es (task t now) l
+task_comes es t now l at h = record {
+  made_so = h.made_so;
+  on_net0 = h.on_net0;
+  kind_is = h.kind_is;
+  login = h.login;
+  opening = h.opening;
+  lives = h.lives;
+  received = h.received ∙ sym (append-nil (heard_calls l.kind l.exchanges));
+  tells = h.tells ∙ sym (append-nil (tries 1 l.since ∷ heard_marks l.kind l.number l.exchanges));
+  streams = h.streams ∙ sym (append-nil (streamed l.exchanges));
+  tries_stand = h.tries_stand ∙ sym (append-nil (tries_at 1 l.since ∷ streamed_marks l.number l.exchanges));
+  goes_on = h.goes_on;
+  now = at;
+  own = own_at_task l.kind l.own now t;
+  due = tt;
+}
 
 pub closes_come : (es : List Event) (cause : Cause) (ls : List Live) → AreLive es ls → AllCome es (close cause) ls
 closes_come es cause [] h = tt

@@ -20,8 +20,9 @@ use Rattle.nb_laws.specs.Lists.{gathered, hardware, blocks_where, opens_file, fi
 use Rattle.nb_laws.specs.Progress.{file_place, IsAdvanced}
 use Rattle.nb_laws.specs.Webs.{came_at, brought_to, stream_place_by, stream_place, comes_to_port, ComesToNone}
 use Rattle.nb_laws.proofs.Histories.{client_hears, client_waits}
-use Rattle.nb_laws.proofs.Tellings.{KeepsHardware, hardware_stays, openings_more, calls_more, came_more, no_more, place_more, place_same, blocks_same, no_datagram, advanced_more, still_advanced, sessions_stay}
-use Rattle.nb_machine.specs.Lives.{kind_number, OpenInput, message, tcp_segment, Live}
+use Rattle.nb_laws.proofs.Tellings.{KeepsHardware, hardware_stays, openings_more, calls_more, came_more, no_more, place_more, place_same, blocks_same, no_datagram, advanced_more, still_advanced, sessions_stay, session_stays, came_session_more}
+use Rattle.nb_login.specs.declared.info.LoginInfo.{LoginInfo}
+use Rattle.nb_machine.specs.Lives.{iscsi, OpenInput, message, tcp_segment, Live}
 use Rattle.nb_machine.specs.Kinds.{Keeps, has_port, reply_beside}
 use Rattle.nb_machine.specs.States.{State, net0}
 use Rattle.nb_machine.specs.Takings.{Over, AllTake}
@@ -37,12 +38,16 @@ use Rattle.nb_openlaws.proofs.Networks.{among_more, front_of, back_of, one_comes
 use Rattle.nb_openlaws.proofs.NetworkDevices.{link_is}
 use Rattle.nb_openlaws.proofs.LiveStates.{times_come}
 use Rattle.nb_openlaws.proofs.Sendings.{no_reasons}
-use Rattle.nb_openlaws.proofs.KindFacts.{no_connection}
-use Rattle.nb_laws.specs.Drives.{SessionOpening, sessions, session_place_by, session_place}
+use Rattle.nb_openlaws.proofs.KindFacts.{no_connection, opening_as}
+use Rattle.nb_laws.specs.Drives.{sessions, came_to_session_at, came_to_session, session_place_by, session_place}
 use Rattle.nb_laws.proofs.SessionOpenings.{no_session_unopened}
-use Rattle.nb_openlaws.proofs.StreamPlaces.{times_stream, times_session, same_sum, stream_so, session_so}
+use Rattle.nb_openlaws.proofs.StreamPlaces.{times_stream, times_session, same_sum, stream_so}
 use Rattle.nb_openlaws.proofs.ExchangeReasons.{place_so, IsTaken}
-use Rattle.nb_openlaws.proofs.AllReasons.{IsPlaced, TakenSo, all_reasons, one_reasons, login_of}
+use Rattle.nb_openlaws.proofs.AllReasons.{IsPlaced, TakenSo, all_reasons, one_reasons}
+use Rattle.nb_openlaws.specs.Sessions.{AgreesBy, AgreesSession, SessionsAgree}
+use Rattle.nb_openlaws.proofs.SessionsDue.{SessionCame, brought_so}
+use Rattle.nb_openlaws.proofs.SessionStands.{session_place_is}
+use Rattle.nb_openlaws.proofs.SessionComings.{segment_session, times_sessions}
 
 -- EVENTS THAT ARE USED
 
@@ -83,16 +88,16 @@ time_advanced es n ms a = λ k.
 
     session : (k : ℕ) → session_place k (es ++ waits n ms ∷ []) ≡ session_place k es
     session k =
-        ap (λ ss. sum_by (session_place_by (hardware (es ++ waits n ms ∷ [])) k (brought_to k (es ++ waits n ms ∷ []))) ss) (sessions_stay k es (waits n ms) refl)
-        ∙ ap (λ h. sum_by (session_place_by h k (brought_to k (es ++ waits n ms ∷ []))) (sessions k es)) (hardware_stays es (waits n ms) tt)
-        ∙ ap (λ c. sum_by (session_place_by (hardware es) k c) (sessions k es)) (came_more k es (waits n ms))
-        ∙ same_sum (session_place_by (hardware es) k (brought_to k es ++ came_at k es (waits n ms))) (session_place_by (hardware es) k (brought_to k es)) (sessions k es)
-        (λ s. times_session (hardware es) k s (brought_to k es) (lists.time es + ms) (live k es))
+        ap (λ ss. sum_by (session_place_by (hardware (es ++ waits n ms ∷ [])) k (came_to_session k (es ++ waits n ms ∷ []))) ss) (sessions_stay k es (waits n ms) refl)
+        ∙ ap (λ h. sum_by (session_place_by h k (came_to_session k (es ++ waits n ms ∷ []))) (sessions k es)) (hardware_stays es (waits n ms) tt)
+        ∙ ap (λ c. sum_by (session_place_by (hardware es) k c) (sessions k es)) (came_session_more k es (waits n ms))
+        ∙ same_sum (session_place_by (hardware es) k (came_to_session k es ++ came_to_session_at k es (waits n ms))) (session_place_by (hardware es) k (came_to_session k es)) (sessions k es)
+        (λ s. times_session (hardware es) k s (came_to_session k es) (lists.time es + ms) (live k es))
 
 unopened_place : (k : ℕ) (es : List Event) → openings k es ≡ [] → file_place k es ≡ 0
 unopened_place k es none =
     ap (λ os. blocks_where (list_any opens_file os) (lists.datagrams_of k es) + sum_by (stream_place_by (hardware es) k (brought_to k es)) os + session_place k es) none
-    ∙ ap (λ ss. 0 + sum_by (session_place_by (hardware es) k (brought_to k es)) ss) (no_session_unopened k es none)
+    ∙ ap (λ ss. 0 + sum_by (session_place_by (hardware es) k (came_to_session k es)) ss) (no_session_unopened k es none)
 
 openings_none : (k : ℕ) → openings k [] ≡ []
 unfolding openings gathered
@@ -161,8 +166,10 @@ none_elsewhere es e s before l behind u a lives front back j other =
     (λ no. either_way (lives_among j behind) (λ some. found (λ z. BringsNone z es e) j behind back some)
     (λ none. no_call j es e u (a.others j (ap (lives_among j) lives ∙ among_more j before (l ∷ behind) ∙ both_false (lives_among j before) (lives_among j (l ∷ behind)) no (both_false (l.number == j) (lives_among j behind) other none)))))
 
-message_placed : (es : List Event) (e : Event) (l : Live) → IsUsed e → KeepsHardware e → AgreesLive es l → IsAdvanced es → ((j : ℕ) → (l.number == j) ≡ false → BringsNone j es e) → IsPlaced (es ++ e ∷ []) l
-message_placed es e l u keeps own a none = record {
+message_placed : (es : List Event) (e : Event) (input : OpenInput) (l : Live) → IsUsed e → KeepsHardware e → AgreesLive es l → AgreesSession es l → ((isn : ℕ) (i : LoginInfo) → l.kind ≡ iscsi isn i → SessionCame (es ++ e ∷ []) input l isn i) →
+    IsAdvanced es →
+    ((j : ℕ) → (l.number == j) ≡ false → BringsNone j es e) → IsPlaced (es ++ e ∷ []) input l
+message_placed es e input l u keeps own w came a none = record {
   placed = λ d h is.
       let k = l.number in
       place_more k es e ∙ used_place k (last_place k es) e u ∙ a k ∙ place_so k es (live_opening l) own.opening (no_connection l.kind l d)
@@ -173,62 +180,62 @@ message_placed es e l u keeps own a none = record {
       ∙ ap (λ z. stream_place_by (hardware es) k z (live_opening l)) own.streams ∙ sym (ap (λ h. stream_place_by h k (streamed l.exchanges) (live_opening l)) (hardware_stays es e keeps));
   session_to = λ isn i is.
       let k = l.number in
-      let s : SessionOpening = record { opening = live_opening l; login = i } in
-      place_more k es e ∙ used_place k (last_place k es) e u ∙ a k ∙ session_so k es (live_opening l) s own.opening (ap (λ z. kind_number z == 3) is) (login_of k es (live_opening l) l.kind isn i is own.login)
-      ∙ ap (λ z. session_place_by (hardware es) k z s) own.streams ∙ sym (ap (λ h. session_place_by h k (streamed l.exchanges) s) (hardware_stays es e keeps));
+      let opening = own.opening ∙ ap (λ z. opening_as z l ∷ []) is in
+      brought_so (es ++ e ∷ []) input l isn i (place_more k es e ∙ used_place k (last_place k es) e u ∙ a k ∙ session_place_is es l isn i (subst (λ z. AgreesBy es z l) is w) opening) (came isn i is);
   others = λ j other.
       place_more j es e ∙ used_place j (last_place j es) e u ∙ a j
       ∙ sym (place_same j (es ++ e ∷ []) es (hardware_stays es e keeps) (openings_more j es e ∙ no_more (openings j es) _ (used_opening j es e u)) (ap (λ z. flat_map received_by z) (calls_more j es e ∙ no_more (calls j es) _ (none j other).0))
-      (came_more j es e ∙ no_more (brought_to j es) _ (none j other).1) (sessions_stay j es e (used_opening j es e u)));
+      (came_more j es e ∙ no_more (brought_to j es) _ (none j other).1) (session_stays j es e keeps (used_opening j es e u) (none j other).1));
 }
 
-all_of : {A : Type 0} (P : A → Type 0) (before : List A) (x : A) (behind : List A) → AllByRecursion P (before ++ x ∷ behind) → P x
+pub all_of : {A : Type 0} (P : A → Type 0) (before : List A) (x : A) (behind : List A) → AllByRecursion P (before ++ x ∷ behind) → P x
 all_of P [] x behind h = h.0
 all_of P (y ∷ before) x behind h = all_of P before x behind h.1
 
 -- one open is brought something, the others nothing
 one_brought : (es : List Event) (e : Event) (s : State) (input : OpenInput) (before : List Live) (l : Live) (behind : List Live) (put : List Out) (after : List Live) (over : List Over) → IsUsed e → KeepsHardware e → IsTaken input → AgreesState es s → s.live ≡ before ++ l ∷ behind →
     HasCome (es ++ e ∷ []) input l → AllByRecursion (λ x. BringsNone x.number es e) before → AllByRecursion (λ x. BringsNone x.number es e) behind → s.devices ≡ client (es ++ e ∷ []) ∷ [] → AllByRecursion Keeps s.live → HaveWays es s.live → IsAdvanced es →
-    AllTake s.devices input (l ∷ []) put after over → TakenSo (es ++ e ∷ []) put over
-one_brought es e s input before l behind put after over u keeps taken a lives come front back d kept ways adv all =
+    SessionsAgree es s.live → ((isn : ℕ) (i : LoginInfo) → l.kind ≡ iscsi isn i → SessionCame (es ++ e ∷ []) input l isn i) → AllTake s.devices input (l ∷ []) put after over → TakenSo (es ++ e ∷ []) put over
+one_brought es e s input before l behind put after over u keeps taken a lives come front back d kept ways adv sessions came all =
     let had = λ (z : Live). HadWay z.number es (live_opening z) in
     one_reasons s.devices input l put after over all (es ++ e ∷ []) taken d come (all_of Keeps before l behind (subst (AllByRecursion Keeps) lives kept))
     (way_stays l.number es (es ++ e ∷ []) (live_opening l) (grown es (e ∷ [])) (all_of had before l behind (subst (AllByRecursion had) lives ways)))
-    (message_placed es e l u keeps (back_of es before (l ∷ behind) (subst (AreLive es) lives a.each)).0 adv (none_elsewhere es e s before l behind u a lives front back))
+    (message_placed es e input l u keeps (back_of es before (l ∷ behind) (subst (AreLive es) lives a.each)).0 (all_of (AgreesSession es) before l behind (subst (SessionsAgree es) lives sessions)) came adv (none_elsewhere es e s before l behind u a lives front back))
 
 -- WHAT THE NETWORK DOES
 
 pub network_reasons : (es : List Event) (s : State) (n : ℕ) (r : In) (put : List Out) (s2 : State) (over : List Over) (net : Network s n r put s2 over) (a : AgreesState es s) → AgreesDevice es s → AllByRecursion Keeps s.live →
-    HaveWays es s.live → IsAdvanced es → TakenSo (es ++ network_event s n r put s2 over net ∷ []) put over
-network_reasons es s n r put s2 over (passes_by r0 device bytes link m (on_net0 b) got_it is none) a d kept ways adv =
+    HaveWays es s.live → IsAdvanced es → SessionsAgree es s.live → TakenSo (es ++ network_event s n r put s2 over net ∷ []) put over
+network_reasons es s n r put s2 over (passes_by r0 device bytes link m (on_net0 b) got_it is none) a d kept ways adv w =
     let e = hears n b m in
     let nothing_comes = none_at es e s tt a (none_for es n b m s.live a.each none) in
     record {
       reasons = beside_reasons es s n b m link a (link_is es s link d got_it) (used_advanced es e tt tt nothing_comes adv);
       answers = tt;
     }
-network_reasons es s n r put s2 over (brings r0 device bytes link p x before behind after l put0 over0 (on_net0 b) got_it is lives here front back all) a d kept ways adv =
+network_reasons es s n r put s2 over (brings r0 device bytes link p x before behind after l put0 over0 (on_net0 b) got_it is lives here front back all) a d kept ways adv w =
     let each0 : AreLive es (before ++ l ∷ behind) = subst (AreLive es) lives a.each in
     let own = back_of es before (l ∷ behind) each0 in
     one_brought es (hears n b (datagram p x)) s (message n x.src_port x.body s.now) before l behind put after over tt tt tt a lives (one_comes es s n b p x l a own.0 here)
     (none_datagram es n b p x before (front_of es before (l ∷ behind) each0) front) (none_datagram es n b p x behind own.1 back)
-    (d ∙ ap (λ c. c ∷ []) (sym (client_hears es n b (datagram p x)))) kept ways adv all
-network_reasons es s n r put s2 over (brings_reply r0 device bytes link p x before behind after l put0 over0 (on_net0 b) got_it is lives here front back all) a d kept ways adv =
+    (d ∙ ap (λ c. c ∷ []) (sym (client_hears es n b (datagram p x)))) kept ways adv w (λ isn i is. tt) all
+network_reasons es s n r put s2 over (brings_reply r0 device bytes link p x before behind after l put0 over0 (on_net0 b) got_it is lives here front back all) a d kept ways adv w =
     let each0 : AreLive es (before ++ l ∷ behind) = subst (AreLive es) lives a.each in
     let own = back_of es before (l ∷ behind) each0 in
     one_brought es (hears n b (echo_reply p x)) s (message n x.ident x.body s.now) before l behind put after over tt tt tt a lives (one_replies es s n b p x l a own.0 here)
     (none_reply es n b p x before (front_of es before (l ∷ behind) each0) front) (none_reply es n b p x behind own.1 back)
-    (d ∙ ap (λ c. c ∷ []) (sym (client_hears es n b (echo_reply p x)))) kept ways adv all
-network_reasons es s n r put s2 over (brings_segment r0 device bytes link from p g before behind after l put0 over0 (on_net0 b) got_it is lives here front back all) a d kept ways adv =
+    (d ∙ ap (λ c. c ∷ []) (sym (client_hears es n b (echo_reply p x)))) kept ways adv w (λ isn i is. tt) all
+network_reasons es s n r put s2 over (brings_segment r0 device bytes link from p g before behind after l put0 over0 (on_net0 b) got_it is lives here front back all) a d kept ways adv w =
     let each0 : AreLive es (before ++ l ∷ behind) = subst (AreLive es) lives a.each in
     let own = back_of es before (l ∷ behind) each0 in
     one_brought es (hears n b (segment from p g)) s (tcp_segment n g s.now) before l behind put after over tt tt tt a lives (one_segment es s n b from p g l a own.0 here)
     (none_segment es n b from p g before (front_of es before (l ∷ behind) each0) front) (none_segment es n b from p g behind own.1 back)
-    (d ∙ ap (λ c. c ∷ []) (sym (client_hears es n b (segment from p g)))) kept ways adv all
-network_reasons es s n r put s2 over (passes_time ms after put0 over0 all) a d kept ways adv =
+    (d ∙ ap (λ c. c ∷ []) (sym (client_hears es n b (segment from p g)))) kept ways adv w
+    (λ isn i is. segment_session es s n b from p g l isn i a own.0 here (subst (λ z. AgreesBy es z l) is (all_of (AgreesSession es) before l behind (subst (SessionsAgree es) lives w)))) all
+network_reasons es s n r put s2 over (passes_time ms after put0 over0 all) a d kept ways adv w =
     let e = waits n ms in
     all_reasons s.devices (s.now + ms) s.live put after over all (es ++ e ∷ []) (d ∙ ap (λ c. c ∷ []) (sym (client_waits es n ms))) (times_come es n ms s s.live a.time a.each) a.apart kept
-    (ways_used es e s.live ways) (time_advanced es n ms adv)
+    (ways_used es e s.live ways) (time_advanced es n ms adv) (times_sessions es n ms s s.live a.time a.each w)
   where
     ways_used : (es : List Event) (e : Event) (ls : List Live) → HaveWays es ls → HaveWays (es ++ e ∷ []) ls
     ways_used es e [] w = tt

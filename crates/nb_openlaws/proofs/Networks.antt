@@ -19,7 +19,9 @@ use Rattle.nb_stack.specs.Takes.{client_after}
 use Rattle.nb_tftp.proofs.BlockLemmas.{either_way}
 use Rattle.nb_tftp.specs.Received.{received}
 use Rattle.nb_tftp.specs.History.{came}
-use Rattle.nb_machine.specs.Lives.{OpenInput, message, tcp_segment, time as time_came, exchange, Live, continued}
+use Rattle.nb_machine.specs.Courses.{AsksBlock}
+use Rattle.nb_machine.specs.Drives.{first_block}
+use Rattle.nb_machine.specs.Lives.{OpenInput, message, tcp_segment, time as time_came, task, exchange, Live, continued}
 use Rattle.nb_machine.specs.CommandRecords.{reply_records}
 use Rattle.nb_machine.specs.Kinds.{takes_from, is_for, is_ping, is_reply_for, is_segment_for, reply_beside}
 use Rattle.nb_machine.specs.States.{State, net0, with_live}
@@ -38,7 +40,7 @@ use Rattle.nb_openlaws.proofs.Takings.{SameAt, then_same, Grows, grown, grows_on
 use Rattle.std.proofs.Common.{take, drop}
 use Rattle.nb_openlaws.proofs.UsedEvents.{IsUsed, IsFurther, BringsNone, live_ended, no_call, made_used, used_same, offset_used, hardware_used, has_come}
 use Rattle.nb_openlaws.proofs.HeardFrames.{for_as_told, reply_as_told, heard_by, streamed_by, segment_as_told, own_of_segment, none_segment, one_heard, own_of_datagram, one_echoed, own_of_reply, both_true, none_datagram, none_reply, none_for, found, none_at}
-use Rattle.nb_openlaws.proofs.LiveStates.{all_same, nothing_came, as_state, quiet_state, times_come, time_agrees}
+use Rattle.nb_openlaws.proofs.LiveStates.{all_same, nothing_came, as_state, quiet_state, task_comes, times_come, time_agrees}
 
 -- SOMETHING COMES TO ONE OF THEM
 
@@ -53,14 +55,14 @@ back_of es (x ∷ xs) ys h = back_of es xs ys h.1
 pub among_more : (j : ℕ) (xs ys : List Live) → lives_among j (xs ++ ys) ≡ (lives_among j xs || lives_among j ys)
 among_more j xs ys = list_any-append (has_live_number j) xs ys
 
-apart_front : (before : List Live) (l : Live) (behind : List Live) → HaveOwnNumbers (before ++ l ∷ behind) → lives_among l.number before ≡ false
+pub apart_front : (before : List Live) (l : Live) (behind : List Live) → HaveOwnNumbers (before ++ l ∷ behind) → lives_among l.number before ≡ false
 apart_front [] l behind h = refl
 apart_front (x ∷ before) l behind h =
     both_false (x.number == l.number) (lives_among l.number before)
     (flip_other l.number x.number (or_first (l.number == x.number) (lives_among x.number behind) (or_second (lives_among x.number before) (lives_among x.number (l ∷ behind)) (sym (among_more x.number before (l ∷ behind)) ∙ h.0))))
     (apart_front before l behind h.1)
 
-apart_back : (before : List Live) (l : Live) (behind : List Live) → HaveOwnNumbers (before ++ l ∷ behind) → lives_among l.number behind ≡ false
+pub apart_back : (before : List Live) (l : Live) (behind : List Live) → HaveOwnNumbers (before ++ l ∷ behind) → lives_among l.number behind ≡ false
 apart_back [] l behind h = h.0
 apart_back (x ∷ before) l behind h = apart_back before l behind h.1
 
@@ -130,6 +132,55 @@ one_agrees es e s input before l behind put after over u further still a lives c
       unstreamed = λ j more. let x = a.unstreamed j (subst (λ z. z ≤ j) made_is more) in ((other_same j (later j more)).came_are ∙ x.0, (other_same j (later j more)).try_marks_are ∙ x.1);
     }
 
+-- the same of what a command asks, which no record brings
+one_told : (es : List Event) (s : State) (input : OpenInput) (before : List Live) (l : Live) (behind : List Live) (put : List Out) (after : List Live) (over : List Over) → AgreesState es s → s.live ≡ before ++ l ∷ behind → HasCome es input l →
+    AllTake s.devices input (l ∷ []) put after over → AgreesState (es ++ told put) (with_live s (before ++ (after ++ behind)))
+one_told es s input before l behind put after over a lives come all =
+    let es2 = es ++ told put in
+    let k = l.number in
+    let each0 : AreLive es (before ++ l ∷ behind) = subst (AreLive es) lives a.each in
+    let apart0 : HaveOwnNumbers (before ++ l ∷ behind) = subst HaveOwnNumbers lives a.apart in
+    let own = back_of es before (l ∷ behind) each0 in
+    let t = all_taken s.devices input (l ∷ []) put after over all es (come, tt) (refl, tt) in
+    let other_same : (j : ℕ) → (k == j) ≡ false → SameAt j es es2 = λ j other. t.still j (both_false (k == j) false other refl) in
+    let grows : Grows es es2 = grown es (told put) in
+    let not_here : (j : ℕ) (ls : List Live) → lives_among k ls ≡ false → lives_among j ls ≡ true → (k == j) ≡ false = λ j ls none some.
+    either_way (k == j) (λ here. absurd (let no : true ≡ false = sym some ∙ subst (λ z. lives_among z ls ≡ false) (eqb-true k j here) none in cc)) (λ other. other) in
+    let later : (j : ℕ) → made es2 ≤ j → (k == j) ≡ false = λ j more. ne_eqb k j (λ same. omega (arith, same, own.0.made_so, subst (λ z. z ≤ j) t.made_is more)) in
+    record {
+      time = t.time_is ∙ a.time;
+      opens = t.made_is ∙ a.opens;
+      offset = t.offset_is ∙ a.offset;
+      mac_is = ap (λ (h : Hardware). h.mac) t.hardware_is ∙ a.mac_is;
+      identity_is = ap (λ (h : Hardware). h.identity) t.hardware_is ∙ a.identity_is;
+      each = all_append (AgreesLive es2) before (after ++ behind) (all_same es es2 before grows t.made_is t.hardware_is (λ j some. other_same j (not_here j before (apart_front before l behind apart0) some)) (front_of es before (l ∷ behind) each0))
+          (all_append (AgreesLive es2) after behind t.each (all_same es es2 behind grows t.made_is t.hardware_is (λ j some. other_same j (not_here j behind (apart_back before l behind apart0) some)) own.1));
+      apart = apart_after s.devices input l before behind put after over all apart0;
+      others = λ j away.
+          let parts : (lives_among j before || lives_among j (after ++ behind)) ≡ false = sym (among_more j before (after ++ behind)) ∙ away in
+          let rest : (lives_among j after || lives_among j behind) ≡ false = sym (among_more j after behind) ∙ or_second (lives_among j before) (lives_among j (after ++ behind)) parts in
+          either_way (k == j) (λ here. live_ended j es2 (t.gone j (ap (λ b. b || false) here) (or_first (lives_among j after) (lives_among j behind) rest)))
+          (λ other. live_same j es2 es (other_same j other).openings_are (other_same j other).over_are
+          ∙ a.others j (ap (lives_among j) lives ∙ among_more j before (l ∷ behind)
+          ∙ both_false (lives_among j before) (lives_among j (l ∷ behind)) (or_first (lives_among j before) (lives_among j (after ++ behind)) parts) (both_false (k == j) (lives_among j behind) other (or_second (lives_among j after) (lives_among j behind) rest))));
+      unopened = λ j more. (other_same j (later j more)).openings_are ∙ a.unopened j (subst (λ z. z ≤ j) t.made_is more);
+      unended = λ j more. (other_same j (later j more)).over_are ∙ a.unended j (subst (λ z. z ≤ j) t.made_is more);
+      untold = λ j more. let x = a.untold j (subst (λ z. z ≤ j) t.made_is more) in ((other_same j (later j more)).calls_are ∙ x.0, (other_same j (later j more)).marks_are ∙ x.1);
+      unstreamed = λ j more. let x = a.unstreamed j (subst (λ z. z ≤ j) t.made_is more) in ((other_same j (later j more)).came_are ∙ x.0, (other_same j (later j more)).try_marks_are ∙ x.1);
+    }
+
+-- a drive is asked for its first block
+pub asks_agrees : (es : List Event) (s s' : State) (number : ℕ) (put : List Out) (over : List Over) → AsksBlock s number put s' over → AgreesState es s → AgreesState (es ++ told put) s'
+asks_agrees es s s' number put over q a =
+    let own = back_of es q.before (q.l ∷ q.behind) (subst (AreLive es) q.parted a.each) in
+    subst (AgreesState (es ++ told put)) (ap (with_live s) (sym (append_assoc q.before q.after q.behind)) ∙ sym q.leaves)
+    (one_told es s (task first_block s.now) q.before q.l q.behind put q.after over a q.parted (task_comes es first_block s.now q.l a.time own.0) q.takes)
+
+pub asks_over : (es : List Event) (s s' : State) (number : ℕ) (put : List Out) (over : List Over) → AsksBlock s number put s' over → AgreesState es s → AreOver (es ++ told put) over
+asks_over es s s' number put over q a =
+    let own = back_of es q.before (q.l ∷ q.behind) (subst (AreLive es) q.parted a.each) in
+    (all_taken s.devices (task first_block s.now) (q.l ∷ []) put q.after over q.takes es (task_comes es first_block s.now q.l a.time own.0, tt) (refl, tt)).ended
+
 reply_later : (bytes : List ℕ) → AreLater (reply_records bytes)
 reply_later [] = tt
 reply_later (b ∷ bytes) = (tt, tt)
@@ -169,12 +220,16 @@ one_replies es s n b p x l a own here =
     has_come es e (message n x.ident x.body s.now) l tt tt own (heard ∙ one_echoed l.kind n x.ident s.now x.body pinging) (streamed_by es n b (echo_reply p x) l own) (time_more es e ∙ add-zero (time es) ∙ a.time)
     (own_of_reply l.kind l.own n x.ident s.now x.body (eqb-true l.own x.ident more.1)) (by_call es e (came (received n 0 x.body) s.now) heard)
 
+pub segment_comes : (es : List Event) (s : State) (n : ℕ) (b : List ℕ) (from : Mac) (p : PacketParts) (g : SegmentParts) (l : Live) → AgreesState es s → AgreesLive es l → is_segment_for net0 p g l ≡ true →
+    came_at l.number es (hears n b (segment from p g)) ≡ by_segment (arrived_segment n g) s.now ∷ []
+segment_comes es s n b from p g l a own here =
+    streamed_by es n b (segment from p g) l own ∙ ap (λ z. cond z (by_segment (arrived_segment n g) (time es) ∷ []) []) (segment_as_told l p g own.on_net0 ∙ here) ∙ ap (λ now. by_segment (arrived_segment n g) now ∷ []) a.time
+
 pub one_segment : (es : List Event) (s : State) (n : ℕ) (b : List ℕ) (from : Mac) (p : PacketParts) (g : SegmentParts) (l : Live) → AgreesState es s → AgreesLive es l → is_segment_for net0 p g l ≡ true →
     HasCome (es ++ hears n b (segment from p g) ∷ []) (tcp_segment n g s.now) l
 one_segment es s n b from p g l a own here =
     let e = hears n b (segment from p g) in
-    let comes : came_at l.number es e ≡ by_segment (arrived_segment n g) s.now ∷ [] =
-    streamed_by es n b (segment from p g) l own ∙ ap (λ z. cond z (by_segment (arrived_segment n g) (time es) ∷ []) []) (segment_as_told l p g own.on_net0 ∙ here) ∙ ap (λ now. by_segment (arrived_segment n g) now ∷ []) a.time in
+    let comes = segment_comes es s n b from p g l a own here in
     has_come es e (tcp_segment n g s.now) l tt tt own (heard_by es n b (segment from p g) l own) comes (time_more es e ∙ add-zero (time es) ∙ a.time) (own_of_segment l.kind l.own n s.now g)
     (by_stream es e (by_segment (arrived_segment n g) s.now) comes)
 

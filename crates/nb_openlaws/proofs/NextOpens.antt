@@ -7,7 +7,7 @@ use Rattle.nb_uri.specs.declared.target.UriTarget.TheVariants.{Tftp, Http, Iscsi
 use Rattle.nb_drivecmd.specs.declared.disk_names.NamedDisk.{NamedDisk}
 use Rattle.nb_drivecmd.specs.declared.outcome.Hooking.{Hooking}
 use Rattle.nb_drivelogin.specs.DriveLogins.{login_by}
-use Rattle.nb_machine.specs.Effects.{Effect, says, asks, goes, sleeps, shuts_device, inquires, on_images, on_drives, hooks_disk, unhooks_drive, concludes_at_once}
+use Rattle.nb_machine.specs.Effects.{Effect, says, asks, goes, sleeps, shuts_device, inquires, on_images, on_drives, hooks_disk, unhooks_drive, boots_drive, concludes_at_once}
 use Rattle.nb_machine.specs.Queries.{Query, for_lease, for_echo, for_host, for_address}
 use Rattle.nb_machine.specs.Errands.{Wanted, Onward, fetches_now, echoes_now, hooks_now, looks_up_now}
 use Rattle.nb_machine.specs.Findings.{open_words}
@@ -148,4 +148,5 @@ opens_settings es s t table up (on_images c) l job e = absurd (cc)
 opens_settings es s t table up (on_drives c) l job e = absurd (cc)
 opens_settings es s t table up (hooks_disk hooking) l job e = absurd (cc)
 opens_settings es s t table up (unhooks_drive number cause) l job e = absurd (cc)
+opens_settings es s t table up (boots_drive number) l job e = absurd (cc)
 opens_settings es s t table up (concludes_at_once c) l job e = absurd (cc)

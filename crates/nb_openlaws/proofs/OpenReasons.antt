@@ -13,7 +13,7 @@ use Rattle.nb_openlaws.proofs.Networks.{network_agrees, event_is}
 
 pub network_so : (es : List Event) (s s2 : State) (n : ℕ) (r : In) (put : List Out) (over : List Over) (net : Network s n r put s2 over) (o : OpensAgree es s) (a : AgreesState es s) → TakenSo (es ++ (network_agrees es s n r put s2 over net a).event ∷ []) put over
 network_so es s s2 n r put over net o a =
-    subst (λ e. TakenSo (es ++ e ∷ []) put over) (sym (event_is es s n r put s2 over net a)) (network_reasons es s n r put s2 over net o.base o.device o.kept o.ways o.advanced)
+    subst (λ e. TakenSo (es ++ e ∷ []) put over) (sym (event_is es s n r put s2 over net a)) (network_reasons es s n r put s2 over net o.base o.device o.kept o.ways o.advanced o.sessions)
 
 pub gives_reasons : (es : List Event) (s s2 : State) (n : ℕ) (r : In) (put : List Out) (over : List Over) → OpensAgree es s → Network s n r put s2 over → GivesReasons es r put
 gives_reasons es s s2 n r put over o net =

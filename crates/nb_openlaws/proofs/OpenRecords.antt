@@ -33,6 +33,7 @@ use Rattle.nb_laws.specs.Events.{Event, puts}
 use Rattle.nb_laws.specs.Lists.{time, made, port_offset, hardware, mark_at, opens_by, opening_at, openings, is_end_of, open_has_ended, calls, tries, marks}
 use Rattle.nb_laws.specs.Webs.{brought_to, told_try_mark, try_marks_of}
 use Rattle.nb_openlaws.specs.Standings.{told_try, told_tries}
+use Rattle.nb_laws.proofs.DriveTalks.{IsNoCommand}
 use Rattle.nb_laws.proofs.Tellings.{told, try_marks_by, made_more, openings_more, calls_more, came_more, try_marks_more, marks_more, over_more, no_more, sessions_stay}
 use Rattle.nb_laws.proofs.Histories.{time_more, offset_more, hardware_more}
 
@@ -185,6 +186,16 @@ pub of_later : (k : ℕ) (outs : List Out) → AreOf k outs → AreLater outs
 of_later k [] h = tt
 of_later k (o ∷ outs) h = (of_is_later k o h.0, of_later k outs h.1)
 
+of_no_command : (k : ℕ) (o : Out) → IsOf k o → IsNoCommand o
+of_no_command k (command depth line place expanded words) h = absurd h
+of_no_command k (step number) h = tt
+of_no_command k _ h = tt
+
+-- none of them is a COMMAND
+pub are_no_command : (k : ℕ) (outs : List Out) → AreOf k outs → AllByRecursion IsNoCommand outs
+are_no_command k [] h = tt
+are_no_command k (o ∷ outs) h = (of_no_command k o h.0, are_no_command k outs h.1)
+
 other_try : (k j now : ℕ) (o : Out) → IsOf k o → (k == j) ≡ false → told_try j now o ≡ []
 other_try k j now (tried number count) h e = ap (λ z. cond (z == j) (tries count now ∷ []) []) h ∙ ap (λ b. cond b (tries count now ∷ []) []) e
 other_try k j now (step number) h e = refl
@@ -228,7 +239,7 @@ end_among_is k (o ∷ outs) = end_one k o (end_among k outs) (ends_in k outs) (e
 
 -- WHAT AN EXCHANGE PUTS
 
-of_try : (k : ℕ) (try : Option ℕ) → AreOf k (try_records k try)
+pub of_try : (k : ℕ) (try : Option ℕ) → AreOf k (try_records k try)
 of_try k None = tt
 of_try k (Some n) = (refl, tt)
 
@@ -245,7 +256,7 @@ of_sends net k try [] = tt
 of_sends net k try (m ∷ []) = of_send net k try m
 of_sends net k try (m ∷ n ∷ ms) = all_append (IsOf k) (send_records net k None m) (sends_records net k try (n ∷ ms)) (of_send net k None m) (of_sends net k try (n ∷ ms))
 
-of_advance : (k : ℕ) (place : Option ℕ) → AreOf k (advance_records k place)
+pub of_advance : (k : ℕ) (place : Option ℕ) → AreOf k (advance_records k place)
 of_advance k None = tt
 of_advance k (Some place) = (refl, tt)
 
@@ -312,7 +323,7 @@ last_of_core s k server cs ys xs x (cores.takes_time cs0 xs0 link now acts h) e 
 last_of_core s k server cs ys xs x (cores.closes cs0 xs0 link cause h) e = subst (IsPutBy k) (snoc_one xs0 xs _ x e).1 (by_close k link cause)
 
 -- an open on a connection
-of_segments : (c : Connection) (link : Client) (sends : Sends) → AreOf c.number (segment_records c link sends)
+pub of_segments : (c : Connection) (link : Client) (sends : Sends) → AreOf c.number (segment_records c link sends)
 of_segments c link [] = tt
 of_segments c link (s ∷ sends) =
     all_append (IsOf c.number) (send_records link c.number s.1 (outgoing_message c.link s.0)) (segment_records c link sends) (of_send link c.number s.1 (outgoing_message c.link s.0)) (of_segments c link sends)

@@ -30,8 +30,8 @@ use Rattle.nb_laws.specs.Agreement.{IsStill, AreStill}
 use Rattle.nb_laws.proofs.Histories.{time_more, offset_more, hardware_more}
 use Rattle.nb_laws.proofs.Tellings.{told, try_marks_by, made_more, openings_more, calls_more, came_more, try_marks_more, marks_more, over_more, no_more, live_same, same_number, sessions_stay, sessions_more}
 use Rattle.nb_laws.proofs.Asides.{own_send}
-use Rattle.nb_laws.specs.Drives.{session_with, session_opening, session_at, login_at}
-use Rattle.nb_laws.specs.CommandsSoFar.{so_far}
+use Rattle.nb_laws.specs.Drives.{hooks_to_boot, session_with, session_opening, session_at, login_at}
+use Rattle.nb_laws.specs.CommandsSoFar.{so_far, hooking_so_far}
 use Rattle.nb_laws.proofs.SessionOpenings.{no_session_unopened}
 use Rattle.nb_streams.proofs.FlowLaws.{all_append}
 use Rattle.nb_openlaws.proofs.OpenRecords.{AreOf, IsLater, AreLater, is_end_record, ends_in, left, of_later, of_send, other_tries, other_try_marks, other_ends}
@@ -46,7 +46,7 @@ still_is_later (step number) h = absurd h
 still_is_later (opened number kind server port own target) h = absurd h
 still_is_later _ h = tt
 
-still_later : (outs : List Out) → AreStill outs → AreLater outs
+pub still_later : (outs : List Out) → AreStill outs → AreLater outs
 still_later [] h = tt
 still_later (o ∷ outs) h = (still_is_later o h.0, still_later outs h.1)
 
@@ -213,11 +213,14 @@ opens_login es s l next said a = by l.kind refl next.login said
     by tftp is login settings = tt
     by (http isn) is login settings = tt
     by (iscsi isn i) is login settings =
-        sessions_more l.number es (puts (open_record l)) ∙ ap (λ z. z ++ session_at l.number es (puts (open_record l))) (no_session_unopened l.number es (a.unopened l.number (omega (arith, a.opens, next.number_is))))
-        ∙ ap (λ (os : List Opening). flat_map (session_opening l.number es) os) here
-        ∙ ap (λ b. cond b (session_with l.number es (live_opening l) ∷ []) [] ++ []) (ap (λ z. kind_number z == 3) is)
-        ∙ ap (λ z. record { opening = live_opening l; login = z } ∷ [])
-        (ap (λ h. login_at h l.number (so_far es).table (live_opening l)) (sym (hardware_now es s a)) ∙ ap (λ t. login_at (record { mac = net0_mac s.devices; identity = s.machine }) l.number t (live_opening l)) settings ∙ sym login)
+        let boots = hooks_to_boot (hooking_so_far (so_far es)) in (
+          boots,
+          sessions_more l.number es (puts (open_record l)) ∙ ap (λ z. z ++ session_at l.number es (puts (open_record l))) (no_session_unopened l.number es (a.unopened l.number (omega (arith, a.opens, next.number_is))))
+              ∙ ap (λ (os : List Opening). flat_map (session_opening l.number es) os) here
+              ∙ ap (λ b. cond b (session_with l.number es (live_opening l) ∷ []) [] ++ []) (ap (λ z. kind_number z == 3) is)
+              ∙ ap (λ z. record { opening = live_opening l; login = z; boots = boots } ∷ [])
+              (ap (λ h. login_at h l.number (so_far es).table (live_opening l)) (sym (hardware_now es s a)) ∙ ap (λ t. login_at (record { mac = net0_mac s.devices; identity = s.machine }) l.number t (live_opening l)) settings ∙ sym login),
+        )
     by (dns id) is login settings = tt
     by (dhcp x) is login settings = tt
     by ping is login settings = tt

@@ -18,10 +18,11 @@ use Rattle.nb_laws.specs.Frames.{IsSent, IsMessageTried, IsDue}
 use Rattle.nb_laws.specs.Histories.{client}
 use Rattle.nb_laws.specs.Progress.{IsAdvanced}
 use Rattle.nb_laws.proofs.Asides.{aside_try, aside_send}
+use Rattle.nb_laws.proofs.DriveTalks.{IsNoCommand}
 use Rattle.nb_laws.proofs.Tellings.{told}
 use Rattle.nb_openlaws.specs.OpenReasons.{OpenReasons}
 use Rattle.nb_openlaws.proofs.Takings.{due_told}
-use Rattle.nb_openlaws.proofs.OpenRecords.{of_send}
+use Rattle.nb_openlaws.proofs.OpenRecords.{of_try, of_send, are_no_command}
 use Rattle.nb_openlaws.proofs.NetworkDevices.{client_some, some_of}
 use Rattle.nb_openlaws.proofs.Sendings.{no_reasons, reasons_then, client_try, frame_reasons, either_reasons}
 use Rattle.nb_openlaws.proofs.WebPuts.{TriedSo}
@@ -38,7 +39,7 @@ client_segments es c link (s ∷ sends) =
 
 -- what the history says of the open after these calls stays so while records are written that tell no open, and says what it may send
 module _ (link : Client) (c : Connection) (At : List Event → List TcpCall → Type 0)
-    (on : (es : List Event) (quiet : List Out) (all : List TcpCall) → AreAside quiet → client (es ++ told quiet) ≡ client es → At es all → At (es ++ told quiet) all)
+    (on : (es : List Event) (quiet : List Out) (all : List TcpCall) → AreAside quiet → AllByRecursion IsNoCommand quiet → client (es ++ told quiet) ≡ client es → At es all → At (es ++ told quiet) all)
     (leaves : (es : List Event) (all : List TcpCall) (s : Outgoing) → At es all → MaySend c.link.isn all s → (sends : IsSent c.number es (put_on link (outgoing_message c.link s) (way_of link (outgoing_message c.link s)))) × (s ≡ tried_again c.link.isn (conn_phase c.link.isn all) → IsMessageTried c.number es sends.opening sends.send)) where
   -- one, with its TRY
   pub one_with_reasons : (es : List Event) (all : List TcpCall) (s : Outgoing) (try : Option ℕ) → IsAdvanced es → IsDue c.number es → At es all → MaySend c.link.isn all s → TriedSo c.link.isn (conn_phase c.link.isn all) (s, try) →
@@ -46,7 +47,7 @@ module _ (link : Client) (c : Connection) (At : List Event → List TcpCall → 
   one_with_reasons es all s try a d w may again =
       let k = c.number in
       let send : SendTo = outgoing_message c.link s in
-      let one = leaves (es ++ told (try_records k try)) all s (on es (try_records k try) all (aside_try k try) (client_try es k try) w) may in
+      let one = leaves (es ++ told (try_records k try)) all s (on es (try_records k try) all (aside_try k try) (are_no_command k (try_records k try) (of_try k try)) (client_try es k try) w) may in
       either_reasons es (has_route link send) (try_records k try ++ (sent (put_on link send (way_of link send)) ∷ []))
       (frame_reasons es k try (put_on link send (way_of link send)) one.0 (λ n tries. one.1 (again n tries)) d a) a
 
@@ -58,4 +59,4 @@ module _ (link : Client) (c : Connection) (At : List Event → List TcpCall → 
       let outs = send_records link c.number s.1 (outgoing_message c.link s.0) in
       let first = one_with_reasons es all s.0 s.1 a d w may.0 again.0 in
       reasons_then es outs (segment_records c link sends) first
-      (all_with_reasons (es ++ told outs) all sends first.after (due_told c.number es outs d) (on es outs all (aside_send link c.number s.1 (outgoing_message c.link s.0)) (client_send es link c.number s.1 (outgoing_message c.link s.0)) w) may.1 again.1)
+      (all_with_reasons (es ++ told outs) all sends first.after (due_told c.number es outs d) (on es outs all (aside_send link c.number s.1 (outgoing_message c.link s.0)) (are_no_command c.number outs (of_send link c.number s.1 (outgoing_message c.link s.0))) (client_send es link c.number s.1 (outgoing_message c.link s.0)) w) may.1 again.1)

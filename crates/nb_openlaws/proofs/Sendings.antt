@@ -26,7 +26,7 @@ use Rattle.nb_laws.specs.Lists.{hardware, Opening, openings, open_has_ended, cal
 use Rattle.nb_laws.specs.Frames.{TriesSo, MayAskFor, by_transfer, IsSent, as_received, IsMessageTried, IsDue, stays_due, by_open, begun_by}
 use Rattle.nb_laws.specs.Agreement.{AreAside, IsStill}
 use Rattle.nb_laws.proofs.Histories.{each_append, each_then_append, client_put}
-use Rattle.nb_laws.proofs.Tellings.{told, tries_later, still_advanced, advanced_more, hardware_stays, place_same, came_more, place_more, kept, openings_more, calls_more, same_number, sessions_stay}
+use Rattle.nb_laws.proofs.Tellings.{told, tries_later, still_advanced, advanced_more, hardware_stays, place_same, came_more, place_more, kept, openings_more, calls_more, same_number, session_stays}
 use Rattle.nb_laws.proofs.Asides.{aside_try}
 use Rattle.nb_laws.proofs.CoreAsks.{CoreAsks, asks_none, asks_one}
 use Rattle.nb_openlaws.specs.OpenEndings.{OpensEndSo, by_reason, FramesSo}
@@ -155,7 +155,7 @@ advance_reasons es k p None here now next others = no_reasons es (each_open (λ 
 advance_reasons es k p (Some n) here now next others =
     let e = puts (advanced k n) in
     let same : (j : ℕ) → file_place j (es ++ e ∷ []) ≡ file_place j es = λ j.
-    place_same j (es ++ e ∷ []) es (hardware_stays es e tt) (openings_more j es e ∙ append-nil (openings j es)) (ap (λ z. flat_map received_by z) (calls_more j es e ∙ append-nil (calls j es))) (came_more j es e ∙ append-nil (brought_to j es)) (sessions_stay j es e refl) in
+    place_same j (es ++ e ∷ []) es (hardware_stays es e tt) (openings_more j es e ∙ append-nil (openings j es)) (ap (λ z. flat_map received_by z) (calls_more j es e ∙ append-nil (calls j es))) (came_more j es e ∙ append-nil (brought_to j es)) (session_stays j es e tt refl refl) in
     record {
       ends = (tt, tt);
       frames = (tt, tt);

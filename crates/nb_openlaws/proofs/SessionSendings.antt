@@ -7,7 +7,8 @@ use Rattle.nb_stack.specs.Client.{Client}
 use Rattle.nb_stack.specs.Sends.{put_on, way_of}
 use Rattle.nb_streams.specs.Flows.{TcpCall, conn_phase}
 use Rattle.nb_streams.specs.Sending.{Outgoing, MaySend, without_try, closing_segment, tried_again}
-use Rattle.nb_talks.specs.Talking.{text_calls}
+use Rattle.nb_talks.specs.Talking.{Talk, text_calls}
+use Rattle.nb_sans.specs.Sessions.{ReadTask}
 use Rattle.nb_talks.specs.TalkPromises.{Sends}
 use Rattle.nb_streams.proofs.OtherSendLaws.{closing_may}
 use Rattle.nb_tcp.specs.declared.link.Link.{Link}
@@ -16,13 +17,15 @@ use Rattle.nb_tcp.specs.MayBeSent.{MayBeSent}
 use Rattle.nb_machine.specs.Sendings.{has_route, send_records}
 use Rattle.nb_machine.specs.Connections.{Connection, segment_records}
 use Rattle.nb_laws.specs.Agreement.{AreAside}
-use Rattle.nb_laws.specs.Drives.{SessionOpening, sessions, session_by, session_so_far, came_to, AreItsCalls, ClosesSession}
+use Rattle.nb_laws.specs.Drives.{SessionOpening, sessions, session_so_far, AreItsCalls, ClosesSession}
 use Rattle.nb_laws.specs.Events.{Event}
 use Rattle.nb_laws.specs.Frames.{IsSent, as_said, IsMessageTried, IsDue, by_unhooking}
 use Rattle.nb_laws.specs.Histories.{client}
 use Rattle.nb_laws.specs.Lists.{hardware, Opening, openings, open_has_ended}
 use Rattle.nb_laws.specs.Progress.{IsAdvanced}
-use Rattle.nb_laws.specs.Webs.{connection_link, brought_to}
+use Rattle.nb_laws.specs.Webs.{connection_link}
+use Rattle.nb_laws.proofs.DriveEvents.{told_nothing}
+use Rattle.nb_laws.proofs.DriveTalks.{IsNoCommand}
 use Rattle.nb_laws.proofs.Tellings.{told, kept, still_advanced}
 use Rattle.nb_laws.specs.Endings.{WhyClosed}
 use Rattle.nb_laws.specs.Hookings.{LetsGo}
@@ -32,6 +35,7 @@ use Rattle.nb_openlaws.proofs.OpenRecords.{aside_sessions}
 use Rattle.nb_openlaws.proofs.UsedEvents.{live_one}
 use Rattle.nb_openlaws.proofs.Sendings.{either_reasons}
 use Rattle.nb_openlaws.proofs.WebPuts.{TriedSo}
+use Rattle.nb_openlaws.proofs.SessionMarks.{talk_put}
 use Rattle.nb_openlaws.proofs.SegmentReasons.{one_with_reasons, all_with_reasons}
 
 -- what the history says of it, after these calls of its connection, and what was said then
@@ -47,8 +51,9 @@ pub record SessionAt (es : List Event) (o : Opening) (link : Client) (c : Connec
   pub calls_are : (session_so_far c.number s es).calls ≡ all ++ text_calls texts now
 
 -- it stays so while records are written that tell no open
-pub session_on : (es : List Event) (quiet : List Out) (o : Opening) (link : Client) (c : Connection) (s : SessionOpening) (all : List TcpCall) → AreAside quiet → client (es ++ told quiet) ≡ client es → SessionAt es o link c s all → SessionAt (es ++ told quiet) o link c s all
-session_on es quiet o link c s all aside same w =
+pub session_on : (es : List Event) (quiet : List Out) (o : Opening) (link : Client) (c : Connection) (s : SessionOpening) (all : List TcpCall) → AreAside quiet → AllByRecursion IsNoCommand quiet → client (es ++ told quiet) ≡ client es →
+    SessionAt es o link c s all → SessionAt (es ++ told quiet) o link c s all
+session_on es quiet o link c s all aside plain same w =
     let k = c.number in
     let left = kept es quiet aside in
     record {
@@ -60,7 +65,7 @@ session_on es quiet o link c s all aside same w =
       link_is = ap (λ h. connection_link h k s.opening) left.hardware_is ∙ w.link_is;
       texts = w.texts;
       now = w.now;
-      calls_are = ap (λ h. (session_by h k s (came_to (brought_to k (es ++ told quiet)))).calls) left.hardware_is ∙ ap (λ z. (session_by (hardware es) k s (came_to z)).calls) (left.came_is k) ∙ w.calls_are;
+      calls_are = ap (λ (d : Talk ReadTask). d.calls) (talk_put k s es quiet left.hardware_is (told_nothing es quiet plain)) ∙ w.calls_are;
     }
 
 its_calls : (es : List Event) (o : Opening) (link : Client) (c : Connection) (s : SessionOpening) (all : List TcpCall) → SessionAt es o link c s all → AreItsCalls c.number es s all
@@ -95,13 +100,13 @@ session_sent es o link c x all s w may =
 pub session_reason : (es : List Event) (o : Opening) (link : Client) (c : Connection) (x : SessionOpening) (all : List TcpCall) (s : Outgoing) (try : Option ℕ) → IsAdvanced es → IsDue c.number es → SessionAt es o link c x all → MaySend c.link.isn all s →
     TriedSo c.link.isn (conn_phase c.link.isn all) (s, try) → OpenReasons es (send_records link c.number try (outgoing_message c.link s))
 session_reason es o link c x all s try a d w may again =
-    one_with_reasons link c (λ es all. SessionAt es o link c x all) (λ es quiet all aside same w. session_on es quiet o link c x all aside same w) (λ es all s w may. session_sent es o link c x all s w may) es all s try a d w may again
+    one_with_reasons link c (λ es all. SessionAt es o link c x all) (λ es quiet all aside plain same w. session_on es quiet o link c x all aside plain same w) (λ es all s w may. session_sent es o link c x all s w may) es all s try a d w may again
 
 -- all that it sends after these calls
 pub session_reasons : (es : List Event) (o : Opening) (link : Client) (c : Connection) (x : SessionOpening) (all : List TcpCall) (sends : Sends) → IsAdvanced es → IsDue c.number es → SessionAt es o link c x all → AllByRecursion (λ s. MaySend c.link.isn all s.0) sends →
     AllByRecursion (TriedSo c.link.isn (conn_phase c.link.isn all)) sends → OpenReasons es (segment_records c link sends)
 session_reasons es o link c x all sends a d w may again =
-    all_with_reasons link c (λ es all. SessionAt es o link c x all) (λ es quiet all aside same w. session_on es quiet o link c x all aside same w) (λ es all s w may. session_sent es o link c x all s w may) es all sends a d w may again
+    all_with_reasons link c (λ es all. SessionAt es o link c x all) (λ es quiet all aside plain same w. session_on es quiet o link c x all aside plain same w) (λ es all s w may. session_sent es o link c x all s w may) es all sends a d w may again
 
 -- WHAT CLOSES IT
 

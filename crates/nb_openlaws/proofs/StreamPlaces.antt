@@ -1,5 +1,5 @@
 -- How far a stream has come: a time leaves it as it is, and of one opening it is what its connection holds.
-use Rattle.std.proofs.Common.{◌≡◌, ℕ, ◌+◌, ◌==◌, true, false, cond, ◌||◌, List, [], ◌∷◌, ◌++◌, refl, sym, ◌∙◌, ap, append_assoc, append-nil, arith}
+use Rattle.std.proofs.Common.{◌≡◌, ℕ, ◌+◌, ◌==◌, true, false, cond, ◌||◌, List, [], ◌∷◌, ◌++◌, map, refl, sym, ◌∙◌, ap, append_assoc, append-nil, arith}
 use Rattle.std.specs.List.{flat_map, fold, list_any, sum_by}
 use Rattle.std.proofs.lemmas.List.Sums.{fold-append}
 use Rattle.std.proofs.lemmas.Bool.{eqb-true}
@@ -16,10 +16,10 @@ use Rattle.nb_laws.specs.Lists as lists
 use Rattle.nb_laws.specs.Lists.{Hardware, hardware, Opening, openings, file_blocks, blocks_where, opens_file}
 use Rattle.nb_laws.specs.Progress.{file_place}
 use Rattle.nb_laws.specs.Webs.{opens_web, opens_session, brought_to, talk_by, stream_place_by, stream_place}
-use Rattle.nb_laws.specs.Drives.{SessionOpening, sessions, session_by, to_session, came_to, session_place_by, session_place}
+use Rattle.nb_laws.specs.Drives.{SessionOpening, sessions, session_by, to_session, came_to_session, session_place_by, session_place}
+use Rattle.nb_laws.proofs.DriveTalks.{session_one, held_with}
 use Rattle.nb_laws.proofs.SessionOpenings.{no_session_of}
-use Rattle.nb_sans.specs.Sessions.{session_talker}
-use Rattle.std.proofs.lemmas.List.{map-append}
+use Rattle.nb_sans.specs.Sessions.{ReadTask}
 
 -- text that is said brings nothing of the stream
 pub held_text : (isn : ℕ) (cs : List TcpCall) (text : List ℕ) (now : ℕ) → held_after isn (cs ++ text_to_send text now) ≡ held_after isn cs
@@ -55,37 +55,34 @@ same_sum {A} f g os same = on os 0
     on [] t = refl
     on (x ∷ xs) t = ap (λ z. fold (λ (n : ℕ) (o : A). n + f o) (t + z) xs) (same x) ∙ on xs (t + g x)
 
--- the same of a drive's session
-pub time_session : (h : Hardware) (k : ℕ) (s : SessionOpening) (came : List (Came NoTask)) (now : ℕ) → session_place_by h k (came ++ by_time now ∷ []) s ≡ session_place_by h k came s
-time_session h k s came now =
-    ap (λ z. next (talk_held (first_word h.identity k) (session_by h k s z))) (map-append to_session came (by_time now ∷ []))
-    ∙ ap next (time_held (session_talker s.login) (first_word h.identity k) s.opening.since (came_to came) now)
-
-pub times_session : (h : Hardware) (k : ℕ) (s : SessionOpening) (came : List (Came NoTask)) (now : ℕ) (os : List Opening) → session_place_by h k (came ++ flat_map (λ x. by_time now ∷ []) os) s ≡ session_place_by h k came s
+-- the same of a drive's session, to which times alone come
+pub times_session : (h : Hardware) (k : ℕ) (s : SessionOpening) (came : List (Came ReadTask)) (now : ℕ) (os : List Opening) → session_place_by h k (came ++ map to_session (flat_map (λ x. by_time now ∷ []) os)) s ≡ session_place_by h k came s
 times_session h k s came now [] = ap (λ z. session_place_by h k z s) (append-nil came)
 times_session h k s came now (x ∷ os) =
-    ap (λ z. session_place_by h k z s) (sym (append_assoc came (by_time now ∷ []) (flat_map (λ y. by_time now ∷ []) os)))
-    ∙ times_session h k s (came ++ by_time now ∷ []) now os ∙ time_session h k s came now
+    ap (λ z. session_place_by h k z s) (sym (append_assoc came (by_time now ∷ []) (map to_session (flat_map (λ y. by_time now ∷ []) os))))
+    ∙ times_session h k s (came ++ by_time now ∷ []) now os
+    ∙ ap (λ d. next (talk_held (first_word h.identity k) d)) (session_one h k s came (by_time now))
+    ∙ ap next (held_with h k s (session_by h k s came) (by_time now) ∙ ap held_in (phase_append (first_word h.identity k) (session_by h k s came).calls (time_came now)))
 
 -- of one opening that fetches by HTTP
 pub stream_so : (k : ℕ) (es : List Event) (o : Opening) → openings k es ≡ o ∷ [] → opens_web o ≡ true → file_place k es ≡ stream_place_by (hardware es) k (brought_to k es) o
 stream_so k es o e is =
     ap (λ z. z + stream_place k es + session_place k es) (ap (λ os. blocks_where (list_any opens_file os) (lists.datagrams_of k es)) e ∙ ap (λ n. blocks_where ((n == 1) || false) (lists.datagrams_of k es)) (eqb-true o.kind 2 is))
     ∙ ap (λ os. 0 + sum_by (stream_place_by (hardware es) k (brought_to k es)) os + session_place k es) e
-    ∙ ap (λ ss. 0 + (0 + stream_place_by (hardware es) k (brought_to k es) o) + sum_by (session_place_by (hardware es) k (brought_to k es)) ss) (no_session_of k es o e (ap (λ n. n == 3) (eqb-true o.kind 2 is)))
+    ∙ ap (λ ss. 0 + (0 + stream_place_by (hardware es) k (brought_to k es) o) + sum_by (session_place_by (hardware es) k (came_to_session k es)) ss) (no_session_of k es o e (ap (λ n. n == 3) (eqb-true o.kind 2 is)))
     ∙ alone (stream_place_by (hardware es) k (brought_to k es) o)
   where
     alone : (n : ℕ) → 0 + (0 + n) + 0 ≡ n
     alone n = omega arith
 
 -- of one that is a drive's session
-pub session_so : (k : ℕ) (es : List Event) (o : Opening) (s : SessionOpening) → openings k es ≡ o ∷ [] → opens_session o ≡ true → sessions k es ≡ s ∷ [] → file_place k es ≡ session_place_by (hardware es) k (brought_to k es) s
+pub session_so : (k : ℕ) (es : List Event) (o : Opening) (s : SessionOpening) → openings k es ≡ o ∷ [] → opens_session o ≡ true → sessions k es ≡ s ∷ [] → file_place k es ≡ session_place_by (hardware es) k (came_to_session k es) s
 session_so k es o s e is one =
     ap (λ z. z + stream_place k es + session_place k es) (ap (λ os. blocks_where (list_any opens_file os) (lists.datagrams_of k es)) e ∙ ap (λ n. blocks_where ((n == 1) || false) (lists.datagrams_of k es)) (eqb-true o.kind 3 is))
     ∙ ap (λ os. 0 + sum_by (stream_place_by (hardware es) k (brought_to k es)) os + session_place k es) e
     ∙ ap (λ n. 0 + (0 + cond (n == 2) (next (talk_held (first_word (hardware es).identity k) (talk_by (hardware es) k o (brought_to k es)))) 0) + session_place k es) (eqb-true o.kind 3 is)
-    ∙ ap (λ ss. 0 + (0 + 0) + sum_by (session_place_by (hardware es) k (brought_to k es)) ss) one
-    ∙ alone (session_place_by (hardware es) k (brought_to k es) s)
+    ∙ ap (λ ss. 0 + (0 + 0) + sum_by (session_place_by (hardware es) k (came_to_session k es)) ss) one
+    ∙ alone (session_place_by (hardware es) k (came_to_session k es) s)
   where
     alone : (n : ℕ) → 0 + (0 + 0) + (0 + n) ≡ n
     alone n = omega arith

@@ -133,7 +133,7 @@ AreOver es os = AllByRecursion (AgreesOver es) os
 pub login_on : (k : ℕ) (a b : List Event) (kind : OpenKind) (o : Opening) → sessions k b ≡ sessions k a → HasLogin k a kind o → HasLogin k b kind o
 login_on k a b tftp o same h = tt
 login_on k a b (http isn) o same h = tt
-login_on k a b (iscsi isn i) o same h = same ∙ h
+login_on k a b (iscsi isn i) o same h = (h.0, same ∙ h.1)
 login_on k a b (dns id) o same h = tt
 login_on k a b (dhcp x) o same h = tt
 login_on k a b ping o same h = tt

@@ -33,7 +33,7 @@ IsFurther (waits n ms) = Unit {0}
 IsFurther (stops n) = Unit {0}
 IsFurther (puts o) = Unit {0}
 
-no_opening : (k : ℕ) (es : List Event) (e : Event) → IsUsed e → opening_at k es e ≡ []
+pub no_opening : (k : ℕ) (es : List Event) (e : Event) → IsUsed e → opening_at k es e ≡ []
 no_opening k es (puts o) h = absurd h
 no_opening k es (starts n s) h = refl
 no_opening k es _ h = refl

@@ -266,7 +266,7 @@ pub exchange_so : (kind : OpenKind) (es : List Event) (l : Live) (x : Exchange) 
     ExchangeSo kind es l x
 exchange_so tftp es l x taken come before keeps going own = datagrams_so tftp es l x refl taken come before keeps going own
 exchange_so (http isn) es l x taken come before keeps going own = web_so es l x isn taken come before keeps going
-exchange_so (iscsi isn i) es l x taken come before keeps going own = drive_so es l x isn i taken come before keeps going
+exchange_so (iscsi isn i) es l x taken come before keeps going own = drive_so es l x isn i taken come keeps
 exchange_so (dns id) es l x taken come before keeps going own = datagrams_so (dns id) es l x refl taken come before keeps going own
 exchange_so (dhcp a) es l x taken come before keeps going own = datagrams_so (dhcp a) es l x refl taken come before keeps going own
 exchange_so ping es l x taken come before keeps going own = datagrams_so ping es l x refl taken come before keeps going own

@@ -79,13 +79,13 @@ segment_sent es o link c all s w may =
 pub segment_reasons : (es : List Event) (o : Opening) (link : Client) (c : Connection) (all : List TcpCall) (s : Outgoing) (try : Option ℕ) → IsAdvanced es → IsDue c.number es → WebAt es o link c all → MaySend c.link.isn all s →
     TriedSo c.link.isn (conn_phase c.link.isn all) (s, try) → OpenReasons es (send_records link c.number try (outgoing_message c.link s))
 segment_reasons es o link c all s try a d w may again =
-    one_with_reasons link c (λ es all. WebAt es o link c all) (λ es quiet all aside same w. web_on es quiet o link c all aside same w) (λ es all s w may. segment_sent es o link c all s w may) es all s try a d w may again
+    one_with_reasons link c (λ es all. WebAt es o link c all) (λ es quiet all aside plain same w. web_on es quiet o link c all aside same w) (λ es all s w may. segment_sent es o link c all s w may) es all s try a d w may again
 
 -- all of them
 pub segments_reasons : (es : List Event) (o : Opening) (link : Client) (c : Connection) (all : List TcpCall) (sends : Sends) → IsAdvanced es → IsDue c.number es → WebAt es o link c all → AllByRecursion (λ s. MaySend c.link.isn all s.0) sends →
     AllByRecursion (TriedSo c.link.isn (conn_phase c.link.isn all)) sends → OpenReasons es (segment_records c link sends)
 segments_reasons es o link c all sends a d w may again =
-    all_with_reasons link c (λ es all. WebAt es o link c all) (λ es quiet all aside same w. web_on es quiet o link c all aside same w) (λ es all s w may. segment_sent es o link c all s w may) es all sends a d w may again
+    all_with_reasons link c (λ es all. WebAt es o link c all) (λ es quiet all aside plain same w. web_on es quiet o link c all aside same w) (λ es all s w may. segment_sent es o link c all s w may) es all sends a d w may again
 
 -- WHAT CLOSES IT
 

@@ -36,7 +36,8 @@ use Rattle.nb_laws.proofs.Asides.{more as both_aside, aside_send, aside_advance}
 use Rattle.nb_laws.proofs.Tellings.{try_marks_by, same_number}
 use Rattle.nb_openlaws.specs.Standings.{IsOngoing, moment_in, streamed, exchange_try_marks, streamed_marks}
 use Rattle.nb_openlaws.proofs.OpenEntries.{aside_all, own_end, NoEnd, no_end_of}
-use Rattle.nb_openlaws.proofs.WebTries.{sends_marks, sent_mark, TriesStand, segment_tries, time_tries}
+use Rattle.nb_openlaws.specs.Sessions.{TriesStand}
+use Rattle.nb_openlaws.proofs.WebTries.{sends_marks, sent_mark, segment_tries, time_tries}
 use Rattle.nb_openlaws.proofs.Requests.{calls_after, calls_more, said_once, puts_once}
 
 -- the open's end isn't put

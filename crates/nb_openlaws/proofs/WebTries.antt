@@ -15,6 +15,7 @@ use Rattle.nb_streams.specs.Endings.{segment_end, taken_end, end_cause}
 use Rattle.nb_talks.specs.Talking.{text_to_send, text_calls}
 use Rattle.nb_talks.specs.TalkPromises.{Sends, said_sends, texts_sent, due_sends, earlier}
 use Rattle.nb_streams.proofs.StreamLaws.{either}
+use Rattle.nb_openlaws.specs.Sessions.{TriesStand}
 
 -- the tries that segments tell
 abbrev pub sent_mark : ℕ → Option ℕ → List TryMark
@@ -44,7 +45,7 @@ no_mark : (now : ℕ) (b : Bool) (s : Outgoing) → sends_marks now (only_if b (
 no_mark now true s = refl
 no_mark now false s = refl
 
-marks_of_two : (now : ℕ) (xs ys : Sends) → sends_marks now (xs ++ ys) ≡ sends_marks now xs ++ sends_marks now ys
+pub marks_of_two : (now : ℕ) (xs ys : Sends) → sends_marks now (xs ++ ys) ≡ sends_marks now xs ++ sends_marks now ys
 marks_of_two now xs ys = flat_map-append (λ (s : Outgoing × Option ℕ). sent_mark now s.1) xs ys
 
 opens_timed : (isn : ℕ) (text : List ℕ) (m : Arrival) (now : ℕ) (w : TryTimer) → establishes isn m.segment ≡ true → Timed isn (asking text) m now w
@@ -88,27 +89,20 @@ segment_timed isn (flowing f) m now w none = either (is_taken f m.segment) (λ t
 
 -- THE TRIES STAND
 
--- the marks since the timer was started have its tries
-pub record TriesStand (isn start : ℕ) (calls : List TcpCall) (marks : List TryMark) : Type 0 where
-  pub earlier : List TryMark
-  pub rest : List TryMark
-  pub all : marks ≡ earlier ++ rest
-  pub tried : flat_map mark_tries rest ≡ due_tries (timer_after isn start calls)
-
 all_marks : (marks earlier rest more : List TryMark) → marks ≡ earlier ++ rest → marks ++ more ≡ earlier ++ (rest ++ more)
 all_marks marks earlier rest more e = ap (λ z. z ++ more) e ∙ append_assoc earlier rest more
 
 -- The same, by what came and what it put: the marks since the timer was started begin among the first or among the others.
-data TriesStandIn (isn start : ℕ) (calls : List TcpCall) (came put : List TryMark) : Type 0 where
+pub data TriesStandIn (isn start : ℕ) (calls : List TcpCall) (came put : List TryMark) : Type 0 where
   from_came : (before rest : List TryMark) → came ≡ before ++ rest → flat_map mark_tries rest ++ flat_map mark_tries put ≡ due_tries (timer_after isn start calls) → TriesStandIn isn start calls came put
   from_put : (before rest : List TryMark) → put ≡ before ++ rest → flat_map mark_tries rest ≡ due_tries (timer_after isn start calls) → TriesStandIn isn start calls came put
 
-they_stand : (isn start : ℕ) (calls : List TcpCall) (came put : List TryMark) → TriesStandIn isn start calls came put → TriesStand isn start calls (came ++ put)
+pub they_stand : (isn start : ℕ) (calls : List TcpCall) (came put : List TryMark) → TriesStandIn isn start calls came put → TriesStand isn start calls (came ++ put)
 they_stand isn start calls came put (from_came before rest all tried) = record { earlier = before; rest = rest ++ put; all = all_marks came before rest put all; tried = flat_map-append mark_tries rest put ∙ tried }
 they_stand isn start calls came put (from_put before rest all tried) = record { earlier = came ++ before; rest = rest; all = ap (λ z. came ++ z) all ∙ sym (append_assoc came before rest); tried = tried }
 
 -- a segment
-segment_in : (isn start : ℕ) (calls : List TcpCall) (marks : List TryMark) (m : Arrival) (now : ℕ) → segment_end isn (conn_phase isn calls) m ≡ None → TriesStand isn start calls marks →
+pub segment_in : (isn start : ℕ) (calls : List TcpCall) (marks : List TryMark) (m : Arrival) (now : ℕ) → segment_end isn (conn_phase isn calls) m ≡ None → TriesStand isn start calls marks →
     TriesStandIn isn start (calls ++ segment_came m now ∷ []) (marks ++ comes_in (segment_came m now) ∷ []) (sends_marks now (calls_for isn (conn_phase isn calls) m.segment))
 segment_in isn start calls marks m now none t = by (segment_timed isn (conn_phase isn calls) m now (timer_after isn start calls) none)
   where
@@ -190,7 +184,7 @@ same_in : (isn start : ℕ) (calls cs : List TcpCall) (came cm put pm : List Try
 same_in isn start calls cs came cm put pm a b c t = subst (λ z. TriesStandIn isn start z cm pm) a (subst (λ z. TriesStandIn isn start calls z pm) b (subst (λ z. TriesStandIn isn start calls came z) c t))
 
 -- a text that is said then
-text_in : (isn start : ℕ) (calls : List TcpCall) (came put : List TryMark) (text : List ℕ) (now : ℕ) → TriesStandIn isn start calls came put →
+pub text_in : (isn start : ℕ) (calls : List TcpCall) (came put : List TryMark) (text : List ℕ) (now : ℕ) → TriesStandIn isn start calls came put →
     TriesStandIn isn start (calls ++ text_to_send text now) (came ++ map comes_in (text_to_send text now)) (put ++ sends_marks now (said_sends (conn_phase isn calls) text))
 text_in isn start calls came put [] now t = same_in isn start calls (calls ++ []) came (came ++ []) put (put ++ []) (sym (append-nil calls)) (sym (append-nil came)) (sym (append-nil put)) t
 text_in isn start calls came put (b ∷ bytes) now t = by (text_timed (conn_phase isn calls) (b ∷ bytes) now (timer_after isn start calls)) t
@@ -216,7 +210,7 @@ text_in isn start calls came put (b ∷ bytes) now t = by (text_timed (conn_phas
     by (waits same quiet) (from_put before rest all tried) = from_put before rest (none_more quiet ∙ all) (tried ∙ sym (ap due_tries (timer ∙ same)))
 
 -- so do several, one after another
-texts_in : (isn start : ℕ) (calls : List TcpCall) (came put : List TryMark) (texts : List (List ℕ)) (now : ℕ) → TriesStandIn isn start calls came put →
+pub texts_in : (isn start : ℕ) (calls : List TcpCall) (came put : List TryMark) (texts : List (List ℕ)) (now : ℕ) → TriesStandIn isn start calls came put →
     TriesStandIn isn start (calls ++ text_calls texts now) (came ++ map comes_in (text_calls texts now)) (put ++ sends_marks now (texts_sent isn calls texts now))
 texts_in isn start calls came put [] now t = same_in isn start calls (calls ++ []) came (came ++ []) put (put ++ []) (sym (append-nil calls)) (sym (append-nil came)) (sym (append-nil put)) t
 texts_in isn start calls came put (x ∷ xs) now t =

@@ -11,7 +11,7 @@ use Rattle.nb_laws.specs.Histories.{client}
 use Rattle.nb_laws.specs.Lists.{hardware, Opening, openings, live, made}
 use Rattle.nb_laws.specs.CommandsSoFar.{so_far, ComesTo}
 use Rattle.nb_laws.specs.Cores.{has_its_answer}
-use Rattle.nb_laws.specs.Endings.{fate_to, HadWay, ClosesToBoot, WhyClosed, Holds}
+use Rattle.nb_laws.specs.Endings.{fate_to, HadWay, ClosesToBoot, ClosesToBootDisk, WhyClosed, Holds}
 use Rattle.nb_laws.specs.Frames.{IsSent, IsPut}
 use Rattle.nb_laws.specs.Drives.{ClosesSession}
 use Rattle.nb_laws.specs.Webs.{brought_to, closing_message}
@@ -27,6 +27,8 @@ pub data EndsBecause (k : ℕ) (es : List Event) (cause : Cause) : Type 0 where
   by_device : cause ≡ down_cause → (so_far es).is_open ≡ true → ComesTo es (made es) shuts_device → EndsBecause k es cause
   -- a command boots what was brought
   by_hand_off : cause ≡ stopped_cause → ClosesToBoot es → EndsBecause k es cause
+  -- or a disk
+  by_disk_off : cause ≡ stopped_cause → ClosesToBootDisk es → EndsBecause k es cause
 
 -- each ENDED is of an open that lives, has its cause in the records so far, and is Ok exactly where what the open asks for has come
 abbrev pub OpensEndSo : List Event → Event → Type 0

@@ -9,6 +9,7 @@ use Rattle.nb_laws.specs.Events.{Event, puts, used_by, EachEvent, EachThen}
 use Rattle.nb_laws.specs.Frames.{TriesSo}
 use Rattle.nb_laws.specs.Progress.{AdvancesSo, IsAdvanced}
 use Rattle.nb_openlaws.specs.Standings.{live_opening, AgreesState, AgreesDevice}
+use Rattle.nb_openlaws.specs.Sessions.{SessionsAgree}
 use Rattle.nb_laws.specs.Endings.{HadWay}
 use Rattle.nb_openlaws.specs.OpenEndings.{OpensEndSo, FramesSo}
 
@@ -16,10 +17,11 @@ use Rattle.nb_openlaws.specs.OpenEndings.{OpensEndSo, FramesSo}
 abbrev pub HaveWays : List Event → List Live → Type 0
 HaveWays es ls = AllByRecursion (λ l. HadWay l.number es (live_opening l)) ls
 
--- The history says of a state's opens all of `AgreesState`, and the device is its client. Each open keeps its kind's promises, and was
--- made with a way to its server; no ADVANCE is missing.
+-- The history says of a state's opens all of `AgreesState` and `SessionsAgree`, and the device is its client. Each open keeps its kind's
+-- promises, and was made with a way to its server; no ADVANCE is missing.
 pub record OpensAgree (es : List Event) (s : State) : Type 0 where
   pub base : AgreesState es s
+  pub sessions : SessionsAgree es s.live
   pub device : AgreesDevice es s
   pub kept : AllByRecursion Keeps s.live
   pub ways : HaveWays es s.live

@@ -109,20 +109,16 @@ IsKindBy h k ping o = (o.port ≡ 0) × (o.target ≡ [])
 abbrev pub HasLogin : ℕ → List Event → OpenKind → Opening → Type 0
 HasLogin k es tftp o = Unit {0}
 HasLogin k es (http isn) o = Unit {0}
-HasLogin k es (iscsi isn i) o = sessions k es ≡ record { opening = o; login = i } ∷ []
+HasLogin k es (iscsi isn i) o = (boots : Bool) × (sessions k es ≡ record { opening = o; login = i; boots = boots } ∷ [])
 HasLogin k es (dns id) o = Unit {0}
 HasLogin k es (dhcp a) o = Unit {0}
 HasLogin k es ping o = Unit {0}
 
--- a message for a ping has its identifier, and no command asks a task of a drive yet
+-- a message for a ping has its identifier
 abbrev pub ComesToOwnPort : OpenKind → (own : ℕ) → OpenInput → Type 0
 ComesToOwnPort tftp own input = Unit {0}
 ComesToOwnPort (http isn) own input = Unit {0}
-ComesToOwnPort (iscsi isn i) own (message rec port body now) = Unit {0}
-ComesToOwnPort (iscsi isn i) own (tcp_segment rec g now) = Unit {0}
-ComesToOwnPort (iscsi isn i) own (time now) = Unit {0}
-ComesToOwnPort (iscsi isn i) own (task t now) = ⊥
-ComesToOwnPort (iscsi isn i) own (close cause) = Unit {0}
+ComesToOwnPort (iscsi isn i) own input = Unit {0}
 ComesToOwnPort (dns id) own input = Unit {0}
 ComesToOwnPort (dhcp a) own input = Unit {0}
 ComesToOwnPort ping own (message rec port body now) = port ≡ own

@@ -12,9 +12,11 @@ use Rattle.nb_image.specs.declared.image.Image.{Image}
 use Rattle.nb_image.specs.Images.{ImageList, put_image, image_place, with_image}
 use Rattle.nb_image.specs.Parts.{PartText, PieceText, parts, table_parts, kernel_parts, initrd_parts, others_parts, part_pieces, piece_count}
 use Rattle.nb_image.proofs.PartsLemmas.{parts_length, piece_is, pieces_length}
+use Rattle.nb_runner.specs.declared.handing.Booted.{Booted}
+use Rattle.nb_runner.specs.declared.handing.Booted.TheVariants as booted
 use Rattle.nb_runner.specs.declared.handing.Handing.{Handing}
 use Rattle.nb_machine.specs.Conclusions.{part_records, piece_record}
-use Rattle.nb_runner.specs.Handings.{IsShortImage, AreShortImages, IsShortTable, IsAtPiece, PutsNext, moved_on, parts_handed}
+use Rattle.nb_runner.specs.Handings.{IsShortImage, AreShortImages, IsShortTable, FitsBooted, IsAtPiece, PutsNext, booted_parts, moved_on, parts_handed}
 
 -- of all elements of both lists, and of an element
 pub all_append : {A : Type 0} (P : A → Type 0) (xs ys : List A) → AllByRecursion P xs → AllByRecursion P ys → AllByRecursion P (xs ++ ys)
@@ -72,11 +74,17 @@ table_small : (table : Option (List ℕ)) → IsShortTable table → AllByRecurs
 table_small None short = tt
 table_small (Some bytes) short = (short, tt)
 
-handed_small : (images : List Image) (h : Handing) → AreShortImages images → IsShortTable h.table → AllByRecursion IsSmall (parts_handed images h)
-handed_small images h short table = all_append IsSmall (parts h.kernel images) (table_parts h.table) (parts_small h.kernel images short) (table_small h.table table)
+booted_small : (images : List Image) (b : Booted) → FitsBooted images b → AreShortImages images → AllByRecursion IsSmall (booted_parts images b)
+booted_small images (booted.Image kernel) fits short = parts_small kernel images short
+booted_small images (booted.Disk block) fits short = (fits, tt)
 
-pub part_small : (images : List Image) (h : Handing) (k : ℕ) (p : PartText) → AreShortImages images → IsShortTable h.table → slice_get (parts_handed images h) k ≡ Some p → length p.bytes ≤ 268435456
-part_small images h k p short table e = all_at IsSmall (parts_handed images h) k p (handed_small images h short table) e
+handed_small : (images : List Image) (h : Handing) → FitsBooted images h.booted → AreShortImages images → IsShortTable h.table → AllByRecursion IsSmall (parts_handed images h)
+handed_small images h fits short table =
+    all_append IsSmall (booted_parts images h.booted) (table_parts h.table) (booted_small images h.booted fits short) (table_small h.table table)
+
+pub part_small : (images : List Image) (h : Handing) (k : ℕ) (p : PartText) → FitsBooted images h.booted → AreShortImages images → IsShortTable h.table → slice_get (parts_handed images h) k ≡ Some p →
+    length p.bytes ≤ 268435456
+part_small images h k p fits short table e = all_at IsSmall (parts_handed images h) k p (handed_small images h fits short table) e
 
 -- from a place on: what stands there, and the rest
 pub drop_get : {A : Type 0} (xs : List A) (k : ℕ) (x : A) → slice_get xs k ≡ Some x → drop k xs ≡ x ∷ drop (k + 1) xs
@@ -174,21 +182,21 @@ first_piece None = tt
 first_piece (Some p) = rw (records_of_part p, pieces_length p.bytes) (some_count (length p.bytes))
 
 -- a hand-off begins
-pub begins_at : (list : ImageList) (kernel : ℕ) (table : Option (List ℕ)) → kernel < length list.images → AreShortImages list.images → IsShortTable table →
-    IsAtPiece list (record { kernel = kernel; table = table; part = 0; piece = 0 })
-begins_at list kernel table within short fits = record {
-  kernel = within;
+pub begins_at : (list : ImageList) (b : Booted) (table : Option (List ℕ)) → FitsBooted list.images b → AreShortImages list.images → IsShortTable table →
+    IsAtPiece list (record { booted = b; table = table; part = 0; piece = 0 })
+begins_at list b table fits short few = record {
+  booted = fits;
   part = omega arith;
-  piece = first_piece (slice_get (parts kernel list.images ++ table_parts table) 0);
+  piece = first_piece (slice_get (booted_parts list.images b ++ table_parts table) 0);
   behind = λ _. refl;
   short = short;
-  table = fits;
+  table = few;
 }
 
 -- after a part comes the next, at its first piece
 pub at_next : (list : ImageList) (h : Handing) → IsAtPiece list h → h.part < length (parts_handed list.images h) → IsAtPiece list (moved_on true h)
 at_next list h at within = record {
-  kernel = at.kernel;
+  booted = at.booted;
   part = omega (arith, within);
   piece = first_piece (slice_get (parts_handed list.images h) (h.part + 1));
   behind = λ _. refl;
@@ -200,7 +208,7 @@ at_next list h at within = record {
 pub at_piece : (list : ImageList) (h : Handing) (p : PartText) → IsAtPiece list h → slice_get (parts_handed list.images h) h.part ≡ Some p →
     h.piece + 1 < length (part_records p) → IsAtPiece list (moved_on false h)
 at_piece list h p at is within = record {
-  kernel = at.kernel;
+  booted = at.booted;
   part = at.part;
   piece = rw is within;
   behind = λ none. absurd (none-some p (sym none ∙ is));
@@ -233,11 +241,15 @@ table_few : (table : Option (List ℕ)) → length (table_parts table) ≤ 1
 table_few None = omega arith
 table_few (Some bytes) = omega arith
 
--- a hand-off of few images has few records
-pub handoff_few : (images : List Image) (h : Handing) → h.kernel < length images → AreShortImages images → IsShortTable h.table → length images ≤ 32 →
+-- of few images there are few parts
+pub image_few : (images : List Image) (kernel : ℕ) → kernel < length images → length images ≤ 32 → length (parts kernel images) ≤ 65
+image_few images kernel within few = omega (arith, parts_length images kernel within, few)
+
+-- a hand-off of few parts has few records
+pub handoff_few : (images : List Image) (h : Handing) → FitsBooted images h.booted → AreShortImages images → IsShortTable h.table → length (booted_parts images h.booted) ≤ 65 →
     length (flat_map part_records (parts_handed images h)) ≤ 270402
-handoff_few images h within short table few =
-    omega (arith, flat_few (parts_handed images h) (handed_small images h short table), length-append (parts h.kernel images) (table_parts h.table), parts_length images h.kernel within, table_few h.table, few)
+handoff_few images h fits short table few =
+    omega (arith, flat_few (parts_handed images h) (handed_small images h fits short table), length-append (booted_parts images h.booted) (table_parts h.table), table_few h.table, few)
 
 -- ONE PART AFTER ANOTHER
 
@@ -257,16 +269,16 @@ get_second : {A : Type 0} (xs ys : List A) → slice_get (xs ++ ys) (length xs) 
 get_second [] ys = refl
 get_second (x ∷ xs) ys = get_second xs ys
 
--- the boot table stands after the parts of the images
-pub part_of_images : (images : List Image) (h : Handing) → (h.part ≡ length (parts h.kernel images) → ⊥) → slice_get (parts h.kernel images) h.part ≡ slice_get (parts_handed images h) h.part
-part_of_images images h other = get_other (parts h.kernel images) (table_parts h.table) h.part (table_few h.table) other
+-- the boot table stands after the parts of what is booted
+pub part_of_booted : (images : List Image) (h : Handing) → (h.part ≡ length (booted_parts images h.booted) → ⊥) → slice_get (booted_parts images h.booted) h.part ≡ slice_get (parts_handed images h) h.part
+part_of_booted images h other = get_other (booted_parts images h.booted) (table_parts h.table) h.part (table_few h.table) other
 
-pub part_of_table : (images : List Image) (h : Handing) → h.part ≡ length (parts h.kernel images) → slice_get (table_parts h.table) 0 ≡ slice_get (parts_handed images h) h.part
-part_of_table images h e = sym (ap (slice_get (parts_handed images h)) e ∙ get_second (parts h.kernel images) (table_parts h.table))
+pub part_of_table : (images : List Image) (h : Handing) → h.part ≡ length (booted_parts images h.booted) → slice_get (table_parts h.table) 0 ≡ slice_get (parts_handed images h) h.part
+part_of_table images h e = sym (ap (slice_get (parts_handed images h)) e ∙ get_second (booted_parts images h.booted) (table_parts h.table))
 
--- how many parts there are, where an element is found among those of the images
-pub part_early : (images : List Image) (h : Handing) (p : PartText) → length (parts h.kernel images) ≤ 65 → slice_get (parts h.kernel images) h.part ≡ Some p → h.part ≤ 65
-part_early images h p few is = let within = slice_get_within (parts h.kernel images) h.part p is in omega (arith, within, few)
+-- how many parts there are, where an element is found among those of what is booted
+pub part_early : (images : List Image) (h : Handing) (p : PartText) → length (booted_parts images h.booted) ≤ 65 → slice_get (booted_parts images h.booted) h.part ≡ Some p → h.part ≤ 65
+part_early images h p few is = let within = slice_get_within (booted_parts images h.booted) h.part p is in omega (arith, within, few)
 
 -- A PIECE WAS PUT
 

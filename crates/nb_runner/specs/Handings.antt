@@ -5,7 +5,9 @@ use Rattle.nb_defs.specs.Records.{Out, out_texts}
 use Rattle.nb_record.specs.Logged.{Logged, Puts}
 use Rattle.nb_image.specs.declared.image.Image.{Image}
 use Rattle.nb_image.specs.Images.{ImageList}
-use Rattle.nb_image.specs.Parts.{PartText, parts, table_parts}
+use Rattle.nb_image.specs.Parts.{PartText, parts, table_parts, sector_part}
+use Rattle.nb_runner.specs.declared.handing.Booted.{Booted}
+use Rattle.nb_runner.specs.declared.handing.Booted.TheVariants as booted
 use Rattle.nb_runner.specs.declared.handing.Handing.{Handing}
 use Rattle.nb_machine.specs.Conclusions.{part_records}
 
@@ -18,9 +20,19 @@ pub record IsShortImage (image : Image) : Type 0 where
 abbrev pub AreShortImages : List Image → Type 0
 AreShortImages images = AllByRecursion IsShortImage images
 
--- the parts: those of the images, and last the boot table, where there is one
+-- what is booted: an image of the list, or a disk, whose block is short
+abbrev pub FitsBooted : List Image → Booted → Type 0
+FitsBooted images (booted.Image kernel) = kernel < length images
+FitsBooted images (booted.Disk block) = length block ≤ 268435456
+
+-- its parts: those of the images, or the disk's first block
+abbrev pub booted_parts : List Image → Booted → List PartText
+booted_parts images (booted.Image kernel) = parts kernel images
+booted_parts images (booted.Disk block) = sector_part block ∷ []
+
+-- the parts: those of what is booted, and last the boot table, where there is one
 abbrev pub parts_handed : List Image → Handing → List PartText
-parts_handed images h = parts h.kernel images ++ table_parts h.table
+parts_handed images h = booted_parts images h.booted ++ table_parts h.table
 
 -- the records of the pieces that are still to come
 abbrev pub records_left : List Image → Handing → List Out
@@ -28,8 +40,8 @@ records_left images h = drop h.piece (flat_map part_records (drop h.part (parts_
 
 -- after a piece: at the next piece of its part, or at the first of the next part
 abbrev pub moved_on : Bool → Handing → Handing
-moved_on true h = record { kernel = h.kernel; table = h.table; part = h.part + 1; piece = 0 }
-moved_on false h = record { kernel = h.kernel; table = h.table; part = h.part; piece = h.piece + 1 }
+moved_on true h = record { booted = h.booted; table = h.table; part = h.part + 1; piece = 0 }
+moved_on false h = record { booted = h.booted; table = h.table; part = h.part; piece = h.piece + 1 }
 
 -- a boot table is short
 abbrev pub IsShortTable : Option (List ℕ) → Type 0
@@ -37,7 +49,7 @@ IsShortTable table = IfSome table (λ bytes. length bytes ≤ 268435456)
 
 -- a hand-off stands at a piece of one of its parts, or after them all
 pub record IsAtPiece (list : ImageList) (h : Handing) : Type 0 where
-  pub kernel : h.kernel < length list.images
+  pub booted : FitsBooted list.images h.booted
   pub part : h.part ≤ length (parts_handed list.images h)
   pub piece : IfSome (slice_get (parts_handed list.images h) h.part) (λ p. h.piece < length (part_records p))
   pub behind : slice_get (parts_handed list.images h) h.part ≡ None → h.piece ≡ 0

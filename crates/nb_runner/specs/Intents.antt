@@ -12,7 +12,7 @@ use Rattle.nb_settings.specs.Tables.{TableLists}
 use Rattle.nb_command.specs.Addresses.{address_table}
 use Rattle.nb_uri.specs.Addresses.{four_decimals}
 use Rattle.std.specs.Option.{option_map_or}
-use Rattle.nb_machine.specs.Effects.{Effect, says, asks, changed, inquires, hooks_disk, unhooks_drive}
+use Rattle.nb_machine.specs.Effects.{Effect, says, asks, changed, inquires, hooks_disk, unhooks_drive, boots_drive}
 
 -- what is asked, without where its words lie in memory
 abbrev pub query_of : Asked → Query
@@ -28,6 +28,7 @@ intent_effect (intent.Asks query) = inquires (query_of query)
 intent_effect (intent.Fetches wanted) = asks (wanted_of wanted)
 intent_effect (intent.Hooks hooking) = hooks_disk hooking
 intent_effect (intent.LetsGo number cause) = unhooks_drive number cause
+intent_effect (intent.Boots number) = boots_drive number
 
 -- the settings with the address of a host that is written as four decimals
 abbrev pub looked_up_table : List ℕ → List ℕ → TableLists → TableLists
@@ -54,3 +55,4 @@ IsAskable opens (intent.Asks query) = (opens < 16384) × CanAsk query × (query_
 IsAskable opens (intent.Fetches wanted) = CanFetch opens wanted
 IsAskable opens (intent.Hooks hooking) = IsHookedWell hooking
 IsAskable opens (intent.LetsGo number cause) = Unit {0}
+IsAskable opens (intent.Boots number) = ⊥

@@ -1,15 +1,16 @@
 //! What a drive command comes to, and what is asked of the host of a disk that is to be hooked.
 
-ghost use Rattle.std.specs.Prelude.{◌≡◌, ◌⊎◌, ◌≤◌, ℕ, Ok, Err, IfOk, IfErr};
+ghost use Rattle.std.specs.Prelude.{◌≡◌, ◌⊎◌, ◌≤◌, ℕ, List, Ok, Err, IfOk, IfErr};
 ghost use Rattle.std.specs.Option.{option_copied};
 ghost use Rattle.nb_drivecmd.specs.DriveEffect.{drive_effect};
+ghost use Rattle.nb_drivecmd.specs.declared.drive.Drive.{Drive};
 ghost use Rattle.nb_drivecmd.specs.declared.error.DriveFailure.TheVariants as failure;
 ghost use Rattle.nb_machine.specs.Effects.{drive_outcome_effect, drives_effect, is_host_text, next_at_target, refusal_effect};
 ghost use Rattle.nb_drivecmd.specs.DriveFailures.{drive_cause};
 ghost use Rattle.nb_runner.specs.CommandWords.{IsHookedWell};
-ghost use Rattle.nb_runner.specs.Drives.{FitsDriveOutcome, LeavesRoom};
+ghost use Rattle.nb_runner.specs.Drives.{FitsDriveOutcome, IsOfHooked, LeavesRoom, MayIntend};
 ghost use Rattle.nb_runner.specs.Following.{following_of, CanFollow};
-ghost use Rattle.nb_runner.specs.Intents.{IsAskable, intent_effect};
+ghost use Rattle.nb_runner.specs.Intents.{intent_effect};
 ghost use Rattle.nb_runner.specs.World.{surroundings_in};
 
 use crate::World;
@@ -28,15 +29,15 @@ use nb_terms::Plain;
 use nb_uri::number;
 use std::alloc::Global;
 
-/// What an outcome comes to. No drive is booted yet.
+/// What an outcome comes to.
 fn intent_by(outcome: DriveOutcome) -> Intent
     requires { FitsDriveOutcome outcome }
     ensures value { intent_effect result ≡ drive_outcome_effect outcome }
-    ensures may { (opens : ℕ) → IsAskable opens result }
+    ensures may { (opens : ℕ) (drives : List Drive) → IsOfHooked outcome drives → MayIntend opens drives result }
 {
     match outcome {
         DriveOutcome::Hook(hooking) => Intent::Hooks(hooking),
-        DriveOutcome::Boot { .. } => Intent::Over(Plain::Unknown.cause()),
+        DriveOutcome::Boot { number, .. } => Intent::Boots(number),
         DriveOutcome::Unhook(number) => Intent::LetsGo(number, Plain::Ok.cause()),
     }
 }
@@ -44,7 +45,7 @@ fn intent_by(outcome: DriveOutcome) -> Intent
 /// What a refusal comes to: the drive that it lets go is closed.
 fn intent_of_refusal(refusal: DriveRefusal) -> Intent
     ensures value { intent_effect result ≡ refusal_effect (drive_cause refusal.why) refusal.unhooks }
-    ensures may { (opens : ℕ) → IsAskable opens result }
+    ensures may { (opens : ℕ) (drives : List Drive) → MayIntend opens drives result }
 {
     match refusal.unhooks {
         None => Intent::Over(refusal.why.cause()),
@@ -65,6 +66,7 @@ fn outcome_by(
     ensures cause { IfErr result (λ refusal. (refusal.why ≡ failure.NoMemory)
         ⊎ (drive_effect command.now (option_copied base.entry) table.now drives.now ≡ Err refusal)) }
     ensures fits { IfOk result FitsDriveOutcome }
+    ensures hooked { IfOk result (λ outcome. IsOfHooked outcome drives.now) }
 {
     carry_out(alloc, command, base, table, drives)
 }
@@ -81,8 +83,8 @@ fn is_host_text(alloc: Global, table: &Table, text: &[u8]) -> Result<bool, NoMem
 }
 
 impl World {
-    /// Does a drive command of a script that was fetched from this URI, if it was: what is to be hooked or let go. The drives
-    /// stay as they were.
+    /// Does a drive command of a script that was fetched from this URI, if it was: what is to be hooked, booted or let go.
+    /// The drives stay as they were.
     pub fn do_drives(
         &self,
         alloc: Global,
@@ -91,7 +93,7 @@ impl World {
     ) -> Result<Intent, NoMemory>
         ensures value { (depth : ℕ) → IfOk result (λ i. drives_effect (surroundings_in self.now (option_copied own.entry) depth) command.now
             ≡ intent_effect i) }
-        ensures may { (opens : ℕ) → IfOk result (λ i. IsAskable opens i) }
+        ensures may { (opens : ℕ) → IfOk result (λ i. MayIntend opens self.now.state.drives i) }
     {
         let (table, drives) = (&self.state.table, &self.state.drives);
         let base = script_base(alloc, own, table)?;

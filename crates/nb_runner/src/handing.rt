@@ -1,20 +1,28 @@
 ghost use Rattle.std.specs.Prelude.{◌≡◌, ◌<◌, ◌≤◌, ◌∷◌, [], true, false, length, option_map, slice_get, IfSome};
 ghost use Rattle.std.specs.Option.{option_copied};
-ghost use Rattle.nb_image.specs.Parts.{part_text, table_parts};
+ghost use Rattle.nb_image.specs.Parts.{part_text, sector_part, table_parts};
 ghost use Rattle.nb_record.specs.Logged.{Puts};
-ghost use Rattle.nb_runner.specs.Handings.{IsAtPiece, HandsOn, moved_on, parts_handed, records_left};
-ghost use Rattle.nb_machine.specs.Conclusions.{handoff_records};
+ghost use Rattle.nb_runner.specs.Handings.{FitsBooted, HandsOn, IsAtPiece, booted_parts, moved_on, parts_handed};
 
 use nb_image::{Handoff, Images, Part, PartBytes, PartKind};
 use nb_record::{Log, OutRec};
 use nb_wire::Text;
 
-/// How far a hand-off is: the image that is booted, the boot table of drives where there is one, and the part and the piece
+/// What is handed off.
+#[derive(Drop)]
+pub enum Booted {
+    /// The image at this place of the list, with the others.
+    Image(usize),
+    /// The disk of which this is the first block.
+    Disk(Text),
+}
+
+/// How far a hand-off is: what is booted, the boot table of drives where there is one, and the part and the piece
 /// that come next.
 #[derive(Drop)]
 pub struct Handing {
-    /// The place of the image that is booted.
-    pub kernel: usize,
+    /// What is booted.
+    pub booted: Booted,
     /// The boot table, which is the last part.
     pub table: Option<Text>,
     /// The part that comes next.
@@ -37,13 +45,58 @@ fn table_part(table: &Option<Text>) -> Option<Part<'_>>
     }
 }
 
+/// The only part of a disk, which is its first block.
+fn block_part(block: &[u8], k: usize) -> Option<Part<'_>>
+    ensures { option_map part_text result ≡ slice_get (sector_part block.now ∷ []) k }
+{
+    if k == 0 {
+        return Some(Part {
+            kind: PartKind::Sector,
+            index: 0,
+            bytes: PartBytes::Text(block),
+        });
+    }
+    None
+}
+
+impl Booted {
+    /// Part `k` of what is booted, from 0. None after the last.
+    fn part<'a>(&'a self, images: &'a Images, k: usize) -> Option<Part<'a>>
+        requires { FitsBooted images.now.images self.now }
+        ensures { option_map part_text result ≡ slice_get (booted_parts images.now.images self.now) k }
+    {
+        match self {
+            Booted::Image(kernel) => {
+                let kernel = *kernel;
+                Handoff { kernel, images }.part(k)
+            }
+            Booted::Disk(block) => block_part(block.as_slice(), k),
+        }
+    }
+
+    /// How many parts it has.
+    fn part_count(&self, images: &Images) -> usize
+        requires { FitsBooted images.now.images self.now }
+        ensures value { result ≡ length (booted_parts images.now.images self.now) }
+        ensures few { result ≤ 65 }
+    {
+        match self {
+            Booted::Image(kernel) => {
+                let kernel = *kernel;
+                Handoff { kernel, images }.part_count()
+            }
+            Booted::Disk(_) => 1,
+        }
+    }
+}
+
 impl Handing {
-    /// The hand-off of the image at this place, and of this boot table; nothing was put.
-    pub fn of(kernel: usize, table: Option<Text>) -> Handing
-        ensures { result ≡ record { kernel = kernel; table = table; part = 0; piece = 0 } }
+    /// The hand-off of what is booted, and of this boot table; nothing was put.
+    pub fn of(booted: Booted, table: Option<Text>) -> Handing
+        ensures { result ≡ record { booted = booted; table = table; part = 0; piece = 0 } }
     {
         Handing {
-            kernel,
+            booted,
             table,
             part: 0,
             piece: 0,
@@ -52,18 +105,14 @@ impl Handing {
 
     /// The part that comes next. None where all was put.
     fn next_part<'a>(&'a self, images: &'a Images) -> Option<Part<'a>>
-        requires { self.now.kernel < length images.now.images }
+        requires { FitsBooted images.now.images self.now.booted }
         ensures value { option_map part_text result ≡ slice_get (parts_handed images.now.images self.now) self.now.part }
         ensures few { IfSome result (λ _. self.now.part ≤ 65) }
     {
-        let handoff = Handoff {
-            kernel: self.kernel,
-            images,
-        };
-        if self.part == handoff.part_count() {
+        if self.part == self.booted.part_count(images) {
             return table_part(&self.table);
         }
-        handoff.part(self.part)
+        self.booted.part(images, self.part)
     }
 
     /// Puts the next piece. False where all was put.

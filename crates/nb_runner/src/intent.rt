@@ -45,6 +45,8 @@ pub enum Intent {
     Hooks(Hooking),
     /// The drive of this number is closed, if one is hooked, and it is over with this cause.
     LetsGo(u8, Cause),
+    /// The drive of this number, which is hooked, is booted.
+    Boots(u8),
 }
 
 /// The bytes of `domain`, none where it isn't set.

@@ -24,7 +24,7 @@ pub use command::{Deed, Done, MAX_OPENS, full_opens};
 pub use errand::{Errand, Onward, Wanted};
 pub use first_script::{Unread, read_script};
 pub use following::Following;
-pub use handing::Handing;
+pub use handing::{Booted, Handing};
 pub use images::{Conclusion, ImageDeed, selected};
 pub use intent::Intent;
 pub use outside::OuterScripts;

@@ -13,8 +13,8 @@ usage:
   netboot --help             prints this
   netboot --version          prints the version
 
-It ends with 0 where an image was handed off, 2 for a bad command line, 3 where the script ended in Ok,
-4 where it failed, 5 where the power was switched off or the input ended, 6 for a bad record, 7 for a read
+It ends with 0 where an image or a disk was handed off, 2 for a bad command line, 3 where the script ended in
+Ok, 4 where it failed, 5 where the power was switched off or the input ended, 6 for a bad record, 7 for a read
 fault, 8 for a write fault, 9 where memory ran out, 10 where the files can't be opened or the bridge isn't
 there, and 11 for too many records.";
 

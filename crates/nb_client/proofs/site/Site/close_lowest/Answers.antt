@@ -10,7 +10,7 @@ returns-in_default c =
 pub close_open-requires-clause-lives : goal.close_open-requires-clause-lives
 close_open-requires-clause-lives c =
     let now = c.args.self.now in
-    lowest_lives now.opens.list now.world.state.drives c.in-Some.drive.now c.requires.1.hooked (sym (rw c.in-Some.is at c.get.ensures))
+    lowest_lives now.opens.list now.world.state.drives c.in-Some.drive.now c.requires.1.hooked.kept (sym (rw c.in-Some.is at c.get.ensures))
 
 pub returns : goal.returns
 returns c =

@@ -24,3 +24,17 @@ returns-in-Query-End c =
     ended_concludes p c.in-Query-End.ended (λ o. ap (λ a. answer_over a o) asks)
     (subst (λ (e : HasEnded). ConcludesEnd p e c.args.script c.args.self.now (snapshot_at c.take_found.new.self st) c.args.out.now c.take_found.new.out) c.into_inner-in-Query-End.ensures (k p asks refl)))
     c.take_found.ensures)
+
+pub returns-in-Disk-default : goal.returns-in-Disk-default
+returns-in-Disk-default c =
+    let p = c.args.pending in
+    let asks = c.in-Disk-default.is-0 in
+    let none : p.waits ≡ None = subst (λ a. IsBacked a p.waits) asks c.requires.well.asked.backed in
+    if_ok c.take_drive.result (λ st k. k p asks refl none) c.take_drive.ensures
+
+pub returns-in-Block-default : goal.returns-in-Block-default
+returns-in-Block-default c =
+    let p = c.args.pending in
+    let asks = c.in-Block-default.is-0 in
+    let none : p.waits ≡ None = subst (λ a. IsBacked a p.waits) asks c.requires.well.asked.backed in
+    if_ok c.take_block.result (λ st k. k p asks refl none) c.take_block.ensures

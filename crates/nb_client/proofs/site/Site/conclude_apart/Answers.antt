@@ -13,11 +13,9 @@ returns-clause-concludes c =
     let l = rw c.into_inner.ensures at c.in_ok-stage.ensures in
     subst (λ (x : Snapshot). Concludes c.args.pending c.args.answer c.args.script c.args.self.now x c.args.log.now c.put_gathered.new.log) (sym same)
     (record {
-      rest = l.rest;
-      puts = gathered_puts (out_texts l.rest) c.in_ok-out.ensures g.whole l.puts g.puts;
-      comes = l.comes;
-      plain = l.plain;
-      traces = l.traces;
+      ends = λ live are.
+          let k = l.ends live are in
+          record { rest = k.rest; puts = gathered_puts (out_texts k.rest) c.in_ok-out.ensures g.whole k.puts g.puts; comes = k.comes; traces = k.traces };
       sound = l.sound;
       under_way = l.under_way;
     })

@@ -10,7 +10,7 @@ use Rattle.nb_runner.specs.declared.world.World.{World}
 use Rattle.nb_client.specs.Soundness.{IsSound}
 use Rattle.nb_client.specs.Turning.{found_by_script}
 use Rattle.nb_client.specs.declared.stage.Stage.TheVariants as stage
-use Rattle.nb_client.proofs.CommandEnds.{concludes_images, intends_images}
+use Rattle.nb_client.proofs.CommandEnds.{concludes_images, intends_images, intends_plain}
 use Rattle.nb_client.proofs.Concluded.{deed_concludes, deed_intends, follows, images_sound}
 use Rattle.nb_client.proofs.Results.{if_ok}
 use Rattle.nb_client.proofs.site.Site.do_images.Goals as goal
@@ -28,7 +28,7 @@ intend-requires-clause-may c =
     let now = c.args.self.now in
     let next = c.do_images.new.self in
     let well = deed_intends c.in_ok-deed.deed c.in-Intends.intent _ now.world.opens now.world.state.images next.state.images c.in-Intends.is c.in_ok-deed.ensures.well in
-    subst (λ (w : World). IsAskable w.opens c.in-Intends.intent) (sym c.in_ok-deed.ensures.after) well.0
+    intends_plain next.opens next.state.drives c.in-Intends.intent (subst (λ (w : World). IsAskable w.opens c.in-Intends.intent) (sym c.in_ok-deed.ensures.after) well.0)
 
 pub returns-in-Intends-clause-moves : goal.returns-in-Intends-clause-moves
 returns-in-Intends-clause-moves c =

@@ -1,6 +1,7 @@
 use Rattle.std.proofs.Common.{◌∙◌, ap, subst, sym}
 use Rattle.nb_machine.specs.Effects.{says}
-use Rattle.nb_runner.specs.Intents.{IsAskable, intent_effect}
+use Rattle.nb_runner.specs.Drives.{MayIntend}
+use Rattle.nb_runner.specs.Intents.{intent_effect}
 use Rattle.nb_client.specs.Soundness.{HasRoomIf}
 use Rattle.nb_client.proofs.Results.{if_ok}
 use Rattle.nb_client.proofs.site.Site.intend.Goals as goal
@@ -62,9 +63,20 @@ returns-in-LetsGo-clause-moves c = if_ok c.let_drive_go.result (λ st f w h. f w
   was_linked = h.was_linked;
 })) c.let_drive_go.ensures.moves
 
+pub returns-in-Boots-clause-moves : goal.returns-in-Boots-clause-moves
+returns-in-Boots-clause-moves c = if_ok c.boot_hooked.result (λ st f w h. f w (record {
+  name = h.name;
+  args = h.args;
+  comes = h.comes;
+  intends_so = h.intends_so ∙ ap intent_effect c.in-Boots.is;
+  shows = h.shows;
+  world_is = h.world_is;
+  was_linked = h.was_linked;
+})) c.boot_hooked.ensures.moves
+
 -- what a command asks for by a query hooks no disk
 pub ask-requires-clause-room : goal.ask-requires-clause-room
 ask-requires-clause-room c =
     let w = c.args.self.now.world in
-    let may = subst (IsAskable w.opens) c.in-Asks.is c.requires.may in
+    let may = subst (MayIntend w.opens w.state.drives) c.in-Asks.is c.requires.may in
     (tt, subst (λ b. HasRoomIf b w.state.drives) (sym may.2) tt)

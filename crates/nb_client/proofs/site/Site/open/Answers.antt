@@ -48,7 +48,7 @@ returns-in-None c =
     ∙ ap (λ (s : Running). stage.Waiting s (expected.Open (pending_for w asked made.waits))) c.entered-script.ensures) in
     subst (λ x. Opened asked (waiting_pieces (asked_kind asked) c.args.waits) shown c.args.script now x c.args.out.now c.put_opened.new.log)
     (sym (same_snapshot _ _ (c.wait_for.ensures.used ∙ b.used) (c.wait_for.ensures.world ∙ ap with_ended_open b.world) c.wait_for.ensures.opens there))
-    (opened_waits asked o c.args.waits made.waits shown c.args.script now begun.world.net begun.opens c.requires.sound c.requires.fits c.requires.room is backed (has_begun asked o c.args.waits now begun made None c.in-None.is b) puts)
+    (opened_waits asked o c.args.waits made.waits shown c.args.script now begun.world.net begun.opens c.requires.sound c.requires.fits c.requires.opens c.requires.room is backed (has_begun asked o c.args.waits now begun made None c.in-None.is b) puts)
 
 pub returns-in-Some : goal.returns-in-Some
 returns-in-Some c =

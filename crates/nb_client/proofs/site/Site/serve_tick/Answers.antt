@@ -9,7 +9,7 @@ returns-clause-serves c =
     let f = c.forget_ended.ensures in
     rw (f.used, f.opens, f.world) (record {
       takes = λ s is. e.takes w.w w.opens w.time (ap (λ x. w.time + x) c.from.ensures) sound.opens s is;
-      hooked = sound.hooked;
+      hooked = sound.hooked.kept;
       used = refl;
       world = refl;
       time = omega (arith, sound.time, c.requires.valid, c.from.ensures);

@@ -7,6 +7,7 @@ use Rattle.nb_nodes.specs.declared.obj.Obj.{Obj}
 use Rattle.nb_open.specs.declared.open.Open.{Open}
 use Rattle.nb_open.specs.Exchanges.{Exchanges}
 use Rattle.nb_open.specs.Open.{IsOpenOf as IsBareOf}
+use Rattle.nb_network.specs.Drives.{asks}
 use Rattle.nb_network.specs.Many.{Many, bare_open}
 use Rattle.nb_network.proofs.Hearing.{bare_is}
 use Rattle.nb_network.specs.Steps.{IsOpenAt}
@@ -38,7 +39,7 @@ returns-clause-comes c = (
             (subst (λ (m : Many). (l : Live) → IsBareOf m.graph (bare_open o) l → Unit {0} → Exchanges (bare_open o) l came c.args.net.now None m.graph c.ask.new.graph c.in_ok-ended.desk.told.value c.in_ok-ended.ended) c.self.view_is
             (subst (λ (y : Open). (l : Live) → IsBareOf c.self.inside.graph y l → Unit {0} → Exchanges y l came c.args.net.now None c.self.inside.graph c.ask.new.graph c.in_ok-ended.desk.told.value c.in_ok-ended.ended) same
             (λ l i u. c.in_ok-ended.ensures l i)))) l (bare_is i) fit;
-        heard = None;
+        heard = asks (record { lba = c.args.block; blocks = c.args.count });
         heard_is = λ l fit. refl;
         settles = c.in_ok-found.ensures.settles o there;
         noded = subst (λ (h : Objects Obj). AreNoded rank_of_obj h) (sym c.settle.ensures.graph) c.has_nodes.ensures;

@@ -1,4 +1,4 @@
-use Rattle.std.proofs.Common.{◌≡◌, Some, get_or, sym, ◌∙◌, subst, ap, None, refl}
+use Rattle.std.proofs.Common.{◌≡◌, Some, get_or, sym, ◌∙◌, subst, ap, refl}
 use Rattle.nb_graph.specs.Noded.{AreNoded}
 use Rattle.nb_graph.specs.Whole.{Objects}
 use Rattle.nb_ledger.specs.declared.event.Way.TheVariants.{Time}
@@ -7,11 +7,11 @@ use Rattle.nb_nodes.specs.Objects.{rank_of_obj}
 use Rattle.nb_nodes.specs.declared.obj.Obj.{Obj}
 use Rattle.nb_open.specs.declared.open.Open.{Open}
 use Rattle.nb_open.specs.Exchanges.{Exchanges}
-use Rattle.nb_teller.specs.Spelling.{Spelling}
 use Rattle.nb_open.specs.Open.{IsOpenOf as IsBareOf}
+use Rattle.nb_network.specs.Drives.{brings}
 use Rattle.nb_network.specs.Many.{Many, bare_open}
 use Rattle.nb_network.proofs.Hearing.{bare_is}
-use Rattle.nb_network.specs.Steps.{IsOpenAt, EndIsSettled}
+use Rattle.nb_network.specs.Steps.{IsOpenAt}
 use Rattle.nb_network.proofs.Places.{open_at}
 use Rattle.nb_network.proofs.opens.Opens.pass_at.Goals as goal
 
@@ -31,9 +31,9 @@ returns-clause-comes c = (
             (subst (λ (m : Many). (l : Live) → IsBareOf m.graph (bare_open o) l → Unit {0} → Exchanges (bare_open o) l (time c.args.now) c.args.net.now (Some Time) m.graph c.pass_time.new.graph c.in_ok-ended.desk.told.value c.in_ok-ended.ended) c.self.view_is
             (subst (λ (y : Open). (l : Live) → IsBareOf c.self.inside.graph y l → Unit {0} → Exchanges y l (time c.args.now) c.args.net.now (Some Time) c.self.inside.graph c.pass_time.new.graph c.in_ok-ended.desk.told.value c.in_ok-ended.ended) same
             (λ l i u. c.in_ok-ended.ensures l i)))) l (bare_is i) fit;
-        heard = c.in_ok-ended.desk.told.value.answer;
+        heard = (let told = c.in_ok-ended.desk.told.value in brings told.answer told.blocks);
         heard_is = λ l fit. refl;
-        settles = subst (λ h. EndIsSettled c.in_ok-ended.ended at.before o at.behind c.args.net.now None c.args.awaited h c.in_ok-ended.desk.told.value c.settle.new.self.list c.settle.new.net c.in_ok-found.found c.args.gathered.now c.settle.new.log) (c.answer-heard.ensures ∙ ap (λ (z : Spelling). z.answer) c.deref.ensures) (c.in_ok-found.ensures.settles o there);
+        settles = c.in_ok-found.ensures.settles o there;
         noded = subst (λ (h : Objects Obj). AreNoded rank_of_obj h) (sym c.settle.ensures.graph) c.has_nodes.ensures;
       },
 )

@@ -7,11 +7,11 @@ use Rattle.nb_nodes.specs.Objects.{rank_of_obj}
 use Rattle.nb_nodes.specs.declared.obj.Obj.{Obj}
 use Rattle.nb_open.specs.declared.open.Open.{Open}
 use Rattle.nb_open.specs.Exchanges.{Exchanges, IsInput}
-use Rattle.nb_teller.specs.Spelling.{Spelling}
 use Rattle.nb_open.specs.Open.{IsOpenOf as IsBareOf}
+use Rattle.nb_network.specs.Drives.{brings}
 use Rattle.nb_network.specs.Many.{Many, bare_open}
 use Rattle.nb_network.proofs.Hearing.{bare_is, heard_input}
-use Rattle.nb_network.specs.Steps.{IsOpenAt, EndIsSettled}
+use Rattle.nb_network.specs.Steps.{IsOpenAt}
 use Rattle.nb_network.proofs.Places.{open_at}
 use Rattle.nb_network.proofs.opens.Opens.receive.Goals as goal
 
@@ -32,9 +32,9 @@ returns-clause-receives c = λ o at. (
             (subst (λ (m : Many). (l : Live) → IsBareOf m.graph (bare_open o) l → IsInput (bare_open o) l c.args.rec c.args.arrival.now c.args.now came → Exchanges (bare_open o) l came c.args.net.now (Some Up) m.graph c.receive.new.graph s e) c.self.view_is
             (subst (λ (y : Open). (l : Live) → IsBareOf c.self.inside.graph y l → IsInput y l c.args.rec c.args.arrival.now c.args.now came → Exchanges y l came c.args.net.now (Some Up) c.self.inside.graph c.receive.new.graph s e) same
             (λ l i u. c.in_ok-ended.ensures l came i u)))) l (bare_is i) fit;
-        heard = s.answer;
+        heard = brings s.answer s.blocks;
         heard_is = λ l fit. heard_input (bare_open o) l c.args.rec c.args.arrival.now c.args.now came s fit;
-        settles = subst (λ h. EndIsSettled e at.before o at.behind c.args.net.now (Some c.args.rec) c.args.awaited h s c.settle.new.self.list c.settle.new.net c.in_ok-found.found c.args.log.now c.settle.new.log) (c.answer-heard.ensures ∙ ap (λ (z : Spelling). z.answer) c.deref.ensures) (c.in_ok-found.ensures.settles o there);
+        settles = c.in_ok-found.ensures.settles o there;
         noded = subst (λ (h : Objects Obj). AreNoded rank_of_obj h) (sym c.settle.ensures.graph) c.has_nodes.ensures;
       },
 )

@@ -15,7 +15,7 @@ overflow_cast-piece c =
     let h = c.args.self.now in
     let is = sym c.next_part.ensures.value ∙ ap (λ o. option_map part_text o) c.in-Some.is in
     let got = sym c.piece.ensures ∙ ap (λ o. option_map piece_text o) c.in-Some-piece.is in
-    let small = part_small c.args.images.now.images h h.part (part_text c.in-Some.part) c.requires.short c.requires.table is in
+    let small = part_small c.args.images.now.images h h.part (part_text c.in-Some.part) c.requires.booted c.requires.short c.requires.table is in
     let at = piece_at_place (part_text c.in-Some.part).bytes h.piece (piece_text c.in-Some-piece.piece) small got in
     rw at.offset (omega (arith, at.fits))
 
@@ -24,7 +24,7 @@ put-requires c =
     let h = c.args.self.now in
     let is = sym c.next_part.ensures.value ∙ ap (λ o. option_map part_text o) c.in-Some.is in
     let got = sym c.piece.ensures ∙ ap (λ o. option_map piece_text o) c.in-Some-piece.is in
-    let small = part_small c.args.images.now.images h h.part (part_text c.in-Some.part) c.requires.short c.requires.table is in
+    let small = part_small c.args.images.now.images h h.part (part_text c.in-Some.part) c.requires.booted c.requires.short c.requires.table is in
     (piece_at_place (part_text c.in-Some.part).bytes h.piece (piece_text c.in-Some-piece.piece) small got).short
 
 pub overflow_add-last : goal.overflow_add-last
@@ -32,7 +32,7 @@ overflow_add-last c =
     let h = c.args.self.now in
     let is = sym c.next_part.ensures.value ∙ ap (λ o. option_map part_text o) c.in-Some.is in
     let got = sym c.piece.ensures ∙ ap (λ o. option_map piece_text o) c.in-Some-piece.is in
-    let small = part_small c.args.images.now.images h h.part (part_text c.in-Some.part) c.requires.short c.requires.table is in
+    let small = part_small c.args.images.now.images h h.part (part_text c.in-Some.part) c.requires.booted c.requires.short c.requires.table is in
     let at = piece_at_place (part_text c.in-Some.part).bytes h.piece (piece_text c.in-Some-piece.piece) small got in
     omega (arith, at.fits)
 
@@ -41,7 +41,7 @@ go_on-requires-clause-piece c =
     let h = c.args.self.now in
     let is = sym c.next_part.ensures.value ∙ ap (λ o. option_map part_text o) c.in-Some.is in
     let got = sym c.piece.ensures ∙ ap (λ o. option_map piece_text o) c.in-Some-piece.is in
-    let small = part_small c.args.images.now.images h h.part (part_text c.in-Some.part) c.requires.short c.requires.table is in
+    let small = part_small c.args.images.now.images h h.part (part_text c.in-Some.part) c.requires.booted c.requires.short c.requires.table is in
     let at = piece_at_place (part_text c.in-Some.part).bytes h.piece (piece_text c.in-Some-piece.piece) small got in
     omega (arith, at.fits)
 
