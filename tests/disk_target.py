@@ -17,6 +17,10 @@ CHANNEL = "7"
 PROGRAMS = ("tgtd", "tgtadm")
 MOST_SECONDS, SECONDS_BETWEEN = 20.0, 0.1
 BLOCKS = 2_048
+# each block is its own number over and over, but for the first, which says whose it is
+IMAGE = b"the first block of a disk, which a target of the tests serves".ljust(512, b".") + b"".join(
+    number.to_bytes(4, "big") * 128 for number in range(1, BLOCKS)
+)
 
 
 @dataclass(frozen=True)
@@ -27,6 +31,8 @@ class Secrets:
     secret: str = ""
     own_user: str = ""
     own_secret: str = ""
+    # after so many seconds of silence it asks whether the client lives; 0 is never, or late
+    pings: int = 0
 
 
 def admin(line: str) -> subprocess.CompletedProcess[str]:
@@ -47,6 +53,8 @@ def configure(disk: Path, secrets: Secrets) -> None:
         if user:
             lines.append(f"--op new --mode account --user {user} --password {secret}")
             lines.append(f"--op bind --mode account --tid 1 --user {user}{way}")
+    if secrets.pings:
+        lines += [f"--op update --mode target --tid 1 --name nop_{name} --value {secrets.pings}" for name in ("interval", "count")]
     for line in lines:
         done = admin(line)
         assert done.returncode == 0, f"tgtadm {line}: {done.stderr}"
@@ -56,7 +64,7 @@ def configure(disk: Path, secrets: Secrets) -> None:
 def disk_target(joined: Network, folder: Path, secrets: Secrets = Secrets()) -> Iterator[None]:
     """Serves a disk of 2,048 blocks while it is entered."""
     disk = folder / "disk"
-    disk.write_bytes(bytes(512 * BLOCKS))
+    disk.write_bytes(IMAGE)
     words = ["tgtd", "-f", "-C", CHANNEL, "--iscsi", f"portal={SERVER_ADDRESS}:{PORT}"]
     with open(folder / "tgtd.log", "wb") as log:
         process = subprocess.Popen(joined.in_server(*words), stdout=log, stderr=log)

@@ -10,12 +10,15 @@ import random
 from shared.causes import OK
 from shared.records import Record, Result
 from tests import made
+from tests.boot_table import BootClient, BootTarget
 from tests.drive_life_rows import drive, run_of
 from tests.drive_model import DISK, OTHER, UUID_NAME, DriveRun, Hooked
 from tests.drive_name_rows import sets
-from tests.drive_pdus import NO_TAG, word
+from tests.drive_pdus import BUSY, CHECK_CONDITION, GOOD, NO_TAG, word
 from tests.drive_records import uri
+from tests.drive_rows import NO_DRIVE
 from tests.drive_session import Names, sent
+from tests.drive_state_rows import described
 from tests.drive_target import Target, Wrong
 from tests.script_rows import Row
 from tests.web_records import ACK, FIN, PSH, RST, SYN, Segment
@@ -93,7 +96,7 @@ class ChanceRun:
         self.chance = chance
         self.names = chance_names(chance)
         lines = [sets(SETTINGS[name], value) for name, value in self.names.items()]
-        self.run: DriveRun = run_of(*lines, drive(200) + b" ;", b"sanhook " + uri(DISK) + b" ;", SLEEP)
+        self.run: DriveRun = run_of(*lines, drive(200) + b" ;", b"sanhook " + uri(DISK) + b" ;", *self.boot(), SLEEP)
         for line, words in enumerate(lines, 2):
             self.run.ran(words, line=line)
         self.line = len(lines) + 2
@@ -101,6 +104,10 @@ class ChanceRun:
         self.waits: Hooked | None = None
         self.ends_at: int | None = None
         self.is_done = False
+
+    def boot(self) -> tuple[bytes, ...]:
+        """The line between the hookings and the sleep."""
+        return ()
 
     def row(self) -> Row:
         self.hook(drive(200), OTHER)
@@ -153,14 +160,101 @@ class ChanceRun:
                 self.hook(b"sanhook " + uri(DISK), DISK)
                 return
             self.waits = None
-            self.begins(SLEEP)
-            self.ends_at = self.run.now + 1_000 * SLEEP_SECONDS
+            self.has_hooked()
         elif self.ends_at is not None and self.run.now >= self.ends_at:
             self.run.put(Result(OK))
             self.is_done = True
             self.run.left()
 
 
+    def has_hooked(self) -> None:
+        """Both commands have ended."""
+        self.sleeps()
+
+    def sleeps(self) -> None:
+        self.begins(SLEEP)
+        self.ends_at = self.run.now + 1_000 * SLEEP_SECONDS
+
+
+class ChanceBoot(ChanceRun):
+    """The same, and between the hookings and the sleep one of the disks is booted, by its number or by its URI."""
+
+    # the drive of the number 200 is the first open, that of 128 the second or what is hooked in its place
+    words = b""
+    boots: Hooked | None = None
+    is_read = False
+
+    def boot(self) -> tuple[bytes, ...]:
+        options = self.chance.choice((b"", b"--keep ", b"--no-describe "))
+        self.words = (b"sanboot " + options + self.chance.choice((b"", b"--drive 200", uri(DISK)))).strip()
+        return (self.words + b" ;",)
+
+    def target(self, name: bytes) -> Target:
+        made_so, chance = super().target(name), self.chance
+        made_so.cuts = chance.choice(((), (), (0,), (100, 101), (511,)))
+        made_so.reads_with = chance.choice((*[GOOD] * 6, CHECK_CONDITION, BUSY))
+        made_so.is_apart = chance.random() < 0.3
+        return made_so
+
+    def has_hooked(self) -> None:
+        living = self.run.living
+        if uri(DISK) not in self.words:
+            self.boots = living.get(0 if b"200" in self.words else 1)
+            self.begins(self.words)
+            if self.boots is None:
+                self.run.put(Result(NO_DRIVE))
+                self.sleeps()
+            else:
+                self.reads()
+            return
+        self.begins(self.words)
+        if 1 in living:
+            self.run.let_go(living[1])
+        names = Names(**{"initiator": UUID_NAME, "target": DISK, **self.names})
+        self.boots = self.run.asks_target(self.target(DISK), names)
+        self.talkers[self.boots.number] = Talker(self.chance, self.boots)
+
+    def reads(self) -> None:
+        assert self.boots is not None
+        self.is_read = True
+        self.run.reads(self.boots)
+
+    def goes_on(self) -> None:
+        if self.boots is None:
+            super().goes_on()
+            return
+        session, over = self.boots.talk.session, self.boots.talk.over
+        if session.read is not None:
+            self.is_done = True
+            self.run.hands_off(session.read, *self.table())
+        elif over is not None:
+            self.run.put(Result(over))
+            self.boots = None
+            self.sleeps()
+        elif session.blocks is not None and not self.is_read:
+            self.reads()
+
+    def table(self) -> list[Record]:
+        """Of the drives that live those that are described, by rising number; the last hooked one is that of 128."""
+        living = list(self.run.living.values())
+        is_hidden = b"--no-describe" in self.words and self.boots and self.boots.number == 2
+        high = [one for one in living if one.number == 0]
+        low = [one for one in living if one.number > 0 and not (is_hidden and one is self.boots)]
+        drives = [one.talk.session for one in (*low, *high)]
+        if not drives:
+            return []
+        client = BootClient(drives[0].names.initiator, made.CLIENT.mac, made.CLIENT.ip)
+        return [described(*(self.of_table(one.names, one.chap) for one in drives), client=client)]
+
+    def of_table(self, names: Names, chap: int) -> BootTarget:
+        texts = {"user": names.user, "secret": names.secret} if chap else {}
+        return BootTarget(made.SERVER.ip, names.target, chap=chap, **texts)
+
+
 def random_row(chance: random.Random) -> Row:
     """A run, up to its end or to the input's."""
     return ChanceRun(chance).row()
+
+
+def random_boot(chance: random.Random) -> Row:
+    return ChanceBoot(chance).row()

@@ -10,9 +10,9 @@ from dataclasses import dataclass, field, replace
 from ipaddress import IPv4Address
 
 from shared.causes import OK, Cause, Code
-from shared.kinds import Status, Way
+from shared.kinds import PartKind, Status, Way
 from shared.random_words import words_of
-from shared.records import Done, Off, Received, Record, Result, Tick
+from shared.records import Done, Off, Part, Received, Record, Result, Tick
 from shared.wire import Station, arp_reply
 from tests import made
 from tests.drive_pdus import HEAD, Pdu, length_at
@@ -41,6 +41,11 @@ class DriveTalk(Talk):
     # the beginning of a PDU that isn't whole
     part: bytes = b""
     time: int = 0
+
+    def reads(self, now: int) -> list[Record]:
+        """The user asks for the first block."""
+        self.time = now
+        return self.wire.reads(*self._says(self.session.reads(0, 1)))
 
     def _delivers(self, rec: int, piece: bytes) -> list[list[Record]]:
         """In one entry the iSCSI takes PDU after PDU, until all is taken or it has ended."""
@@ -219,6 +224,13 @@ class DriveRun(Run):
         self.logs_in(hooked).serves(hooked).put(Result(OK))
         return hooked
 
+    def hooks_within(self, words: bytes, target: Target) -> Hooked:
+        """The same in a script within another, on its first line."""
+        self.begins(words, depth=2)
+        hooked = self.asks_target(target)
+        self.logs_in(hooked).serves(hooked).put(Result(OK))
+        return hooked
+
     def fails_by(self, words: bytes, target: Target, names: Names | None = None, line: int = 2) -> Cause:
         """`sanhook` fails by what the target says; the cause."""
         self.begins(words, line)
@@ -228,6 +240,23 @@ class DriveRun(Run):
             self.serves(hooked)
         self.put(Result(hooked.talk.over))
         return hooked.talk.over
+
+    # boots
+
+    def reads(self, hooked: Hooked) -> DriveRun:
+        """A drive's first block is asked for."""
+        return self.put(*hooked.talk.reads(self.now))
+
+    def asks_and_reads(self, target: Target, names: Names | None = None, port: int = 3_260) -> Hooked:
+        """The open of `sanboot` of a URI begins, up to the answer to its read, which the target is still to give."""
+        hooked = self.asks_target(target, names, port=port)
+        self.logs_in(hooked).serves(hooked).reads(hooked)
+        return hooked
+
+    def hands_off(self, block: bytes, *parts: Record) -> Row:
+        """`sanboot` is Ok: the block is handed off, and these parts after it."""
+        self.put(Result(OK)).shuts().put(Part(PartKind.SECTOR, 0, 0, block), *parts)
+        return self.put(Done(Status.HANDED_OFF)).row()
 
     # its address
 

@@ -47,6 +47,11 @@ class Drive(Connection):
         iscsi = self.trio.http
         return [entered(iscsi, ABOVE, Way.DOWN), *self.sends(*put), left(iscsi, ABOVE)]
 
+    def reads(self, *put: Record) -> list[Record]:
+        """The user asks the disk for blocks, and that for them."""
+        disk = self.trio.fetch
+        return [entered(disk, ABOVE, Way.DOWN), *self.asks(*put), left(disk, ABOVE)]
+
     # what goes up
 
     def rises(self, *within: Record) -> list[Record]:

@@ -16,7 +16,7 @@ from tests.web_records import ACK, FIN, RST, Segment
 
 HOOK = b"sanhook " + uri(DISK)
 USAGE, BAD_URI, NO_SCHEME = Cause(Code.USAGE), Cause(Code.BAD_URI), Cause(Code.NO_SCHEME)
-UNKNOWN, NO_DRIVE = Cause(Code.UNKNOWN), Cause(Code.NO_DRIVE)
+NO_DRIVE = Cause(Code.NO_DRIVE)
 # the answer that RFC 1321 has for `abc`: the identifier 97, the secret `b`, the challenge `c`
 MD5_OF_ABC = b"CHAP_R=0x900150983cd24fb0d6963f7d28e17f72"
 ONE_WAY = {"user": b"u", "secret": b"b"}

@@ -72,13 +72,17 @@ class Session:
     command: int = 1
     tag: int = 2
     checks: int = 0
+    # the bytes that the command at work asks for, and those that came for it
+    wanted: int = 0
     got: bytes = b""
     chap: int = 0
     blocks: int | None = None
+    # what was read last
+    read: bytes | None = None
 
     @property
     def is_open(self) -> bool:
-        return self.stage in ("ready", "size", "idle")
+        return self.stage in ("ready", "size", "idle", "block")
 
     def first(self) -> bytes:
         names = self.names
@@ -165,9 +169,15 @@ class Session:
 
     # the commands
 
+    def reads(self, place: int, count: int) -> bytes:
+        """Blocks are asked for, where no command is at work."""
+        assert self.stage == "idle"
+        self.stage, self.read = "block", None
+        return self._asks(0xC1, BLOCK * count, b"\x28\0" + word(place) + b"\0" + count.to_bytes(2, "big") + b"\0")
+
     def _asks(self, flags: int, length: int, block: bytes) -> bytes:
         """A SCSI command."""
-        self.got = b""
+        self.wanted, self.got = length, b""
         numbers = (word(self.tag), word(length), word(self.command), word(self.answer))
         self.tag, self.command = self.tag + 1, self.command + 1
         return Pdu(head(COMMAND, flags, self.names.lun, *numbers, block)).spelled()
@@ -181,7 +191,7 @@ class Session:
         has_status = pdu.opcode == RESPONSE or pdu.flags & STATUS != 0
         if pdu.opcode == DATA_IN:
             place = int.from_bytes(pdu.head[40:44], "big")
-            if place != len(self.got) or len(self.got) + len(pdu.data) > (8 if self.stage == "size" else 0):
+            if place != len(self.got) or len(self.got) + len(pdu.data) > self.wanted:
                 return broken
             self.got += pdu.data
         elif pdu.head[2]:
@@ -208,8 +218,13 @@ class Session:
         if self.stage == "ready":
             self.stage = "size"
             return Said(self._asks(0xC1, 8, b"\x25"))
+        if len(self.got) != self.wanted:
+            return None
+        if self.stage == "block":
+            self.stage, self.read = "idle", self.got
+            return Said()
         last, length = int.from_bytes(self.got[:4], "big"), int.from_bytes(self.got[4:], "big")
-        if len(self.got) != 8 or length != BLOCK or last == 0xFFFF_FFFF:
+        if length != BLOCK or last == 0xFFFF_FFFF:
             return None
         self.stage, self.blocks = "idle", last + 1
         return Said()

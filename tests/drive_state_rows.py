@@ -15,7 +15,7 @@ from tests.boot_table import BootClient, BootTarget, boot_table
 from tests.drive_life_rows import NO_ROUTE, SLEEP, TAG, drive, run_of, two
 from tests.drive_model import DISK, OTHER, UUID_NAME, DriveRun, Hooked
 from tests.drive_records import uri
-from tests.drive_rows import ANSWERS, BAD_URI, BOTH_WAYS, HOOK, NO_SCHEME, UNKNOWN, USAGE
+from tests.drive_rows import ANSWERS, BAD_URI, BOTH_WAYS, HOOK, NO_DRIVE, NO_SCHEME, USAGE
 from tests.drive_session import Names
 from tests.drive_target import Target
 from tests.graph_records import Waiter
@@ -31,11 +31,11 @@ NAMED = b"sanhook iscsi:a.b::::" + DISK
 NAME_SERVER = {"dns": made.SERVER.ip}
 
 
-def looks_up(run: DriveRun, line: int = 2, old: Hooked | None = None) -> LookUp:
-    """`sanhook` of a server that is known by its name: an old drive is closed, the disk waits, and its name server is asked."""
+def looks_up(run: DriveRun, line: int = 2, old: Hooked | None = None, words: bytes = NAMED) -> LookUp:
+    """A hooking of a server that is known by its name: an old drive is closed, the disk waits, and its name server is asked."""
     waiter = Waiter(run.objects + 1, ObjectKind.DISK)
     look_up = LookUp(run.opens, waiter.object + 1)
-    run.begins(NAMED, line)
+    run.begins(words, line)
     if old:
         run.let_go(old)
     run.put(*graph_records.one_made(*waiter))
@@ -241,7 +241,7 @@ def words() -> dict[str, Row]:
         (b"sanhook iscsi:10.0.0.1:::1-2-3-4-5:x", BAD_URI), (b"sanhook iscsi:10.0.0.1:::1-:x", BAD_URI),
         (b"sanhook iscsi:10.0.0.1:::g:x", BAD_URI), (b"sanhook iscsi:10.0.0.1", BAD_URI),
         (b"sanhook iscsi:::::x", BAD_URI), (b"sanhook iscsi:10.0.0.1::::" + b"x" * 224, BAD_URI),
-        (b"sanboot --drive 200", UNKNOWN),
+        (b"sanboot --drive 200", NO_DRIVE),
     )  # fmt: skip
     run = run_of(*(line + b" ;" for line, _ in lines))
     for number, (line, cause) in enumerate(lines, 2):

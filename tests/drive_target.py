@@ -3,15 +3,20 @@
 from __future__ import annotations
 
 from dataclasses import dataclass, field
-from hashlib import md5
+from hashlib import md5, sha256
 
 from tests.drive_pdus import (
     BLOCK, CHECK_CONDITION, COMMAND, DATA_IN, FINAL, GOOD, LOGIN_REQUEST, LOGIN_RESPONSE, NO_TAG, PING_IN, PING_OUT,
     RESPONSE, STATUS, Pdu, cut, head, texts, value_of, word,
 )  # fmt: skip
 
-TEST_UNIT_READY, READ_CAPACITY = 0x00, 0x25
+TEST_UNIT_READY, READ_CAPACITY, READ = 0x00, 0x25, 0x28
 FAILED_LOGIN = (2, 1)
+
+
+def block_of(name: bytes, lun: bytes, place: int) -> bytes:
+    """A block of a unit, which no other block of any unit is."""
+    return sha256(name + b"\0" + lun + word(place)).digest() * (BLOCK // 32)
 
 
 class Wrong(AssertionError):
@@ -38,6 +43,10 @@ class Target:
     refuses: tuple[int, int] | None = None
     # its own answer to a challenge is another
     is_wrong: bool = False
+    # where a read's bytes are cut into several Data-Ins, its status, and whether that comes in a message of its own
+    cuts: tuple[int, ...] = ()
+    reads_with: int = GOOD
+    is_apart: bool = False
     number: int = 0x1000
     left: bytes = b""
     received: list[Pdu] = field(default_factory=list)
@@ -121,7 +130,33 @@ class Target:
                 return self.answers(pdu.tag, CHECK_CONDITION if self.checks >= 0 else GOOD)
             case code if code == READ_CAPACITY:
                 return self.gives(pdu.tag, word((self.blocks - 1) & 0xFFFF_FFFF) + word(self.block))
+            case code if code == READ:
+                return self._reads(pdu)
         raise Wrong(f"command {pdu.head[32]:#x}")
+
+    def _reads(self, pdu: Pdu) -> bytes:
+        """The blocks that are asked for, in as many Data-Ins as there are cuts."""
+        place, count = int.from_bytes(pdu.head[34:38], "big"), int.from_bytes(pdu.head[39:41], "big")
+        spelled = bytes([READ, 0]) + word(place) + bytes([0]) + count.to_bytes(2, "big") + bytes(7)
+        is_asked = pdu.flags == 0xC1 and pdu.head[20:24] == word(BLOCK * count)
+        if not is_asked or pdu.head[32:48] != spelled or place + count > self.blocks:
+            raise Wrong(f"the read {pdu.head.hex()}")
+        data = b"".join(block_of(self.name, self.lun, at) for at in range(place, place + count))
+        ends = (*self.cuts, len(data))
+        last = len(ends) - 1
+        said = b""
+        for number, (begin, end) in enumerate(zip((0, *ends), ends)):
+            is_decided = number == last and not self.is_apart
+            said += self.piece(pdu.tag, data[begin:end], begin, number, self.reads_with if is_decided else None)
+        return said + (self.answers(pdu.tag, self.reads_with) if self.is_apart else b"")
+
+    def piece(self, tag: bytes, data: bytes, place: int, number: int = 0, status: int | None = GOOD) -> bytes:
+        """A Data-In with bytes from a place on, with a status or none."""
+        ends = FINAL | STATUS if status is not None else 0
+        counted = bytes(4) if status is None else self._counted()
+        numbers = (tag, NO_TAG, counted, word(self.expected), word(self.expected + 8), word(number), word(place))
+        whole = head(DATA_IN, ends, self.lun, *numbers)
+        return Pdu(whole[:3] + bytes([status or 0]) + whole[4:], data).spelled()
 
     def answers(self, tag: bytes, status: int) -> bytes:
         """A SCSI Response."""

@@ -164,6 +164,8 @@ class Order:
         drive = next((one for one in self.drives.values() if isinstance(record, Graph) and record.object in one.objects()), None)
         if drive is None:
             return False
+        if self._reads(drive):
+            return True
         if not self._is_close():
             if self._call(drive):
                 del self.drives[drive.number]
@@ -176,6 +178,15 @@ class Order:
             self._expect(*graph_records.freed(drive), Ended(drive.number, cause))
         del self.drives[drive.number]
         self.is_dropped = True
+        return True
+
+    def _reads(self, cast: Cast) -> bool:
+        """The user asks a drive for blocks, which may send that, or leave it for later; whether it does."""
+        if not is_drive(cast) or self._next() != graph_records.entered(list(cast.objects())[0], ABOVE, Way.DOWN):
+            return False
+        self._expect(*(graph_records.entered(number, ABOVE, Way.DOWN) for number in cast.objects()))
+        self._sends()
+        self._expect(*(graph_records.left(number, ABOVE) for number in reversed(cast.objects())))
         return True
 
     def _sends(self) -> None:
@@ -296,7 +307,7 @@ class Order:
                 assert isinstance(cast, Trio)
                 self.drives[cast.number] = cast
                 return False
-            if self._of_drive():
+            if self._of_drive() or self._reads(cast):
                 continue
             if self._is_close():
                 cause = self._next().cause

@@ -9,16 +9,17 @@ from pathlib import Path
 from typing import Iterator
 
 from shared.namespaces import PREFIX, SERVER_ADDRESS, Network
-from tests.disk_target import BLOCKS, MOST_SECONDS, NAME, PORT, SECONDS_BETWEEN, UNIT, Secrets
+from tests.disk_target import IMAGE, MOST_SECONDS, NAME, PORT, SECONDS_BETWEEN, UNIT, Secrets
 
 PROGRAMS = ("istgt", "ss")
+USUAL_PINGS = 20
 CONFIGURATION = """\
 [Global]
   NodeBase "{base}"
   PidFile {folder}/istgt.pid
   AuthFile {folder}/auth.conf
   LogFacility "local7"
-  NopInInterval 20
+  NopInInterval {pings}
   DiscoveryAuthMethod Auto
   MaxSessions 16
   MaxConnections 4
@@ -67,14 +68,15 @@ def authorised(secrets: Secrets) -> str:
 @contextmanager
 def istgt_target(joined: Network, folder: Path, secrets: Secrets = Secrets()) -> Iterator[None]:
     """Serves a disk of 2,048 blocks while it is entered."""
-    for disk in ("disk", "other"):
-        (folder / disk).write_bytes(bytes(512 * BLOCKS))
+    (folder / "disk").write_bytes(IMAGE)
+    (folder / "other").write_bytes(bytes(len(IMAGE)))
     (folder / "auth.conf").write_text(authorised(secrets))
     (folder / "auth.conf").chmod(0o600)
     base, name = NAME.split(":")
     method = ("CHAP Mutual" if secrets.own_user else "CHAP") if secrets.user else "None"
     text = CONFIGURATION.format(
-        base=base, folder=folder, address=SERVER_ADDRESS, port=PORT, prefix=PREFIX, name=name, method=method, unit=UNIT
+        base=base, folder=folder, address=SERVER_ADDRESS, port=PORT, prefix=PREFIX, name=name, method=method, unit=UNIT,
+        pings=secrets.pings or USUAL_PINGS,
     )
     (folder / "istgt.conf").write_text(text)
     with open(folder / "istgt.log", "wb") as log:

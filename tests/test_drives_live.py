@@ -21,13 +21,14 @@ from shared.program import program
 from shared.recordings import output_of
 from shared.records import Ended, Open, Part, Record, Result
 from shared.servers import Leases, Names, Service, dnsmasq
-from shared.web_server import PYTHON, web_server
+from shared.web_server import PYTHON, usual, web_server
 from tests import TOP, istgt_target
 from tests.disk_target import NAME, PROGRAMS, UNIT, Secrets, disk_target
 from tests.ibft_reader import Table
 from tests.nested_rows import ELF
 
-MOST_SECONDS = 120
+# of a run, and of one that fetches files of many bytes
+MOST_SECONDS, MOST_WITH_FILES = 120, 600
 WHY_NOT_BUILT = None if is_built() else "the program isn't built"
 WHY = missing(*PROGRAMS) or WHY_NOT_BUILT
 WHY_NO_ISTGT = missing(*istgt_target.PROGRAMS) or WHY_NOT_BUILT
@@ -49,28 +50,39 @@ class OverWire(unittest.TestCase):
 
     target: Serves = staticmethod(disk_target)
 
-    def run_of(self, secrets: Secrets, *lines: str, leases: tuple[Service, ...] = ()) -> list[Record]:
-        """The output of a script over the wire to a target, with a fixed address or a lease; the run replays."""
+    # the recordings of the last run
+    inputs: bytes
+    outputs: bytes
+
+    def run_of(
+        self, secrets: Secrets, *lines: str, leases: tuple[Service, ...] = (), files: dict[str, bytes] = {}
+    ) -> list[Record]:
+        """The output of a script over the wire to a target, with a fixed address or a lease; the run replays.
+
+        Without lines the script is the built-in one. The files are served by HTTP, beside a kernel.
+        """
         with tempfile.TemporaryDirectory(prefix="netboot-") as spare, ExitStack() as stack:
             folder = Path(spare)
             joined = stack.enter_context(network())
             stack.enter_context(self.target(joined, folder, secrets))
-            (folder / "kernel").write_bytes(ELF)
-            stack.enter_context(web_server(joined, folder, PYTHON))
+            for name, content in {"kernel": ELF, **files}.items():
+                (folder / name).write_bytes(content)
+            folder.chmod(0o755)
+            stack.enter_context(web_server(joined, folder, usual() if files else PYTHON))
             if leases:
                 stack.enter_context(dnsmasq(joined, *leases))
-            (folder / "boot.ipxe").write_text("\n".join(("#!ipxe", *lines, "")))
+            (folder / "boot.ipxe").write_text("\n".join(("#!ipxe", *lines, "")) if lines else "")
             words = [
                 sys.executable, str(TOP / "tools" / "bridge.py"), str(folder / "boot.ipxe"), "--run", "--quiet",
                 "--device", joined.client_device, *(["--mac", MAC] if leases else ["--ip", f"{CLIENT_ADDRESS}/{PREFIX}"]),
                 "--record", str(folder / "in.rec"), "--output", str(folder / "out.rec"),
             ]  # fmt: skip
-            done = subprocess.run(
-                joined.in_client(*words), capture_output=True, text=True, timeout=MOST_SECONDS, check=False
-            )
+            most = MOST_WITH_FILES if files else MOST_SECONDS
+            done = subprocess.run(joined.in_client(*words), capture_output=True, text=True, timeout=most, check=False)
             again = folder / "again.rec"
-            subprocess.run([program(), "replay", folder / "in.rec", again], check=False, timeout=MOST_SECONDS)
-            self.assertEqual(again.read_bytes(), (folder / "out.rec").read_bytes(), done.stderr)
+            subprocess.run([program(), "replay", folder / "in.rec", again], check=False, timeout=most)
+            self.inputs, self.outputs = (folder / "in.rec").read_bytes(), (folder / "out.rec").read_bytes()
+            self.assertEqual(again.read_bytes(), self.outputs, done.stderr)
             return list(output_of(folder / "out.rec"))
 
     def results(self, outputs: list[Record]) -> list[Cause]:

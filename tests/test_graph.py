@@ -184,6 +184,8 @@ DRIVE_LOST = (
     "entered 2.0 close, closed 2.1 lost_drive, closed 3.0 lost_drive, entered 3.0 close, closed 3.1 lost_drive, left 3.0, "
     "unplugged 2.1 3.0, left 2.0, unplugged 1.1 2.0, left 1.1, left 2.1, left 3.1"
 )
+DRIVE_READ = "entered 1.0 down, entered 2.0 down, entered 3.0 down, left 3.0, left 2.0, left 1.0"
+DRIVE_READ_AND_LOST = DRIVE_LOST.replace("entered 2.1 up, ", "entered 2.1 up, entered 1.1 up, left 1.1, left 2.1, entered 2.1 up, ", 1)
 DRIVE_HOOKED = [DRIVE_MADE, DRIVE_ASKED, DRIVE_LOGS_IN, DRIVE_COMMANDS, DRIVE_COMMANDS, DRIVE_SIZED]
 EVENTS_OF_DRIVES: dict[str, list[str]] = {
     "plain": [*DRIVE_HOOKED, DRIVE_CLOSED, DRIVE_SHUT, DRIVE_FREED],
@@ -191,6 +193,10 @@ EVENTS_OF_DRIVES: dict[str, list[str]] = {
     "ends_asleep_by_fin": [*DRIVE_HOOKED, DRIVE_LOST, DRIVE_FREED],
     "pinged": [*DRIVE_HOOKED, DRIVE_COMMANDS.replace("left 1.1, left 2.1", "left 1.1, entered 1.1 up, left 1.1, left 2.1"),
                "entered 3.1 up, left 3.1", DRIVE_COMMANDS, "entered 3.4 time, left 3.4", DRIVE_CLOSED, DRIVE_SHUT, DRIVE_FREED],
+    # the first block's answer goes up as that of the size does
+    "boot_plain": [*DRIVE_HOOKED, DRIVE_READ, DRIVE_SIZED, DRIVE_CLOSED, DRIVE_SHUT, DRIVE_FREED],
+    "booted_plain": [*DRIVE_HOOKED, DRIVE_READ, DRIVE_SIZED, DRIVE_CLOSED, DRIVE_SHUT, DRIVE_FREED],
+    "boot_closed_with_its_block": [*DRIVE_HOOKED, DRIVE_READ, DRIVE_READ_AND_LOST, DRIVE_FREED],
 }  # fmt: skip
 
 
@@ -346,7 +352,8 @@ class Refusals(unittest.TestCase):
     SHORT = {
         **{name: test_replay.ROWS[name].outputs
            for name in ("a_boot", "two_files", "no_route", "power_off", "a_foreign_port", "refused_later")},
-        **{name: test_drives.ROWS[name].outputs for name in ("plain", "refused", "ends_asleep_by_fin", "pinged", "anew")},
+        **{name: test_drives.ROWS[name].outputs
+           for name in ("plain", "refused", "ends_asleep_by_fin", "pinged", "anew", "boot_plain", "boot_closed_with_its_block")},
         **{case: row_of(case).outputs
            for case in (*EVENTS_OF_ONE, *EVENTS_OF_NAMES, "lease_a_boot", "lease_power_off_in_the_transfer")},
     }  # fmt: skip

@@ -13,7 +13,7 @@ from pathlib import Path
 from handoff import handoff
 from shared.kinds import PartKind, Status
 from shared.records import Done, Part, Record, Step
-from tests import TOP
+from tests import TOP, drive_boot_rows
 from tests.case import TOOLS, Case
 
 TOOLS["tools/handoff.py"] = handoff
@@ -87,6 +87,23 @@ class HandOff(Case):
         self.put("boot.out", handed_off(LINUX))
         self.put("file", b"")
         self.fails("tools/handoff.py boot.out --to file", "not an empty folder")
+
+    def test_a_disk(self) -> None:
+        """Its first sector and the boot table become files, byte for byte, and nothing is started."""
+        row = drive_boot_rows.ROWS["boot_plain"]
+        self.put("boot.out", row.outputs)
+        sector, table = (one.piece for one in row.outputs if isinstance(one, Part))
+        for words, status in (("", 0), (" --run", 1)):
+            folder = f"parts{status}"
+            done = self.call(f"tools/handoff.py boot.out --to {folder}{words}")
+            self.assertEqual(done.status, status)
+            self.assertIn("a disk was handed off", done.said)
+            self.assertIn(f"{folder}/sector: 512 bytes, sha256 ", done.printed)
+            self.assertEqual((self.get(f"{folder}/sector"), self.get(f"{folder}/table")), (sector, table))
+        self.put("alone.out", drive_boot_rows.ROWS["boot_not_described"].outputs)
+        self.works("tools/show.py alone.out --parts alone")
+        self.assertEqual([path.name for path in (self.folder / "alone").iterdir()], ["sector"])
+        self.assertEqual(self.get("alone/sector"), sector)
 
     def test_a_kernel_that_is_none(self) -> None:
         self.put("boot.out", handed_off(b"\x7fELF and more"))

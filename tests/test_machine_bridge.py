@@ -76,6 +76,7 @@ PARTS = [
     Part(PartKind.INITRD_NAME, 1, 0, b"two"),
     Part(PartKind.INITRD, 1, 0, b"second"),
 ]
+SECTOR, TABLE = Part(PartKind.SECTOR, 0, 0, bytes(range(256)) * 2), Part(PartKind.TABLE, 0, 0, b"iBFT")
 HANDED_OFF = Done(Status.HANDED_OFF)
 BEGUN = [Step(1), Text(b"\x1b]0;title\x07hello\n"), Command(1, 2, 0, True, (b"echo", EVIL))]
 
@@ -118,6 +119,14 @@ FALSE: dict[str, tuple[bytes, str]] = {
     "no parts": (spelled(Step(1), HANDED_OFF), "DONE 0 without all parts"),
     "parts for nothing": (spelled(Step(1), *PARTS, Done(Status.ENDED)), "parts without it"),
     "another status": (spelled(Step(1), b"\0\0\0\2\x8d\1"), "a DONE of no status"),
+    "a sector of another length": (spelled(Step(1), Part(PartKind.SECTOR, 0, 0, bytes(511))), "a sector of another length"),
+    "two sectors": (spelled(Step(1), SECTOR, SECTOR), "where it should"),
+    "a sector after a kernel": (spelled(Step(1), *PARTS[:4], SECTOR), "a PART that doesn't follow the one before it"),
+    "a kernel after a sector": (spelled(Step(1), SECTOR, PARTS[0]), "a PART that doesn't follow the one before it"),
+    "a command line after a sector": (spelled(Step(1), SECTOR, PARTS[3]), "a PART that doesn't follow the one before it"),
+    "a table alone": (spelled(Step(1), TABLE, HANDED_OFF), "a PART that doesn't follow the one before it"),
+    "a sector after a table": (spelled(Step(1), SECTOR, TABLE, SECTOR), "a PART that doesn't follow the one before it"),
+    "a sector of another number": (spelled(Step(1), b"\0\0\2\x08\x8c\4\0\1", bytes(516)), "a PART that doesn't follow"),
     "more after the end": (spelled(Step(1), Done(Status.ENDED), Text(b"x")), "a record after DONE"),
 }
 
@@ -188,6 +197,14 @@ class MachineBridge(Spaced):
         self.assertIn(r"\x1b]0;title\x07hello" + "\n", printed)
         self.assertIn(r"echo ../../\x1b[2Jevil\x0a\x9b", printed)
         self.assertIn("0 frames received, 1 sent", printed)
+
+    def test_a_disk(self) -> None:
+        """Its first sector and the boot table become files; so does the sector alone."""
+        for parts, wanted in (([SECTOR, TABLE], {"sector": SECTOR.piece, "table": TABLE.piece}), ([SECTOR], {"sector": SECTOR.piece})):
+            printed, status = self.ends(spelled(*BEGUN, *parts, HANDED_OFF))
+            self.assertEqual(status, 0, printed)
+            self.assertEqual({path.name: path.read_bytes() for path in (self.folder / "parts").iterdir()}, wanted)
+            self.assertIn("the boot succeeded: a disk's first sector is handed off", printed)
 
     def test_what_a_person_sees(self) -> None:
         """The address once, each transfer with its server and file, and each failure with its numbers and its meaning."""

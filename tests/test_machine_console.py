@@ -19,8 +19,9 @@ from shared.kinds import Status
 from shared.records import Advance, Command, Done, Ended, Received, Record, Result, Sent, Step, Text, Try
 from shared.why import reasons
 from shared.wire import tftp_error, tftp_oack
-from tests import TOP, drive_life_rows, drive_rows, drive_state_rows, made, test_why
+from tests import TOP, drive_boot_rows, drive_booted_rows, drive_life_rows, drive_rows, made, test_drives, test_why
 from tests.case import Case
+from tests.script_rows import Row
 from tests.web_fetches import LENGTH, WIRE
 from tests.web_records import ACK, FIN, SYN
 from tests.web_rows import ROWS
@@ -42,7 +43,8 @@ OF_RESPONSES = re.compile(
 LEAST_RESPONSES = 30
 # one of a drive's session
 OF_DRIVES = re.compile(r"  failed: (?:Refused|TimedOut|Broken|NoSecret) \d+ \d+: (.*)")
-LEAST_DRIVES = 25
+LEAST_DRIVES = 60
+DRIVES: dict[str, Row] = test_drives.ROWS
 SPAN = re.compile(r" in [\d.]+ s\b")
 Run = tuple[bytes, bytes]
 
@@ -127,10 +129,11 @@ class Console(Case):
     def test_the_sentences_on_drives(self) -> None:
         """The same on each row of a drive that isn't hooked for what its target did."""
         compared = 0
-        for name, row in {**drive_rows.ROWS, **drive_life_rows.ROWS, **drive_state_rows.ROWS}.items():
+        for name, row in DRIVES.items():
             inputs, outputs = made.spelled(row.inputs), made.spelled(row.outputs)
             shown, wanted = self.shown(inputs, outputs), self.sentence(inputs, outputs)
-            for said in OF_DRIVES.findall(shown):
+            # of a boot that succeeded --why doesn't say what failed before
+            for said in OF_DRIVES.findall(shown) if row.outputs[-1] != Done(Status.HANDED_OFF) else ():
                 compared += 1
                 self.assertTrue(all(part in (wanted or "") for part in parts_of(said, wanted or "")), f"{name}: {said}\n{wanted}")
         self.assertGreaterEqual(compared, LEAST_DRIVES)
@@ -146,6 +149,17 @@ class Console(Case):
         row = drive_life_rows.ROWS["let_go_after_its_target_s_end"]
         shown = self.shown(made.spelled(row.inputs), made.spelled(row.outputs))
         self.assertEqual(shown.count("the session with unit 0 of iqn.2026-11.lan.boot:disk has ended\n"), 1)
+
+    def test_a_drive_that_is_booted(self) -> None:
+        """By its URI, or as one that is hooked, beside another."""
+        for rows, name, booted in (
+            (drive_boot_rows.ROWS, "boot_a_unit", "unit 1-ff02 of iqn.x:t"),
+            (drive_booted_rows.ROWS, "booted_of_two_the_lower", "unit 0 of iqn.2026-11.lan.boot:disk"),
+            (drive_booted_rows.ROWS, "booted_of_two_the_higher", "unit 0 of iqn.2026-11.lan.boot:other"),
+        ):
+            shown = self.shown(made.spelled(rows[name].inputs), made.spelled(rows[name].outputs))
+            lines = [line.rpartition("\r")[2].partition("] ")[2] for line in shown.splitlines()][-2:]
+            self.assertEqual(lines, [f"  {booted} at 10.0.0.1... is booted", "the boot succeeded: a disk's first sector is handed off"])
 
     def test_size(self) -> None:
         for source in (TOP / "tools/machine").glob("*.[ch]"):

@@ -95,7 +95,7 @@ class PassedOver(unittest.TestCase):
 
 class NotBuilt(unittest.TestCase):
     def test_commands_of_ipxe(self) -> None:
-        for name in (b"cpuid", b"prompt", b"sanboot", b"certstat", b"md5sum", b"imgset"):
+        for name in (b"cpuid", b"prompt", b"menu", b"certstat", b"md5sum", b"imgset"):
             said = first_line(failed(ran(name + b" --x", UNKNOWN, 2), end=UNKNOWN))
             self.assertTrue(said.startswith(f"line 2: the command `{name.decode()}` isn't built yet"), said)
 

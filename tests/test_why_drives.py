@@ -11,13 +11,52 @@ from shared.describe import Lines
 from shared.progress import Progress
 from shared.records import Open, Received, Sent
 from shared.why import reasons
-from tests import drive_life_rows, drive_name_rows, drive_rows, drive_state_rows, made
+from tests import made, test_drives
+from tests.drive_life_rows import run_of
+from tests.drive_rows import BAD_URI, USAGE
 from tests.script_rows import Row
 from tests.test_why import why
 
-ROWS: dict[str, Row] = {**drive_rows.ROWS, **drive_life_rows.ROWS, **drive_state_rows.ROWS, **drive_name_rows.ROWS}
+ROWS: dict[str, Row] = test_drives.ROWS
 DISK = "iqn.2026-11.lan.boot:disk"
 FAILURES = 'docs/SAN.md, "What failures mean"'
+FIRST, AT = "The boot succeeded: the first sector of", f"unit 0 of {DISK} at 10.0.0.1"
+WITH = ", with the boot table of its drives"
+READ = f"10.0.0.1 didn't send the first block of unit 0 of {DISK} whole and in order"
+NO_128 = "no drive is hooked by the number 128, or by `san-drive`"
+CLOSED = "the target closed the session, or sent what isn't allowed in it"
+# of `sanboot`
+BOOTS = {
+    "boot_plain": f"{FIRST} drive 128, {AT}{WITH}, in 0.2 s of its time",
+    "boot_a_unit": f"{FIRST} drive 254, unit 1-ff02 of iqn.x:t at 10.0.0.1{WITH}, in 0.2 s of its time",
+    "boot_not_described": f"{FIRST} drive 128, {AT}, in 0.2 s of its time",
+    "boot_by_the_setting_s_number": f"{FIRST} the drive, {AT}{WITH}, in 0.2 s of its time",
+    "built_in_with_a_root_path": f"{FIRST} the drive, {AT}{WITH}, in 0.2 s of its time",
+    "boot_closed_with_its_block": f"{FIRST} drive 128, {AT}, in 0.2 s of its time; the session with {DISK} had ended in step "
+    f"9: {CLOSED}",
+    "boot_no_secret": f"line 2: {DISK} of 10.0.0.1 asks for CHAP, and `username` or `password` isn't set; the script went on, "
+    f"and failed: line 3: {NO_128}. To do: set both before `sanboot` (docs/SAN.md, \"CHAP\")",
+    "boot_closed_with_its_size": f"line 2: 10.0.0.1 closed the connection of the session with {DISK}, after 308 bytes; the "
+    f"script went on, and failed: line 3: {NO_128}. To do: see the target's log ({FAILURES})",
+    "boot_read_a_byte_short": f"line 2: {READ}: Data-In, status 0; the script went on, and failed: line 3: {NO_128}. To do: see "
+    f"the target's log ({FAILURES})",
+    "boot_read_a_reject": f"line 2: 10.0.0.1 sent what isn't allowed in the session with {DISK}: reject; the script went on, and "
+    f"failed: line 3: {NO_128}. To do: see the target's log ({FAILURES})",
+    "boot_off_while_it_reads": "the power was switched off after 0.25 s, while line 2 waited for the first block of unit 0 of "
+    f"{DISK} from 10.0.0.1",
+    "booted_by_its_number": f"{FIRST} drive 128, {AT}{WITH}, in 0.2 s of its time",
+    "booted_none": f"line 2: {NO_128}",
+    "booted_none_beside_another": "line 3: no drive 200 is hooked; the script went on, and ended well",
+    "booted_closed_while_read": f"line 3: 10.0.0.1 closed the connection of the session with {DISK}, after 308 bytes; the script "
+    f"went on, and failed: command 2 of line 3: {NO_128}; the session with {DISK} ended in step 9: {CLOSED}. To do: see the "
+    f"target's log ({FAILURES})",
+    "booted_acknowledged_alone": f"10.0.0.1 stopped answering in the session with {DISK}, unit 0 four times in 60 s. To do: see "
+    "that a target listens there, and that no firewall stops it",
+    "booted_lets_go_by_bad_uri": "line 3: x is no URI of a disk, as `iscsi:SERVER:::LUN:TARGET` is; the script went on, and "
+    f"failed: line 4: {NO_128}. To do: write it so (docs/SAN.md, \"The URI\")",
+    "built_in_with_a_root_path_that_can_t_be_read": f"10.0.0.1 answered a command for unit 0 of {DISK}: check condition (SCSI "
+    f"status 2). To do: see that the target has that unit, and that it is ready ({FAILURES})",
+}  # fmt: skip
 # the first line of what is said of a row
 SENTENCES = {
     "refused": f"10.0.0.1 refused the login to {DISK}: the user or the secret is wrong, or CHAP is wanted and wasn't "
@@ -73,6 +112,7 @@ SENTENCES = {
     "ends_asleep_by_reset": f"the script ended well; the session with {DISK} had ended in step 9: the server reset the "
     "connection",
     "two_and_off": "the power was switched off after 1.25 s, while line 4 slept: 1 s of 60 s had passed",
+    **BOOTS,
 }  # fmt: skip
 
 
@@ -107,6 +147,13 @@ class Drives(unittest.TestCase):
             "the words don't fit the command: `sanhook [--drive N] [--no-describe] URI, N from 128 to 255`",
             why(row.outputs, row.inputs)[0],
         )
+
+    def test_options_of_ipxe(self) -> None:
+        """They are known by name."""
+        for option, cause in ((b"-k", BAD_URI), (b"--filename", USAGE)):
+            row = run_of(b"sanboot " + option).ran(b"sanboot " + option, cause).left(cause)
+            said = f"the option `{option.decode()}` of `sanboot` isn't built yet"
+            self.assertIn(said, why(row.outputs, row.inputs)[0])
 
     def test_each_row_has_an_account(self) -> None:
         for name, row in ROWS.items():

@@ -29,7 +29,7 @@ __all__ = ["BUILT", "CRATE", "is_built"]
 NO_REQUEST = "it has no request by TFTP or HTTP, so --script must say what to run"
 ENDED_WELL = (0, 3)
 STATUSES = {
-    0: "an image was handed off",
+    0: "an image or a disk was handed off",
     3: "the script ended in Ok",
     4: "the script ended in a failure",
     5: "the input ended, or the power was switched off, before the script had ended",

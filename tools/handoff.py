@@ -26,12 +26,13 @@ NAMES = (PartKind.KERNEL_NAME, PartKind.INITRD_NAME)
 # An archive of a Linux initrd begins at a multiple of 4 (linux/Documentation/driver-api/early-userspace).
 ALIGNMENT = 4
 LINUX_MAGIC = slice(0x202, 0x206)
-MISSING_PROGRAM = 127
+MISSING_PROGRAM, NOTHING_STARTED = 127, 1
 
 DESCRIPTION = """\
 Takes kernel, initrds and command line out of an output recording that ends in a hand-off, writes
 them into a folder, and prints the command that starts them; --run runs it. All initrds become one
-file, in their order, as Linux takes them."""
+file, in their order, as Linux takes them. Of a disk its first sector and the boot table are written,
+as `sector` and `table`, and nothing starts these."""
 
 EPILOG = """\
 examples:
@@ -115,15 +116,15 @@ def command_line_of(folder: Path, more: str) -> str:
     return " ".join(part for part in (given.decode("utf-8", "surrogateescape"), more) if part)
 
 
-def take(arguments: argparse.Namespace) -> HandOff:
-    """Writes the files, and says what they are."""
+def take(arguments: argparse.Namespace) -> HandOff | None:
+    """Writes the files, and says what they are; None where they are a disk's."""
     folder: Path = arguments.to
     check_apart({"--to": folder}, {"the recording": arguments.recording})
     for line in write_parts(checked(output_of(arguments.recording), {}), folder):
         print(line)
     kernel = folder / "kernel"
     if not kernel.exists():
-        raise Refused(f"{arguments.recording}: no kernel was handed off, but a disk")
+        return None
     return HandOff(kernel, join_initrds(folder), command_line_of(folder, arguments.append))
 
 
@@ -170,6 +171,9 @@ def start(commands: list[list[str]]) -> int:
 def handoff(words: list[str]) -> int:
     arguments = parse(words)
     hand_off = take(arguments)
+    if hand_off is None:
+        print("handoff.py: a disk was handed off, and nothing here starts one by its first sector", file=sys.stderr)
+        return NOTHING_STARTED if arguments.run else 0
     with hand_off.kernel.open("rb") as stream:
         if not is_linux(stream):
             print("handoff.py: the kernel is no Linux image, and may not start", file=sys.stderr)

@@ -276,6 +276,7 @@ static void take_part(const uint8_t *body, size_t size) {
     bool goes_on = last.is_begun && kind == last.kind && index == last.index;
     if (!goes_on && offset == 0) begin_part(kind, index);
     else if (!goes_on || offset != last.length || !last.is_full) refuse("a PART that doesn't begin where it should");
+    if (kind == SECTOR && size - 7 != SECTOR_BYTES) refuse("a sector of another length");
     if (size - 7 > UINT32_MAX - last.length) refuse("a PART of more bytes than can be counted");
     keep(last.file, body + 7, size - 7);
     last.length += (uint32_t)(size - 7), last.is_full = size - 7 == PIECE;

@@ -2,7 +2,8 @@
 #ifndef CAUSES_H
 #define CAUSES_H
 
-enum { TFTP = 1, HTTP, ISCSI, DNS, DHCP, PING, OPENS };
+#include "records.h"
+
 static const char *const open_kinds[OPENS] = {"?", "TFTP", "HTTP", "ISCSI", "DNS", "DHCP", "PING"};
 static const struct { const char *name, *meaning; } causes[] = {
     {"Ok", "it went well"},

@@ -22,6 +22,7 @@ enum { ACK = 4, ERROR = 5, OACK = 6 };                                 /* of TFT
 enum { ADDRESS = 50, KIND = 53, SERVER = 54, MESSAGE = 56, NAK = 6 };  /* of DHCP (RFC 2132) */
 enum { DOWN = 25, STOPPED };                                           /* causes of a close from above */
 enum { ICMP = 1, DHCP_SERVER = 67, FIN = 1, SYN = 2, TCP_HEAD = 20 };
+enum { ENTERED = 5, FROM_ABOVE = 1 };                                  /* of a graph */
 
 struct open_seen current;
 struct tries_seen tries;
@@ -30,7 +31,7 @@ static struct { uint32_t number, ms; } ticks[TICKS]; /* the last ones, and the r
 static unsigned tick;
 static uint32_t step;
 static uint8_t own_address[4];
-static bool is_in_line, is_at_open;
+static bool is_in_line, is_at_open, is_disk, boots_disk;
 
 /* ---- lines ---- */
 uint64_t now_ms(void) {
@@ -204,7 +205,7 @@ static void begin_open(const uint8_t *body) {
     if (current.is_there && current.first.bytes[0]) first = current.first;
     memset(&current, 0, sizeof current), memset(&tries, 0, sizeof tries), memset(&refusal, 0, sizeof refusal);
     current.is_there = current.lives = true, current.has_name = has_name;
-    current.target = target, current.name = name, current.first = first;
+    current.target = target, current.name = name, current.first = first, current.is_booted = boots_disk;
     current.number = get16(body), current.kind = body[2] < OPENS ? body[2] : 0, current.block_size = USUAL_BLOCK;
     current.port = get16(body + 7), current.own = get16(body + 9), current.begun = current.when = now_ms();
     memcpy(current.server, body + 3, 4);
@@ -212,6 +213,7 @@ static void begin_open(const uint8_t *body) {
 }
 static void advance(const uint8_t *body) {
     uint64_t now = now_ms(), passed = now - current.when;
+    advance_drive(get16(body), get32(body + 2));
     if (get16(body) != current.number) return;
     current.place = get32(body + 2);
     if (current.kind == HTTP && !current.body)
@@ -236,15 +238,19 @@ static void end_open(const uint8_t *body) {
     end_line();
 }
 
-/* A drive that is hooked: its open lives on. */
+/* A drive that is hooked: its open lives on. One that was read is booted by that. */
 static void say_hooked(void) {
     if (!current.is_there || !current.lives || current.kind != ISCSI) return;
-    begin_again(), printf(" is hooked"), end_line(), keep_drive();
+    begin_again(), printf(current.is_read ? " is booted" : " is hooked"), end_line();
+    if (!current.is_read) keep_drive();
 }
 
 /* ---- records ---- */
 static void say_command(const uint8_t *body, size_t size) {
+    static const char boot[] = "sanboot";
+    size_t first = sizeof boot - 1;
     current.is_there = false;
+    boots_disk = size >= 10 + first && get16(body + 8) == first && !memcmp(body + 10, boot, first);
     begin_line();
     for (size_t at = 8, n = 0; at < size; at += 2 + n) {
         n = get16(body + at), show(body + at + 2, n, false);
@@ -261,7 +267,7 @@ static void show_address(const uint8_t *f, size_t size, const char *device) {
     say("%s: the address is %s", device, dotted(ip).bytes);
 }
 static void say_end(unsigned status) {
-    if (status == 0) say("the boot succeeded: a kernel is handed off");
+    if (status == 0) say("the boot succeeded: %s is handed off", is_disk ? "a disk's first sector" : "a kernel");
     if (status == 3) say("the script ended, and hands nothing off");
     if (status == 4) say("the script failed");
     if (status == 5) say("the power was switched off before the script's end");
@@ -290,5 +296,8 @@ void see_output(enum type type, const uint8_t *body, size_t size, const char *de
     }
     if (type == ADVANCE) advance(body);
     if (type == ENDED) end_open(body);
+    if (type == GRAPH && body[0] == ENTERED && !body[9] && body[18] == FROM_ABOVE)
+        enter_disk((uint64_t)get32(body + 1) << 32 | get32(body + 5));
+    if (type == PART) is_disk |= body[0] == SECTOR;
     if (type == DONE) say_end(body[0]);
 }

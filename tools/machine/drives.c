@@ -5,7 +5,7 @@
 #include "drives.h"
 #include "records.h"
 
-enum { HEAD = 48, LOGIN_RESPONSE = 0x23, DATA_IN = 0x25, BLOCK = 512, RESET = 65535, MOST_CODE = 255 };
+enum { HEAD = 48, RESPONSE = 0x21, LOGIN_RESPONSE = 0x23, DATA_IN = 0x25, BLOCK = 512, CAPACITY = 8, RESET = 65535, MOST_CODE = 255 };
 enum { REFUSED = 1, BROKEN = 3, NO_SECRET = 11 }; /* causes */
 
 /* What a login's status says, by its class and detail (RFC 7143, section 11.13.5), and what to do about it. */
@@ -29,9 +29,10 @@ static const struct { unsigned code; const char *name; } statuses[] = {
     {2, "check condition"}, {8, "busy"}, {0x18, "reservation conflict"}, {0x28, "task set full"},
 };
 enum { DRIVES = 2 };
-static struct { bool is_there; unsigned number; struct text text; } drives[DRIVES];
+enum { MOST_UNIT = 24 };
+static struct { bool is_there; struct text text; char unit[MOST_UNIT]; struct open_seen open; } drives[DRIVES];
 static char sentence[4096];
-static char unit[24];
+static char unit[MOST_UNIT];
 static uint32_t pdu_number;
 static uint8_t pdu[1024];
 static size_t pdu_size;
@@ -48,17 +49,39 @@ struct text drive_text(void) {
     snprintf(made.bytes, sizeof made.bytes, "unit %s of %.900s", unit, current.target.bytes);
     return made;
 }
+struct text session_text(void) {
+    struct text made;
+    snprintf(made.bytes, sizeof made.bytes, "%.900s, unit %s", current.target.bytes, unit);
+    return made;
+}
 void keep_drive(void) {
     for (size_t i = 0; i < DRIVES; i++)
         if (!drives[i].is_there) {
-            drives[i].is_there = true, drives[i].number = current.number, drives[i].text = drive_text();
+            drives[i].is_there = true, drives[i].open = current, drives[i].text = drive_text();
+            memcpy(drives[i].unit, unit, sizeof unit);
             return;
         }
 }
 const char *drive_of(unsigned number) {
     for (size_t i = 0; i < DRIVES; i++)
-        if (drives[i].is_there && drives[i].number == number) return drives[i].is_there = false, drives[i].text.bytes;
+        if (drives[i].is_there && drives[i].open.number == number) return drives[i].is_there = false, drives[i].text.bytes;
     return 0;
+}
+void advance_drive(unsigned number, uint32_t place) {
+    for (size_t i = 0; i < DRIVES; i++)
+        if (drives[i].is_there && drives[i].open.number == number) drives[i].open.place = place;
+}
+void enter_disk(uint64_t object) {
+    if (current.is_there && current.lives && current.kind == ISCSI && (!current.disk || current.disk == object)) {
+        current.is_read = current.disk == object, current.disk = object;
+        return;
+    }
+    for (size_t i = 0; i < DRIVES; i++)
+        if (drives[i].is_there && drives[i].open.disk == object) {
+            current = drives[i].open, current.is_there = current.is_read = true, pdu_size = 0;
+            memcpy(unit, drives[i].unit, sizeof unit);
+            memset(&tries, 0, sizeof tries);
+        }
 }
 /* The last of them is kept, as far as the segment has it. */
 void note_pdus(uint32_t number, const uint8_t *bytes, size_t size) {
@@ -103,7 +126,7 @@ static int say_fault(const char *server) {
         return say(server, "%2$s of %1$s wants a digest, and none is built"), 1;
     if (opcode == LOGIN_RESPONSE && !is_other("AuthMethod"))
         return say(server, "%1$s let the client in to %2$s without CHAP, and `reverse-username` is set; or it broke off the login"), 1;
-    if (opcode != DATA_IN || pdu_size < HEAD + 8) return 0;
+    if (opcode != DATA_IN || pdu_size < HEAD + CAPACITY || (get32(pdu + 4) & 0xffffffu) != CAPACITY) return 0;
     uint32_t last = get32(pdu + HEAD), length = get32(pdu + HEAD + 4);
     if (length != BLOCK) {
         struct text text = drive_text();
@@ -114,10 +137,13 @@ static int say_fault(const char *server) {
     return say(server, "%3$s at %1$s has more blocks than READ CAPACITY(10) can say: 2 TiB and more aren't read"), 1;
 }
 static void say_break(const char *server, uint32_t number) {
-    if (number == pdu_number && pdu_size && say_fault(server)) return;
+    unsigned opcode = pdu[0] & 0x3f;
+    bool has_pdu = number == pdu_number && pdu_size, is_of_read = has_pdu && (opcode == DATA_IN || opcode == RESPONSE);
+    if (has_pdu && !current.is_read && say_fault(server)) return;
     if (number == current.last_segment)
         snprintf(sentence, sizeof sentence, "%s closed the connection of the session with %.900s, after %u bytes", server,
                  current.target.bytes, current.place);
+    else if (current.is_read && is_of_read) say(server, "%1$s didn't send the first block of %3$s whole and in order");
     else say(server, "%1$s sent what isn't allowed in the session with %2$s");
 }
 static void say_status(const char *server, uint32_t code) {
@@ -151,7 +177,7 @@ const char *sentence_on_drive(const char *server, unsigned cause, uint32_t numbe
     return sentence;
 }
 const char *advice_on_drive(unsigned cause, uint32_t code) {
-    if (cause == NO_SECRET) return "set both before `sanhook`";
+    if (cause == NO_SECRET) return current.is_booted ? "set both before `sanboot`" : "set both before `sanhook`";
     if (cause == REFUSED && code == RESET) return "see that a target listens there";
     if (cause == REFUSED && code <= MOST_CODE) return "see that the target has that unit, and that it is ready";
     for (size_t i = 0; cause == REFUSED && i < sizeof logins / sizeof *logins; i++)

@@ -11,7 +11,7 @@ enum { MOVED = 301, FOUND = 302, SEE_OTHER = 303, MOVED_FOR_NOW = 307, MOVED_FOR
 
 struct text { char bytes[MOST_NAME]; };
 extern struct open_seen {
-    bool is_there, lives, has_name, is_unreachable, has_offer, has_ended_well;
+    bool is_there, lives, has_name, is_unreachable, has_offer, has_ended_well, is_booted, is_read;
     unsigned number, kind, port, own, block_size;
     uint8_t server[4], offered[4], offerer[4];
     struct text target, name, first; /* the first target is that of the command's first file, before its moves */
@@ -21,6 +21,7 @@ extern struct open_seen {
     /* Of HTTP: the number of the stream's first byte, the record of the server's end, the response's status, what has come
      * of its head, and where its body begins, or 0. */
     uint32_t sequence, last_segment;
+    uint64_t disk; /* of a drive its disk's object, which is entered from above first as it is begun; is_read says that it was again */
     unsigned response;
     size_t came, body;
     char head[MOST_HEAD + 1];

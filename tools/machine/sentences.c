@@ -86,7 +86,7 @@ static void add_silent_connection(bool is_answered) {
     else if (is_answered && !tries.is_syn) add("it was asked on %s", url);
     else if (!is_answered) add("%s %s ", server_name().bytes, tries.is_syn ? "never answered:" : "stopped answering");
     if (tries.is_syn) add("a connection to its port %u was asked for", current.port);
-    else if (current.kind == ISCSI) add("in the session with %s", url);
+    else if (current.kind == ISCSI) add("in the session with %s", session_text().bytes);
     else if (!is_answered && current.place) add("after %u bytes of its response for %s", current.place, url);
     else if (!is_answered) add("when asked for %s", url);
 }

@@ -6,7 +6,7 @@ from shared.causes import MEANING, Cause, Code
 from shared.drive_words import NO_PLACE
 from shared.drives import HOOK, drive_text, target_name
 from shared.frames import is_fin, packet_of, segment_data
-from shared.iscsi import DATA_IN, HEAD, LOGIN_RESPONSE, keys_of, opcode_of, pdu_text, pdus_in
+from shared.iscsi import DATA_IN, HEAD, LOGIN_RESPONSE, SCSI_RESPONSE, keys_of, opcode_of, pdu_text, pdus_in
 from shared.records import Command
 from shared.stories import OpenStory
 from shared.texts import word
@@ -81,19 +81,21 @@ def of_drive_break(story: OpenStory, server: str, frame: bytes | None, shown: st
     """On a target that sent what isn't allowed in its place, or closed the connection."""
     target = word(target_name(story.open))
     packet = packet_of(frame) if frame else None
-    found = _fault_of(pdus_in(segment_data(packet))) if packet else None
+    pdus = pdus_in(segment_data(packet)) if packet else []
+    found = _fault_of(pdus[-1]) if pdus and not story.is_read else None
     if found:
         return found.format(server=server, target=target, drive=drive_text(story.open))
     if packet and is_fin(packet):
         return f"{server} closed the connection of the session with {target}, after {story.block} bytes"
-    return f"{server} sent what isn't allowed in the session with {target}: {shown}"
+    said = pdu_text(pdus[-1]) if pdus else shown
+    if story.is_read and pdus and opcode_of(pdus[-1]) in (DATA_IN, SCSI_RESPONSE):
+        return f"{server} didn't send the first block of {drive_text(story.open)} whole and in order: {said}"
+    return f"{server} sent what isn't allowed in the session with {target}: {said}"
 
 
-def _fault_of(pdus: list[bytes]) -> str | None:
+def _fault_of(last: bytes) -> str | None:
     """What is wrong with the last PDU of a segment, where that is one of these."""
-    if not pdus:
-        return None
-    last, opcode = pdus[-1], opcode_of(pdus[-1])
+    opcode = opcode_of(last)
     if opcode == LOGIN_RESPONSE:
         keys = keys_of(last)
         if b"CHAP_R" in keys or b"CHAP_N" in keys:
@@ -104,13 +106,14 @@ def _fault_of(pdus: list[bytes]) -> str | None:
             return "{server} let the client in to {target} without CHAP, and `reverse-username` is set; or it broke off the login"
         return None
     size = last[HEAD : HEAD + 8]
-    if opcode == DATA_IN and len(size) == 8:
+    # the answer to READ CAPACITY alone has eight bytes
+    if opcode == DATA_IN and len(size) == 8 == int.from_bytes(last[5:8], "big"):
         length = int.from_bytes(size[4:], "big")
         if length != BLOCK_LENGTH:
             return f"{{drive}} at {{server}} has blocks of {length} bytes, and only {BLOCK_LENGTH} are read"
         if size[:4] == NO_SUCH_BLOCK:
             return "{drive} at {server} has more blocks than READ CAPACITY(10) can say: 2 TiB and more aren't read"
-    return f"{{server}} sent what isn't allowed in the session with {{target}}: {pdu_text(last)}"
+    return None
 
 
 def of_no_secret(story: OpenStory, server: str) -> str:
@@ -128,7 +131,7 @@ def drive_advice(cause: Cause, story: OpenStory | None, command: Command | None)
     if cause.code is Code.BROKEN and story:
         return f"{SEE_LOG} ({FAILURES})"
     if cause.code is Code.NO_SECRET:
-        return f"set both before `{HOOK.decode()}` ({PAGE}, \"CHAP\")"
+        return f"set both before `{(command.words[0] if command else HOOK).decode()}` ({PAGE}, \"CHAP\")"
     if cause.code is Code.FULL and cause.a == NO_PLACE:
         return "let one go by `sanunhook`, or hook in its place by its number"
     if command and cause.code in (Code.BAD_URI, Code.NO_SCHEME):

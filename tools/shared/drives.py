@@ -7,8 +7,10 @@ import re
 from shared.records import Command, Open
 from shared.texts import word
 
-HOOK, UNHOOK = b"sanhook", b"sanunhook"
+HOOK, BOOT, UNHOOK = b"sanhook", b"sanboot", b"sanunhook"
 UNIT_LENGTH = 8
+# the number of a drive where nothing else is said
+USUAL_DRIVE = 128
 # a URI of a disk (RFC 4173): its server, and after three more parts its target
 URI = re.compile(rb"iscsi:([^:]*)", re.I)
 NUMBER = re.compile(rb"0x[0-9A-Fa-f]+|0|[1-9][0-9]*")
@@ -44,7 +46,12 @@ def host_in(uri: bytes) -> bytes:
 
 
 def is_about_drives(command: Command) -> bool:
-    return command.words[0] in (HOOK, UNHOOK)
+    return command.words[0] in (HOOK, BOOT, UNHOOK)
+
+
+def names_drive(command: Command) -> bool:
+    """Whether a command may set the setting that numbers drives."""
+    return any(b"san-drive" in text or b"175.189" in text for text in command.words[1:2])
 
 
 def drive_asked(command: Command) -> int | None:

@@ -14,7 +14,7 @@ NOT_BUILT = frozenset(
     b"fdt form gdbstub help ibstat ifconf iflinkwait ifstat image imgdecrypt imgextract imgmem "
     b"imgset imgtrust imgverify ipstat iwlist iwstat login lotest md4sum md5sum menu "
     b"neighbour netboot nstat ntp param params pciscan poweroff present profstat prompt pxebs pxeboot read reboot "
-    b"route sanboot sha1sum sha224sum sha256sum sha384sum sha512_224sum sha512_256sum sha512sum shell "
+    b"route sha1sum sha224sum sha256sum sha384sum sha512_224sum sha512_256sum sha512sum shell "
     b"shim startpxe stoppxe sync time usbscan vcreate vdestroy".split()
 )
 # Settings that iPXE has of itself and that are never set here, unless a script sets them.
@@ -33,6 +33,7 @@ OPTIONS: dict[bytes, tuple[bytes, ...]] = {
     **dict.fromkeys(EXECUTES, OF_EXECUTES),
     b"dhcp": (b"--configurator", b"-c", b"--timeout", b"-t"),
     b"sanhook": (b"-d", b"-n"),
+    b"sanboot": (b"-d", b"-n", b"-k", b"--filename", b"-f", b"--extra", b"-e", b"--label", b"-l", b"--uuid", b"-u"),
     b"sanunhook": (b"-d",),
     b"ping": (b"--size", b"-s", b"--count", b"-c", b"--timeout", b"-t", b"--quiet", b"-q"),
 }

@@ -170,6 +170,14 @@ class Objects:
             self.where[number] = self.unclaimed
         return family
 
+    def asked(self, graph: Graph) -> Open | None:
+        """The open of a disk that its user has entered once more, and so asked for blocks: the first time it was begun."""
+        if graph.event is not GraphEvent.ENTERED or graph.other_slot != Way.DOWN:
+            return None
+        family = self.where[graph.object]
+        thing = family.things[graph.object]
+        return family.opened if thing.kind is ObjectKind.DISK and thing.entries[Way.DOWN] > 1 else None
+
     def rest(self) -> list[Family]:
         """What is left at the recording's end: opens that didn't end, and objects of none."""
         waiting = {thing.number for family in self.opens.values() for thing in family.beside}

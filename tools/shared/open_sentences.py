@@ -11,6 +11,7 @@ from shared.answers import TFTP_ERRORS
 from shared.causes import MEANING, OK, Cause, Code
 from shared.describe import target_text
 from shared.drive_sentences import drive_meaning, of_drive_break, of_drive_refusal
+from shared.drives import drive_text
 from shared.frames import asked_address, datagram_in, is_fin, is_syn, packet_of
 from shared.kinds import OpenKind
 from shared.leases import Offer, offer_taken, refusal_text
@@ -274,6 +275,8 @@ def _of_awaited_response(story: OpenStory, asked: list[bytes]) -> str:
     packet = packet_of(asked[-1]) if asked else None
     if packet and is_syn(packet):
         return f"the connection to port {story.open.port} of {server}"
+    if story.is_read:
+        return f"the first block of {drive_text(story.open)} from {server}"
     if story.is_drive():
         return f"what {server} says next in the session with {target_text(story.open)}"
     if story.block:

@@ -61,6 +61,7 @@ USAGES = {
     b"nslookup": "nslookup NAME HOST",
     b"sleep": "sleep SECONDS, from 0 to 4000000",
     b"sanhook": "sanhook [--drive N] [--no-describe] URI, N from 128 to 255",
+    b"sanboot": "sanboot [--drive N] [--no-describe] [--keep] [URI], N from 128 to 255",
     b"sanunhook": "sanunhook [--drive N], N from 128 to 255",
 }
 

@@ -7,6 +7,7 @@ from dataclasses import dataclass, field, replace
 
 from shared.causes import OK, Cause, Code
 from shared.command_line import Refused
+from shared.drives import names_drive
 from shared.frames import asked_address
 from shared.full_steps import FullSteps
 from shared.kinds import OpenKind, PartKind, ScriptMove
@@ -66,8 +67,9 @@ class OpenStory:
     tries: deque[Evidence] = field(default_factory=lambda: deque(maxlen=MOST_TRIES))
     block: int = 0
     ended: Evidence | None = None
-    # of a drive: its command was Ok
+    # of a drive: its command was Ok; it was asked for blocks
     is_hooked: bool = False
+    is_read: bool = False
 
     def is_drive(self) -> bool:
         return self.open.kind is OpenKind.ISCSI
@@ -182,6 +184,10 @@ class Trace:
         self.link = Link()
         # the drive whose session ended last by itself, after its command
         self.lost: OpenStory | None = None
+        # the drive's open that a disk is handed off of
+        self.booted: Open | None = None
+        # nothing has set `san-drive` so far, as a lease may
+        self.is_usual_drive = True
         self._last_cause: Cause | None = None
         self._last_try: Evidence | None = None
 
@@ -196,6 +202,7 @@ class Trace:
                 last_try.frame = record
             case Graph():
                 self.objects.take(When(self.step), record)
+                self._asked(record)
             case Part():
                 self._part(record)
             case Done():
@@ -245,8 +252,10 @@ class Trace:
             return
         last = story.opens[-1] if story.opens else None
         if last and last.is_drive():
+            self.booted = last.open if last.is_read else None
             last.is_hooked, self.lost = True, last if last.ended else self.lost
         is_leased = last is not None and last.open.kind is OpenKind.DHCP
+        self.is_usual_drive &= not is_leased and not names_drive(story.words)
         self.link = self.link.leased(here.step) if is_leased else self.link.after(story.words)
 
     def _fail(self, failure: Failure) -> None:
@@ -276,6 +285,17 @@ class Trace:
         opens.append(story)
         if opened.kind is OpenKind.DHCP:
             self.link = self.link.up()
+
+    def _asked(self, graph: Graph) -> None:
+        """A drive that is asked for blocks is the command's open, whichever command has hooked it."""
+        opened = self.objects.asked(graph)
+        story = self.live.get(opened.number) if opened else None
+        if story is None:
+            return
+        story.is_read, self.waiting = True, story
+        opens = self.running[-1].opens if self.running else deque()
+        if all(one is not story for one in opens):
+            opens.append(story)
 
     def _story(self, number: int) -> OpenStory:
         story = self.live.get(number)

@@ -12,7 +12,7 @@ from shared.command_line import Refused, read_stream
 from shared.describe import Lines, server_of, target_text
 from shared.drive_sentences import of_no_secret
 from shared.drive_words import Lost
-from shared.drives import target_name
+from shared.drives import is_about_drives, target_name
 from shared.fields import CutOff
 from shared.full_steps import MOST_COMMANDS
 from shared.kinds import OpenKind, Status
@@ -173,7 +173,9 @@ class Account:
         """On a lease that names no file, where the script would boot what a lease names."""
         number, start = self.trace.link.lease, self.inputs.start
         message = self.inputs.records.get(number or 0)
-        if start is None or not isinstance(message, Received) or not names_file(start.script):
+        decisive = self._decisive()
+        is_of_disk = decisive is not None and decisive.story is not None and is_about_drives(decisive.story.words)
+        if start is None or is_of_disk or not isinstance(message, Received) or not names_file(start.script):
             return ""
         return of_unnamed(message.frame, self.inputs.offered)
 

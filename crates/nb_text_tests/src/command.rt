@@ -1,7 +1,7 @@
 //! Commands one after another, their words expanded, on a table with the `mac` of `net0`; and files of URIs.
 
 use nb_command::{Job, Outcome, PlanError, State, apply, plan, put_address, refuses_address};
-use nb_drivecmd::{DriveOutcome, Drives};
+use nb_drivecmd::{AfterHook, DriveOutcome, Drives};
 use nb_expand::expand;
 use nb_image::Images;
 use nb_imagecmd::{Asking, ImageOutcome};
@@ -53,7 +53,10 @@ sanhook --drive 127 iscsi:10.0.0.1::::iqn.x:t|usage\n\
 sanhook http://10.0.0.1/d|fails 16\n\
 sanhook|usage\n\
 sanunhook|fails 28\n\
-sanboot iscsi:10.0.0.1::::iqn.x:t|unknown\n\
+sanboot iscsi:10.0.0.1::::iqn.x:t|boots 128 true 3260 iqn.x:t\n\
+sanboot --keep --no-describe --drive 200 iscsi:h::::iqn.y|boots 200 false 3260 iqn.y\n\
+sanboot --drive 200|fails 28\n\
+sanboot a b|usage\n\
 set a one two|done\n\
 show a|text a = one two$\n\
 set a |done\n\
@@ -176,7 +179,11 @@ fn shown_drives(alloc: Global, outcome: &DriveOutcome) -> Result<Vec<u8>, Fail> 
             let number = hooking.number;
             let described = hooking.described;
             let port = hooking.disk.port;
-            let text = format!(in alloc; "hooks {number} {described} {port}")?;
+            let does = match hooking.after {
+                AfterHook::Keep => "hooks",
+                AfterHook::Boot { .. } => "boots",
+            };
+            let text = format!(in alloc; "{does} {number} {described} {port}")?;
             joined(alloc, &[text.as_bytes(), hooking.disk.name.as_slice()])
         }
         DriveOutcome::Boot { .. } | DriveOutcome::Unhook(_) => Err(Fail::new("no drive is there")),

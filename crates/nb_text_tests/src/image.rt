@@ -286,6 +286,24 @@ fn has_piece(
     );
 }
 
+/// The numbers by which records name the kinds of parts.
+#[test]
+fn numbers_of_parts(rt: HostRuntime) -> Result<(), Fail> {
+    let rows = [
+        (PartKind::Kernel, 0),
+        (PartKind::Initrd, 1),
+        (PartKind::CommandLine, 2),
+        (PartKind::Table, 3),
+        (PartKind::Sector, 4),
+        (PartKind::KernelName, 5),
+        (PartKind::InitrdName, 6),
+    ];
+    for (kind, number) in rows.iter() {
+        assert_eq!(&rt; kind.number(), *number, "a kind of part");
+    }
+    Ok(())
+}
+
 /// Where the pieces of a part begin, and how many bytes they have, of a text and of a body alike.
 #[test]
 fn pieces_of_a_part(rt: HostRuntime) -> Result<(), Fail> {
