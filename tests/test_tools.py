@@ -8,15 +8,31 @@ import shutil
 import struct
 import subprocess
 import unittest
+from typing import Iterator, NamedTuple
 
 from boot import is_built
+from shared.causes import Cause, Code
+from shared.random_words import words_of
 from shared.recordings import read_input
 from shared.records import Received
 from tests import TOP, made
 from tests.case import Case
+from tests.drive_pdus import cut
+from tests.drive_session import Names, Session
 from tests.graph_run import fault_in
 
 EXAMPLES = TOP / "examples"
+CLIENT = Names(b"iqn.2026-11.lan.boot:client", b"iqn.2026-11.lan.boot:disk", user=b"client", secret=b"a-secret-of-16-b")
+
+
+class Piece(NamedTuple):
+    """A segment's port of ours, its number, what it acknowledges, and its bytes."""
+
+    ours: str
+    number: int
+    acknowledged: int
+    body: bytes
+
 
 class Examples(Case):
     def test_recordings_are_made_from_their_scripts(self) -> None:
@@ -63,39 +79,68 @@ class Examples(Case):
     def test_the_boots_are_made_anew(self) -> None:
         (self.folder / "inner").mkdir()
         shutil.copy(EXAMPLES / "stations.py", self.folder / "inner")
-        for name in ("fallback", "chained", "settings", "dhcp", "lookup", "name-boot", "http-boot"):
+        scripted = ("fallback", "chained", "settings", "dhcp", "lookup", "name-boot", "http-boot", "disk-boot")
+        for name in scripted:
             shutil.copy(EXAMPLES / f"{name}.ipxe", self.folder / "inner")
-        for name in ("tftp-boot", "fallback", "chained", "settings", "dhcp", "lookup", "name-boot", "http-boot"):
+        for name in ("tftp-boot", *scripted):
             maker = f"make_{name.replace('-', '_')}"
             shutil.copy(EXAMPLES / f"{maker}.py", self.folder / "inner")
             with self.start(f"inner/{maker}.py") as process:
                 self.assertEqual(process.communicate()[1], "")
         made_anew = sorted((self.folder / "inner").glob("*.rec"))
-        self.assertEqual(len(made_anew), 9)
+        self.assertEqual(len(made_anew), 11)
         for path in made_anew:
             self.assertEqual(path.read_bytes(), (EXAMPLES / path.name).read_bytes(), path.name)
 
-    def test_frames_of_the_http_boot(self) -> None:
-        """Each segment's frame is written out from the RFCs; the bytes at their places are the response."""
-        with (EXAMPLES / "http-boot.rec").open("rb") as stream:
+    def segments(self, name: str, port: str) -> Iterator[Piece]:
+        """What a recording's server sends from this port; each segment's frame is written out from the RFCs."""
+        with (EXAMPLES / f"{name}.rec").open("rb") as stream:
             records = [timed.record for timed in read_input(stream)]
         frames = [record.frame for record in records if isinstance(record, Received)][1:]
-        streams: dict[bytes, dict[int, bytes]] = {}
         for frame in frames:
             total = int.from_bytes(frame[16:18], "big")
             self.assertEqual(frame[:16].hex(), "52540000000152540000000208004500")
-            self.assertEqual((frame[20:24].hex(), frame[26:36].hex()), ("40004006", "0a0000010a0000020050"))
+            self.assertEqual((frame[20:24].hex(), frame[26:36].hex()), ("40004006", f"0a0000010a000002{port}"))
             self.assertEqual(word_sum(frame[14:34]), 0xFFFF)
             pseudo = frame[26:34] + b"\0\x06" + (total - 20).to_bytes(2, "big")
             self.assertEqual(word_sum(pseudo + frame[34 : 14 + total]), 0xFFFF)
-            number, head = int.from_bytes(frame[38:42], "big"), (frame[46] >> 4) * 4
-            streams.setdefault(frame[36:38], {})[number] = frame[34 + head : 14 + total]
-        self.assertEqual([port.hex() for port in streams], ["c000", "c001"])
+            head, numbers = (frame[46] >> 4) * 4, struct.unpack_from(">II", frame, 38)
+            yield Piece(frame[36:38].hex(), *numbers, frame[34 + head : 14 + total])
+
+    def test_frames_of_the_http_boot(self) -> None:
+        """The bytes at their places are the response."""
+        streams: dict[str, dict[int, bytes]] = {}
+        for piece in self.segments("http-boot", "0050"):
+            streams.setdefault(piece.ours, {})[piece.number] = piece.body
+        self.assertEqual(list(streams), ["c000", "c001"])
         moved, whole = (b"".join(pieces[at] for at in sorted(pieces)) for pieces in streams.values())
         self.assertEqual(moved, b"HTTP/1.1 302 Found\r\nLocation: /v2/k\r\nContent-Length: 0\r\n\r\n")
         head, _, kernel = whole.partition(b"\r\n\r\n")
         self.assertEqual(head, b"HTTP/1.1 200 OK\r\nContent-Length: 4000")
         self.assertEqual((len(kernel), kernel[:4]), (4_000, b"\x7fELF"))
+
+    def session(self, name: str) -> tuple[Session, list[Cause]]:
+        """A second reading of what a target says, PDU after PDU, each of which acknowledges what was said before."""
+        session, causes = Session(CLIENT, words_of(bytes(32), 0)), []
+        connected, *pieces = self.segments(name, "0cbc")
+        at = connected.acknowledged + len(session.first())
+        self.assertEqual(connected.acknowledged, session.words[0] + 1)
+        for piece in pieces:
+            (pdu,), left = cut(piece.body)
+            self.assertEqual((piece.ours, piece.acknowledged, left), ("c000", at, b""))
+            said = session.takes(0, pdu)
+            is_hooked = session.stage == "idle" and session.read is None
+            at += len(said.text) + (len(session.reads(0, 1)) if is_hooked else 0)
+            causes += [said.cause] if said.cause else []
+        return session, causes
+
+    def test_frames_of_the_disk_boots(self) -> None:
+        """The disk has its size and its first block by CHAP; or the user or the secret is wrong."""
+        session, causes = self.session("disk-boot")
+        self.assertEqual((session.chap, session.blocks, causes), (1, 2_048, []))
+        assert session.read
+        self.assertEqual((len(session.read), session.read[-2:].hex()), (512, "55aa"))
+        self.assertEqual(self.session("disk-refused")[1], [Cause(Code.REFUSED, 0, 2 * 256 + 1)])
 
     def test_frames_of_the_tftp_boot(self) -> None:
         """Each block's frame is written out from the RFCs, its sums added up word by word."""
