@@ -286,7 +286,9 @@ impl<N: Node> Inner<N> {
         self.close_port(Port { obj: id, slot: 3 }, cause, now, out);
     }
 
-    /// An entry ran out of memory: its loads come back, and the object's ports are closed.
+    /// An entry ran out of memory: its loads come back, and the object's ports are closed. Not inlined, as it is rare.
+    #[cold]
+    #[inline(never)]
     #[cycle(calm)]
     pub(crate) fn fail<O: Outside>(
         &mut self,

@@ -204,16 +204,14 @@ impl<N: Node> Inner<N> {
         ensures steady { IsSteady N.rank_of self.new.book self.new.nodes.items
             (vec_capacity self.new.nodes) }
     {
-        if emit.load.is_some() {
-            return self.send_late_up(id, index, msg, emit, spare, now, out);
-        }
         let at = Port { obj: id, slot: 0 };
         let (first, second) = bytes_of::<N>(emit, msg.first, msg.second);
-        self.pass_up(at, index, emit, msg.rec, first, second, spare, now, out)
+        let place = self.pass_up(at, index, emit, msg.rec, first, second, spare, now, out);
+        self.take_load(id, place, &mut emit.load);
+        place
     }
 
-    /// The same, not inlined, as few entries ask for two or lend a load to one above: else the rest of an entry
-    /// is two functions.
+    /// The same, not inlined, as few entries ask for two.
     #[inline(never)]
     #[cycle(lively)]
     fn send_late_up<O: Outside>(
@@ -245,11 +243,7 @@ impl<N: Node> Inner<N> {
         ensures steady { IsSteady N.rank_of self.new.book self.new.nodes.items
             (vec_capacity self.new.nodes) }
     {
-        let at = Port { obj: id, slot: 0 };
-        let (first, second) = bytes_of::<N>(emit, msg.first, msg.second);
-        let place = self.pass_up(at, index, emit, msg.rec, first, second, spare, now, out);
-        self.take_load(id, place, &mut emit.load);
-        place
+        self.send_up(id, index, msg, emit, spare, now, out)
     }
 
     /// A message that is asked for leaves by slot 0, with this record and these bytes.
