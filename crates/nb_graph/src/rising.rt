@@ -17,6 +17,7 @@ ghost use Rattle.nb_effects.specs.Effects.{ClosesSlot, MayAsk, AreUps, IsUp};
 ghost use Rattle.nb_effects.specs.Flows.{DoesEffects, Leaves, Rising};
 ghost use Rattle.nb_effects.specs.Moves.{HasAsked, none_due};
 
+use crate::downward::is_asked;
 use crate::inner::Inner;
 use crate::spare::Spare;
 use crate::{Asked, Emit, Few, Fx, Node};
@@ -95,8 +96,12 @@ impl<N: Node> Inner<N> {
         ensures steady { IsSteady N.rank_of self.new.book self.new.nodes.items
             (vec_capacity self.new.nodes) }
     {
-        let place = self.run_up(id, index, msg, &mut ups.first, spare, now, out);
-        self.run_late_up(id, place, msg, &mut ups.second, spare, now, out)
+        if is_asked(&ups.first) {
+            let place = self.run_up(id, index, msg, &mut ups.first, spare, now, out);
+            self.run_late_up(id, place, msg, &mut ups.second, spare, now, out)
+        } else {
+            index
+        }
     }
 
     #[inline(always)]
@@ -363,7 +368,6 @@ impl<N: Node> Inner<N> {
         ensures steady { IsSteady N.rank_of self.new.book self.new.nodes.items
             (vec_capacity self.new.nodes) }
     {
-        let index = self.book.seek(at.obj);
         let part = Msg {
             tag: emit.tag,
             rec,
@@ -372,6 +376,7 @@ impl<N: Node> Inner<N> {
             first,
             second,
         };
+        let index = self.book.seek(at.obj);
         self.enter_up(at, index, &part, spare, now, out);
     }
 }

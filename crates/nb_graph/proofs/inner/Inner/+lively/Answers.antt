@@ -8,6 +8,7 @@ use Rattle.nb_ledger.specs.Ledger.{busy, port, rank, open_count}
 use Rattle.nb_ledger.proofs.PortLemmas.{busy-live, open-live, live_by}
 use Rattle.nb_effects.specs.Calm.{IsSteady}
 use Rattle.nb_effects.specs.Follows.{passes, leaves, drops, enters_up}
+use Rattle.nb_graph.proofs.NodeLemmas.{nothing-there}
 use Rattle.nb_effects.proofs.SceneLemmas.{scene-busy}
 use Rattle.nb_effects.proofs.CalmLemmas.{IsWhole-enter, linked-back}
 use Rattle.nb_effects.proofs.MannedLemmas.{IsManned-same}
@@ -145,8 +146,8 @@ hand_up-returns-in-Closed-clause-lives g t c =
       lives = Lives-weaken (λ x w v k. k.1) (λ ds k. Calms-idle k (λ p q x y w v i j. Leaves-shut c.args.self.now.book c.args.at _ (ap open_count (sym c.in-Closed.ensures)) p q y w v i)) (Lives-plain g.N.Node.stands c.args.now _ _ (λ st. Sends c.args.at (said_with c.args.emit.now c.args.rec (c.args.first.now ++ c.args.second.now)) ∷ st) here (Dropped c.args.at) (Loses-refl _) refl (c.drop_message-in-Closed.ensures.given) (λ st ds s k. ([], drops c.args.at (said_with c.args.emit.now c.args.rec (c.args.first.now ++ c.args.second.now)) (ap open_count (sym c.in-Closed.ensures)), k)) (Calms-plain _ _ _ (Dropped c.args.at) (Mild-same refl (λ x k. refl)) (λ p a. refl)));
     })
 
-pub run_ups-returns-clause-lives : goal.run_ups-returns-clause-lives
-run_ups-returns-clause-lives g t c =
+pub run_ups-returns-then-is_asked-clause-lives : goal.run_ups-returns-then-is_asked-clause-lives
+run_ups-returns-then-is_asked-clause-lives g t c =
     let k = c.run_up-place.ensures.lives in
     let l = c.run_late_up.ensures.lives in
     LivelyFor-opened (λ st. append_assoc (emit_of (nature g.N.Node.kind_of g.N.Node.mark_of g.N.Load.Parts.first g.N.Load.Parts.second) c.args.id.0 (said c.args.msg.now) c.args.ups.now.first) (emit_of (nature g.N.Node.kind_of g.N.Node.mark_of g.N.Load.Parts.first g.N.Load.Parts.second) c.args.id.0 (said c.args.msg.now) c.args.ups.now.second) st) (LivelyFor-back (carried c.args.ups.now.first) (carried c.args.ups.now.second) k l (λ ds es a z. Livens-few c.args.id.0 _ _ c.requires.runs k.lively.grows.same_busy a z))
@@ -170,6 +171,12 @@ send_up-returns-clause-lives g t c =
     let e : part ≡ said_of (nature g.N.Node.kind_of g.N.Node.mark_of g.N.Load.Parts.first g.N.Load.Parts.second) (said c.args.msg.now) c.args.emit.now = ap (λ (z : List ℕ). record part { bytes = z }) c.bytes_of.ensures in
     let there = subst (λ k. LivelyFor g.N.Node.stands (nature g.N.Node.kind_of g.N.Node.mark_of g.N.Load.Parts.first g.N.Load.Parts.second) c.args.now c.args.self.now.book c.pass_up-place.new.self.book c.args.self.now.nodes.items c.pass_up-place.new.self.nodes.items (Same (busy c.args.self.now.book)) none_due (Leaves c.args.self.now.book (port_at c.args.id.0 k) part.bytes) (λ st. Sends (port_at c.args.id.0 k) part ∷ st) (g.O.Outside.events c.args.out.now) (g.O.Outside.events c.pass_up-place.new.out)) (sym c.requires.up.0) c.pass_up-place.ensures.lives in
     LivelyFor-regain (in_list c.args.emit.now.load) c.requires.runs (LivelyFor-weaken (λ x w v i. i) (λ p q x y w v i j. leaves-at c.args.self.now.book c.args.id c.args.emit.now.slot _ c.requires.up.0 p q y w v i) (subst (λ m. LivelyFor g.N.Node.stands (nature g.N.Node.kind_of g.N.Node.mark_of g.N.Load.Parts.first g.N.Load.Parts.second) c.args.now c.args.self.now.book c.pass_up-place.new.self.book c.args.self.now.nodes.items c.pass_up-place.new.self.nodes.items (Same (busy c.args.self.now.book)) none_due (Leaves c.args.self.now.book (port_at c.args.id.0 c.args.emit.now.slot) m.bytes) (λ st. Sends (port_at c.args.id.0 c.args.emit.now.slot) m ∷ st) (g.O.Outside.events c.args.out.now) (g.O.Outside.events c.pass_up-place.new.out)) e there)) c.take_load.ensures.lives c.take_load.ensures.book
+
+pub run_ups-returns-else-is_asked-clause-lives : goal.run_ups-returns-else-is_asked-clause-lives
+run_ups-returns-else-is_asked-clause-lives g t c =
+    let first = nothing-there c.args.ups.now.first (sym c.is_asked.ensures ∙ c.if-is_asked.false) in
+    let second = c.requires.ups.0 first in
+    rw (first, second) (LivelyFor-weaken (Back-none _ _ c.requires.runs) (λ p q x y w v i j. i) (LivelyFor-refl _ _ _ _ _ _ (λ p q x y w v i j. leaves-nothing _ _ p q y w v i)))
 
 pub run_ups-run_late_up-requires : goal.run_ups-run_late_up-requires
 run_ups-run_late_up-requires g t c =
