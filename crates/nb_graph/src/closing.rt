@@ -235,6 +235,8 @@ impl<N: Node> Inner<N> {
     }
 
     /// The same, one after the other.
+    #[cold]
+    #[inline(never)]
     #[cycle(calm)]
     fn run_closes<O: Outside>(&mut self, id: ObjId, closes: &[(u8, Cause)], now: u64, out: &mut O)
         requires few { length closes.now ≤ 4 }

@@ -61,6 +61,7 @@ impl<N: Node> Inner<N> {
     }
 
     /// The same where all effects that are kept run.
+    #[cold]
     #[inline(never)]
     #[cycle(calm)]
     fn enter_down_anew<O: Outside>(
