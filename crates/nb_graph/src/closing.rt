@@ -235,6 +235,8 @@ impl<N: Node> Inner<N> {
     }
 
     /// The same, one after the other.
+    #[cold]
+    #[inline(never)]
     #[cycle(calm)]
     fn run_closes<O: Outside>(&mut self, id: ObjId, closes: &[(u8, Cause)], now: u64, out: &mut O)
         requires few { length closes.now ≤ 4 }
@@ -286,7 +288,9 @@ impl<N: Node> Inner<N> {
         self.close_port(Port { obj: id, slot: 3 }, cause, now, out);
     }
 
-    /// An entry ran out of memory: its loads come back, and the object's ports are closed.
+    /// An entry ran out of memory: its loads come back, and the object's ports are closed. Not inlined, as it is rare.
+    #[cold]
+    #[inline(never)]
     #[cycle(calm)]
     pub(crate) fn fail<O: Outside>(
         &mut self,

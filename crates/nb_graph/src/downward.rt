@@ -61,6 +61,7 @@ impl<N: Node> Inner<N> {
     }
 
     /// The same where all effects that are kept run.
+    #[cold]
     #[inline(never)]
     #[cycle(calm)]
     fn enter_down_anew<O: Outside>(
@@ -260,8 +261,12 @@ impl<N: Node> Inner<N> {
         ensures steady { IsSteady N.rank_of self.new.book self.new.nodes.items
             (vec_capacity self.new.nodes) }
     {
-        let place = self.run_down(id, index, msg, &mut downs.first, spare, now, out);
-        self.run_down(id, place, msg, &mut downs.second, spare, now, out)
+        if is_asked(&downs.first) {
+            let place = self.run_down(id, index, msg, &mut downs.first, spare, now, out);
+            self.run_down(id, place, msg, &mut downs.second, spare, now, out)
+        } else {
+            index
+        }
     }
 
     #[inline(always)]
@@ -461,4 +466,14 @@ impl<N: Node> Inner<N> {
         };
         self.enter_down(at, index, &part, spare, now, out);
     }
+}
+
+ghost use Rattle.std.specs.Prelude.{is_some};
+
+/// Whether a message is asked for.
+#[inline(always)]
+pub(crate) fn is_asked<L>(emit: &Asked<Emit<L>>) -> bool
+    ensures { result ≡ is_some emit.now }
+{
+    emit.is
 }

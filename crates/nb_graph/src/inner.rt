@@ -49,6 +49,7 @@ impl<N: Node> Inner<N> {
         }
     }
 
+    #[cold]
     #[inline(never)]
     fn free<O: Outside>(&mut self, id: ObjId, out: &mut O)
         requires lives { object_lives self.old.book id.0 ≡ true }

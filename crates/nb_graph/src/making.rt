@@ -67,6 +67,7 @@ impl<N: Node> Inner<N> {
         }
     }
 
+    #[cold]
     #[inline(never)]
     fn make_asked<O: Outside>(
         &mut self,

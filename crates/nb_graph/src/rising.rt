@@ -17,6 +17,7 @@ ghost use Rattle.nb_effects.specs.Effects.{ClosesSlot, MayAsk, AreUps, IsUp};
 ghost use Rattle.nb_effects.specs.Flows.{DoesEffects, Leaves, Rising};
 ghost use Rattle.nb_effects.specs.Moves.{HasAsked, none_due};
 
+use crate::downward::is_asked;
 use crate::inner::Inner;
 use crate::spare::Spare;
 use crate::{Asked, Emit, Few, Fx, Node};
@@ -95,8 +96,12 @@ impl<N: Node> Inner<N> {
         ensures steady { IsSteady N.rank_of self.new.book self.new.nodes.items
             (vec_capacity self.new.nodes) }
     {
-        let place = self.run_up(id, index, msg, &mut ups.first, spare, now, out);
-        self.run_late_up(id, place, msg, &mut ups.second, spare, now, out)
+        if is_asked(&ups.first) {
+            let place = self.run_up(id, index, msg, &mut ups.first, spare, now, out);
+            self.run_late_up(id, place, msg, &mut ups.second, spare, now, out)
+        } else {
+            index
+        }
     }
 
     #[inline(always)]
@@ -204,16 +209,14 @@ impl<N: Node> Inner<N> {
         ensures steady { IsSteady N.rank_of self.new.book self.new.nodes.items
             (vec_capacity self.new.nodes) }
     {
-        if emit.load.is_some() {
-            return self.send_late_up(id, index, msg, emit, spare, now, out);
-        }
         let at = Port { obj: id, slot: 0 };
         let (first, second) = bytes_of::<N>(emit, msg.first, msg.second);
-        self.pass_up(at, index, emit, msg.rec, first, second, spare, now, out)
+        let place = self.pass_up(at, index, emit, msg.rec, first, second, spare, now, out);
+        self.take_load(id, place, &mut emit.load);
+        place
     }
 
-    /// The same, not inlined, as few entries ask for two or lend a load to one above: else the rest of an entry
-    /// is two functions.
+    /// The same, not inlined, as few entries ask for two.
     #[inline(never)]
     #[cycle(lively)]
     fn send_late_up<O: Outside>(
@@ -245,11 +248,7 @@ impl<N: Node> Inner<N> {
         ensures steady { IsSteady N.rank_of self.new.book self.new.nodes.items
             (vec_capacity self.new.nodes) }
     {
-        let at = Port { obj: id, slot: 0 };
-        let (first, second) = bytes_of::<N>(emit, msg.first, msg.second);
-        let place = self.pass_up(at, index, emit, msg.rec, first, second, spare, now, out);
-        self.take_load(id, place, &mut emit.load);
-        place
+        self.send_up(id, index, msg, emit, spare, now, out)
     }
 
     /// A message that is asked for leaves by slot 0, with this record and these bytes.
@@ -369,7 +368,6 @@ impl<N: Node> Inner<N> {
         ensures steady { IsSteady N.rank_of self.new.book self.new.nodes.items
             (vec_capacity self.new.nodes) }
     {
-        let index = self.book.seek(at.obj);
         let part = Msg {
             tag: emit.tag,
             rec,
@@ -378,6 +376,7 @@ impl<N: Node> Inner<N> {
             first,
             second,
         };
+        let index = self.book.seek(at.obj);
         self.enter_up(at, index, &part, spare, now, out);
     }
 }

@@ -68,6 +68,7 @@ impl<N: Node> Inner<N> {
     }
 
     /// The same where all effects that are kept run.
+    #[cold]
     #[inline(never)]
     #[cycle(lively)]
     fn enter_up_anew<O: Outside>(
@@ -174,6 +175,7 @@ impl<N: Node> Inner<N> {
     }
 
     /// The same of what a node left of a message of which it took so much.
+    #[cold]
     #[inline(never)]
     #[cycle(lively)]
     fn deliver_rest<O: Outside>(

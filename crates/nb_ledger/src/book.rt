@@ -309,6 +309,7 @@ impl Book {
     }
 }
 
+#[cold]
 #[inline(never)]
 fn place_among(objects: &[Object], id: ObjId) -> usize
     ensures { result ≡ place_in objects.now id.0 }

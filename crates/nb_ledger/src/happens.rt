@@ -165,9 +165,8 @@ impl Book {
         ensures sets { SetsBusy self.old self.new at.obj.0 was }
         ensures unused { result ≡ unused self.new at.obj.0 }
     {
-        let unused = self.end_entry(at.obj, index, was);
         out.event(&left_event(at));
-        unused
+        self.end_entry(at.obj, index, was)
     }
 
     /// Closes an open port without a link.

@@ -129,6 +129,7 @@ impl Fetch {
     }
 
     /// A move comes. Not inlined, as it is rare.
+    #[cold]
     #[inline(never)]
     fn go_elsewhere(&mut self, msg: &Msg<'_>, fx: &mut Effects) -> Result<(), NoMemory>
         requires { IsNothing fx.old }
@@ -236,6 +237,7 @@ impl Fetch {
 }
 
 /// Closes both ports, since the body would be too large. Not inlined, as it is rare.
+#[cold]
 #[inline(never)]
 fn refuse(fx: &mut Effects)
     requires { fx.old.closes.items ≡ [] }
@@ -245,6 +247,7 @@ fn refuse(fx: &mut Effects)
 }
 
 /// Closes the port below, since nothing is gathered any more. Not inlined, as it is rare.
+#[cold]
 #[inline(never)]
 fn stop(fx: &mut Effects)
     requires { fx.old.closes.items ≡ [] }

@@ -125,6 +125,7 @@ impl Obj {
     }
 
     /// A load that was lent comes back. Not inlined, as only a Tftp's and a Tcp's are frequent.
+    #[cold]
     #[inline(never)]
     fn take_back(&mut self, load: Load)
         ensures rank { rank_of_obj self.new ≡ rank_of_obj self.old }

@@ -96,6 +96,7 @@ impl Tftp {
     }
 
     /// The same of one in two parts. Not inlined, as it is rare.
+    #[cold]
     #[inline(never)]
     fn receive_parts(
         &mut self,
@@ -309,6 +310,7 @@ impl Tftp {
     }
 
     /// The same where it has ended. Not inlined, as it is rare.
+    #[cold]
     #[inline(never)]
     fn end(&mut self, acts: Box<Acts>, fx: &mut Effects)
         requires blank { AsksNone fx.old }

@@ -1,7 +1,7 @@
 use Rattle.nb_ledger.proofs.RunLemmas.{Given-none}
-use Rattle.std.proofs.Common.{ℕ, List, refl, sym, subst, ◌∙◌, arith, ap, rules, ◌≡◌, true, Some, None, append_assoc, [], ◌∷◌, ◌++◌}
+use Rattle.std.proofs.Common.{ℕ, ◌⊎◌, inl, inr, List, refl, sym, subst, ◌∙◌, arith, ap, rules, ◌≡◌, true, Some, None, append_assoc, [], ◌∷◌, ◌++◌}
 use Rattle.std.specs.Vec.{vec_capacity}
-use Rattle.nb_ledger.specs.Ledger.{busy, place, port, open_count}
+use Rattle.nb_ledger.specs.Ledger.{Ledger, busy, place, port, open_count}
 use Rattle.nb_effects.specs.Whole.{IsBookWhole, port_at}
 use Rattle.nb_effects.specs.Calm.{IsSteady}
 use Rattle.nb_ledger.specs.declared.port.PortState.TheVariants.{Leaving, Closed}
@@ -24,10 +24,12 @@ use Rattle.nb_effects.proofs.SceneLemmas.{scene-busy, scene-port}
 use Rattle.nb_ledger.specs.GraphRun.{port_but}
 use Rattle.nb_effects.proofs.WholeLemmas.{but_other}
 use Rattle.nb_graph.proofs.LivesLemmas.{Lives-above, Lives-turn, Lives-weaken}
-use Rattle.nb_effects.specs.Accounts.{account, few_bytes}
+use Rattle.nb_effects.specs.Accounts.{Account, account, few_bytes}
+use Rattle.nb_graph.proofs.NodeLemmas.{nothing-there}
+use Rattle.nb_ledger.specs.declared.port.Port.{Port as ThePort}
 use Rattle.nb_effects.specs.Asked.{asked}
 use Rattle.nb_graph.specs.Sending.{said_with}
-use Rattle.nb_effects.specs.Flows.{Closing, Passing, asked_left, asked_sent, asked_whole}
+use Rattle.nb_effects.specs.Flows.{Closing, Downs, IsShut, Passing, asked_left, asked_sent, asked_whole}
 use Rattle.nb_effects.proofs.AccountLemmas.{Calms-idle, Calms-turn, Calms-plain, Mild-same}
 use Rattle.nb_graph.proofs.MildLemmas.{Lives-plain, Mild-busy, Mild-port}
 use Rattle.nb_effects.proofs.FlowLemmas.{Calms-fail, Closing-then, Downs-closing, Downs-few, Passing-giving, Passing-open, Passing-shut, asked-zero, below-bytes, below-zero, closing-idle, following-done, following-fail, whole-left, whole-only}
@@ -147,12 +149,24 @@ run_down-returns-else-emit-clause-lives g t c =
     let e : c.args.emit.now ≡ None = sym c.emit.view_is ∙ ap (λ z. asked z c.emit.inside.what) c.if-emit.false in
     rw e (CalmFor-weaken (Back-none _ _ c.requires.runs) (λ p q x y w v i j. i) (CalmFor-refl _ _ _ _ _ _ (λ p q x y w v i j. i)))
 
-pub run_downs-returns-clause-lives : goal.run_downs-returns-clause-lives
-run_downs-returns-clause-lives g t c =
+pub run_downs-returns-then-is_asked-clause-lives : goal.run_downs-returns-then-is_asked-clause-lives
+run_downs-returns-then-is_asked-clause-lives g t c =
     let a = c.run_down-place.ensures.lives in
     let b = c.run_down.ensures.lives in
     CalmFor-opened (λ st. append_assoc (emit_of (nature g.N.Node.kind_of g.N.Node.mark_of g.N.Load.Parts.first g.N.Load.Parts.second) c.args.id.0 (said c.args.msg.now) c.args.downs.now.first) (emit_of (nature g.N.Node.kind_of g.N.Node.mark_of g.N.Load.Parts.first g.N.Load.Parts.second) c.args.id.0 (said c.args.msg.now) c.args.downs.now.second) st) (CalmFor-back (carried c.args.downs.now.first) (carried c.args.downs.now.second) a b
     (λ ds p q i j w v h t. let z = Downs-few (nature g.N.Node.kind_of g.N.Node.mark_of g.N.Load.Parts.first g.N.Load.Parts.second) _ _ _ a.lives.moved.links a.lives.moved.shuts c.args.id.0 _ c.args.downs.now c.requires.downs p q j (account (nature g.N.Node.kind_of g.N.Node.mark_of g.N.Load.Parts.first g.N.Load.Parts.second) q j ds) w v h in (z.0, z.1, λ _. z.2)))
+
+-- where nothing goes down, what is pending stays
+downs-nothing : (l : Ledger) (x : ℕ) (p q : ThePort) (y : Account) (w v : List ℕ) → Downs l x (λ k. []) p q y w v → IsShut l p ⊎ (w ≡ v)
+downs-nothing l x p q y w v (inl i) = inl i
+downs-nothing l x p q y w v (inr (inl i)) = inr (i.2 ∙ sym i.3)
+downs-nothing l x p q y w v (inr (inr i)) = inr i.1
+
+pub run_downs-returns-else-is_asked-clause-lives : goal.run_downs-returns-else-is_asked-clause-lives
+run_downs-returns-else-is_asked-clause-lives g t c =
+    let first = nothing-there c.args.downs.now.first (sym c.is_asked.ensures ∙ c.if-is_asked.false) in
+    let second = c.requires.downs.0 first in
+    rw (first, second) (CalmFor-weaken (Back-none _ _ c.requires.runs) (λ p q x y w v i j. i) (CalmFor-refl _ _ _ _ _ _ (λ p q x y w v i j. downs-nothing _ _ p q y w v i)))
 
 pub send_down-take_load-requires-clause-lives : goal.send_down-take_load-requires-clause-lives
 send_down-take_load-requires-clause-lives g t c = busy-live _ _ (c.pass_down-place.ensures.lives.calm.shrinks.same_busy c.args.id.0 ∙ c.requires.runs)

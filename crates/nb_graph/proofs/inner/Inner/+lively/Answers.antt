@@ -146,14 +146,14 @@ hand_up-returns-in-Closed-clause-lives g t c =
       lives = Lives-weaken (λ x w v k. k.1) (λ ds k. Calms-idle k (λ p q x y w v i j. Leaves-shut c.args.self.now.book c.args.at _ (ap open_count (sym c.in-Closed.ensures)) p q y w v i)) (Lives-plain g.N.Node.stands c.args.now _ _ (λ st. Sends c.args.at (said_with c.args.emit.now c.args.rec (c.args.first.now ++ c.args.second.now)) ∷ st) here (Dropped c.args.at) (Loses-refl _) refl (c.drop_message-in-Closed.ensures.given) (λ st ds s k. ([], drops c.args.at (said_with c.args.emit.now c.args.rec (c.args.first.now ++ c.args.second.now)) (ap open_count (sym c.in-Closed.ensures)), k)) (Calms-plain _ _ _ (Dropped c.args.at) (Mild-same refl (λ x k. refl)) (λ p a. refl)));
     })
 
-pub run_ups-returns-clause-lives : goal.run_ups-returns-clause-lives
-run_ups-returns-clause-lives g t c =
+pub run_ups-returns-then-is_asked-clause-lives : goal.run_ups-returns-then-is_asked-clause-lives
+run_ups-returns-then-is_asked-clause-lives g t c =
     let k = c.run_up-place.ensures.lives in
     let l = c.run_late_up.ensures.lives in
     LivelyFor-opened (λ st. append_assoc (emit_of (nature g.N.Node.kind_of g.N.Node.mark_of g.N.Load.Parts.first g.N.Load.Parts.second) c.args.id.0 (said c.args.msg.now) c.args.ups.now.first) (emit_of (nature g.N.Node.kind_of g.N.Node.mark_of g.N.Load.Parts.first g.N.Load.Parts.second) c.args.id.0 (said c.args.msg.now) c.args.ups.now.second) st) (LivelyFor-back (carried c.args.ups.now.first) (carried c.args.ups.now.second) k l (λ ds es a z. Livens-few c.args.id.0 _ _ c.requires.runs k.lively.grows.same_busy a z))
 
-pub send_late_up-take_load-requires-clause-lives : goal.send_late_up-take_load-requires-clause-lives
-send_late_up-take_load-requires-clause-lives g t c = busy-live _ _ (c.pass_up-place.ensures.lives.lively.grows.same_busy c.args.id.0 ∙ c.requires.runs)
+pub send_up-take_load-requires-clause-lives : goal.send_up-take_load-requires-clause-lives
+send_up-take_load-requires-clause-lives g t c = busy-live _ _ (c.pass_up-place.ensures.lives.lively.grows.same_busy c.args.id.0 ∙ c.requires.runs)
 
 pub run_up-returns-else-emit-clause-lives : goal.run_up-returns-else-emit-clause-lives
 run_up-returns-else-emit-clause-lives g t c =
@@ -165,20 +165,18 @@ run_late_up-returns-else-emit-clause-lives g t c =
     let e : c.args.emit.now ≡ None = sym c.emit.view_is ∙ ap (λ z. asked z c.emit.inside.what) c.if-emit.false in
     rw e (LivelyFor-weaken (Back-none _ _ c.requires.runs) (λ p q x y w v i j. i) (LivelyFor-refl _ _ _ _ _ _ (λ p q x y w v i j. leaves-nothing _ _ p q y w v i)))
 
-pub send_late_up-returns-clause-lives : goal.send_late_up-returns-clause-lives
-send_late_up-returns-clause-lives g t c =
+pub send_up-returns-clause-lives : goal.send_up-returns-clause-lives
+send_up-returns-clause-lives g t c =
     let part : Said = record { tag = c.args.emit.now.tag; rec = c.args.msg.now.rec; a = c.args.emit.now.a; b = c.args.emit.now.b; bytes = c.bytes_of.result.0.now ++ c.bytes_of.result.1.now } in
     let e : part ≡ said_of (nature g.N.Node.kind_of g.N.Node.mark_of g.N.Load.Parts.first g.N.Load.Parts.second) (said c.args.msg.now) c.args.emit.now = ap (λ (z : List ℕ). record part { bytes = z }) c.bytes_of.ensures in
     let there = subst (λ k. LivelyFor g.N.Node.stands (nature g.N.Node.kind_of g.N.Node.mark_of g.N.Load.Parts.first g.N.Load.Parts.second) c.args.now c.args.self.now.book c.pass_up-place.new.self.book c.args.self.now.nodes.items c.pass_up-place.new.self.nodes.items (Same (busy c.args.self.now.book)) none_due (Leaves c.args.self.now.book (port_at c.args.id.0 k) part.bytes) (λ st. Sends (port_at c.args.id.0 k) part ∷ st) (g.O.Outside.events c.args.out.now) (g.O.Outside.events c.pass_up-place.new.out)) (sym c.requires.up.0) c.pass_up-place.ensures.lives in
     LivelyFor-regain (in_list c.args.emit.now.load) c.requires.runs (LivelyFor-weaken (λ x w v i. i) (λ p q x y w v i j. leaves-at c.args.self.now.book c.args.id c.args.emit.now.slot _ c.requires.up.0 p q y w v i) (subst (λ m. LivelyFor g.N.Node.stands (nature g.N.Node.kind_of g.N.Node.mark_of g.N.Load.Parts.first g.N.Load.Parts.second) c.args.now c.args.self.now.book c.pass_up-place.new.self.book c.args.self.now.nodes.items c.pass_up-place.new.self.nodes.items (Same (busy c.args.self.now.book)) none_due (Leaves c.args.self.now.book (port_at c.args.id.0 c.args.emit.now.slot) m.bytes) (λ st. Sends (port_at c.args.id.0 c.args.emit.now.slot) m ∷ st) (g.O.Outside.events c.args.out.now) (g.O.Outside.events c.pass_up-place.new.out)) e there)) c.take_load.ensures.lives c.take_load.ensures.book
 
-pub send_up-returns-clause-lives : goal.send_up-returns-clause-lives
-send_up-returns-clause-lives g t c =
-    let part : Said = record { tag = c.args.emit.now.tag; rec = c.args.msg.now.rec; a = c.args.emit.now.a; b = c.args.emit.now.b; bytes = c.bytes_of.result.0.now ++ c.bytes_of.result.1.now } in
-    let e : part ≡ said_of (nature g.N.Node.kind_of g.N.Node.mark_of g.N.Load.Parts.first g.N.Load.Parts.second) (said c.args.msg.now) c.args.emit.now = ap (λ (z : List ℕ). record part { bytes = z }) c.bytes_of.ensures in
-    let there = subst (λ k. LivelyFor g.N.Node.stands (nature g.N.Node.kind_of g.N.Node.mark_of g.N.Load.Parts.first g.N.Load.Parts.second) c.args.now c.args.self.now.book c.pass_up.new.self.book c.args.self.now.nodes.items c.pass_up.new.self.nodes.items (Same (busy c.args.self.now.book)) none_due (Leaves c.args.self.now.book (port_at c.args.id.0 k) part.bytes) (λ st. Sends (port_at c.args.id.0 k) part ∷ st) (g.O.Outside.events c.args.out.now) (g.O.Outside.events c.pass_up.new.out)) (sym c.requires.up.0) c.pass_up.ensures.lives in
-    let none = nothing-there c.args.emit.now.load (sym c.is_some.ensures ∙ c.if-is_some.false) in
-    rw none (LivelyFor-weaken (Back-none _ _ c.requires.runs) (λ p q x y w v i j. i) (rw none at (LivelyFor-weaken (λ x w v i. i) (λ p q x y w v i j. leaves-at c.args.self.now.book c.args.id c.args.emit.now.slot _ c.requires.up.0 p q y w v i) (subst (λ m. LivelyFor g.N.Node.stands (nature g.N.Node.kind_of g.N.Node.mark_of g.N.Load.Parts.first g.N.Load.Parts.second) c.args.now c.args.self.now.book c.pass_up.new.self.book c.args.self.now.nodes.items c.pass_up.new.self.nodes.items (Same (busy c.args.self.now.book)) none_due (Leaves c.args.self.now.book (port_at c.args.id.0 c.args.emit.now.slot) m.bytes) (λ st. Sends (port_at c.args.id.0 c.args.emit.now.slot) m ∷ st) (g.O.Outside.events c.args.out.now) (g.O.Outside.events c.pass_up.new.out)) e there))))
+pub run_ups-returns-else-is_asked-clause-lives : goal.run_ups-returns-else-is_asked-clause-lives
+run_ups-returns-else-is_asked-clause-lives g t c =
+    let first = nothing-there c.args.ups.now.first (sym c.is_asked.ensures ∙ c.if-is_asked.false) in
+    let second = c.requires.ups.0 first in
+    rw (first, second) (LivelyFor-weaken (Back-none _ _ c.requires.runs) (λ p q x y w v i j. i) (LivelyFor-refl _ _ _ _ _ _ (λ p q x y w v i j. leaves-nothing _ _ p q y w v i)))
 
 pub run_ups-run_late_up-requires : goal.run_ups-run_late_up-requires
 run_ups-run_late_up-requires g t c =
@@ -266,8 +264,5 @@ pub deliver_rest-returns-clause-lives : goal.deliver_rest-returns-clause-lives
 deliver_rest-returns-clause-lives g t c =
     subst (λ m. Delivered g.N.Node.stands (nature g.N.Node.kind_of g.N.Node.mark_of g.N.Load.Parts.first g.N.Load.Parts.second) c.args.now c.args.at m c.args.self.now.book c.deliver_again.new.self.book c.args.self.now.nodes.items c.deliver_again.new.self.nodes.items (g.O.Outside.events c.args.out.now) (g.O.Outside.events c.deliver_again.new.out)) c.behind.ensures.bytes c.deliver_again.ensures.lives
 
-pub send_late_up-pass_up-place-requires : goal.send_late_up-pass_up-place-requires
-send_late_up-pass_up-place-requires g t c = let lives = busy-live _ _ c.requires.runs in search rules
-
-pub send_up-pass_up-requires : goal.send_up-pass_up-requires
-send_up-pass_up-requires g t c = let lives = busy-live _ _ c.requires.runs in search rules
+pub send_up-pass_up-place-requires : goal.send_up-pass_up-place-requires
+send_up-pass_up-place-requires g t c = let lives = busy-live _ _ c.requires.runs in search rules

@@ -45,10 +45,10 @@ abbrev pub decreases-run_late_up : goal.decreases-run_late_up
 decreases-run_late_up g l = reach (rank l.self.now.book l.id.0) 0 4
 
 abbrev pub decreases-send_late_up : goal.decreases-send_late_up
-decreases-send_late_up g l = reach (rank l.self.now.book l.id.0) 0 2
+decreases-send_late_up g l = reach (rank l.self.now.book l.id.0) 0 3
 
 abbrev pub decreases-send_up : goal.decreases-send_up
-decreases-send_up g l = reach (rank l.self.now.book l.id.0) 0 3
+decreases-send_up g l = reach (rank l.self.now.book l.id.0) 0 2
 
 abbrev pub decreases-pass_up : goal.decreases-pass_up
 decreases-pass_up g l = reach (rank l.self.now.book l.at.obj.0) 0 1
