@@ -172,6 +172,7 @@ impl Conn {
     }
 
     /// What a segment brings is acknowledged.
+    #[inline(always)]
     fn acknowledge(&self, after: Variables, segment: &Segment<'_>, acts: &mut Acts)
         requires { length acts.old.sends.items < 2 }
         ensures { acts.new ≡ acknowledging self.now.link after (incoming segment.now) acts.old }
