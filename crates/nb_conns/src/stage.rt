@@ -63,7 +63,6 @@ impl ConnStage {
     }
 
     /// A window comes back.
-    #[inline(always)]
     fn take_back(&mut self, held: Held)
         ensures { (l : Lent) → l.held ≡ Some held → TakesBack self.old self.new l }
     {
@@ -118,7 +117,6 @@ impl Running {
     }
 
     /// Takes a segment. What waits then is lent. Whether all of the stream has come by it.
-    #[inline(always)]
     pub(crate) fn take(
         &mut self,
         rec: u32,
@@ -157,7 +155,6 @@ impl Running {
     }
 
     /// A window comes back.
-    #[inline(always)]
     fn take_back(&mut self, held: Held)
         ensures { (l : Lent) → l.held ≡ Some held → ReturnsTo self.old self.new l }
     {
@@ -165,7 +162,6 @@ impl Running {
     }
 
     /// Lends what waits, where something does. Its bytes below the new place go up.
-    #[inline(always)]
     fn lend(&mut self, acts: &Acts, lent: &mut Lent)
         ensures { LentFrom self.old self.new acts.now lent.new }
     {

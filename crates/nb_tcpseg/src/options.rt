@@ -24,6 +24,7 @@ pub(crate) fn mss_of(options: &[u8]) -> Option<Option<u16>>
 }
 
 /// The same, option by option.
+#[inline(never)]
 fn mss_in(options: &[u8]) -> Option<Option<u16>>
     ensures sound { IfSome result (λ mss. OptionsSay options.now mss) }
     ensures complete { (mss : Option ℕ) → OptionsSay options.now mss

@@ -178,12 +178,6 @@ range_on k m slot now fx v new acts h from to e takes first within least hands g
     (cl ∙ sym (ap (λ (o : Option Cause). closes_for o) over))
     (sym (ap (λ (o : Option Cause). if is_some o then Ended else Fetching new) over))
 
--- a range that goes up was taken
-pub range_taken : (old : Core) (new : Kept) (acts : Acts) (count from to : ℕ) → HandsUp old new acts count → acts.give ≡ Some (from, to) → 0 < count
-range_taken old new acts count from to hands give =
-    let within : IsRangeWithin count (from, to) = subst (λ (o : Option (ℕ × ℕ)). IfSome o (IsRangeWithin count)) give hands.range in
-    let a = within.0 in let b = within.1 in omega (arith, a, b)
-
 -- the stream's end comes
 pub ended_on : {N L : Type 0} (k : WebCarrier L) (m : Said) (slot now : ℕ) (fx : Fx N L) (v w : WebStage) (h : Kept) (new : Core) (over : Option Cause) → v ≡ Fetching h → w ≡ Ended
     → stage_takes_web v 8 slot m ≡ true → EndsStream m.rec h.core new over → TookAll m fx → fx.makes ≡ None → fx.downs.first ≡ None → fx.downs.second ≡ None → fx.ups.first ≡ None → fx.ups.second ≡ None
