@@ -10,7 +10,9 @@ ghost use Rattle.nb_conns.specs.ConnEffects.{ConnWithin, SaysNothing, closes_for
 ghost use Rattle.nb_webnodes.specs.WebEffects.{AnswersUp};
 ghost use Rattle.nb_webnodes.specs.WebTalks.{WebStands, FetchesOn, IsUnaskedWeb, stage_takes_web, stage_asks_web, stage_is_fetching};
 
-use crate::asking::{ABOVE, Answer, BELOW, Body, all_of, ask_below, ask_close, ask_up, body_up, gather_answer};
+use crate::asking::{
+    ABOVE, Answer, BELOW, Body, all_of, ask_below, ask_close, ask_up, body_up, gather_answer,
+};
 use crate::stage::WebStage;
 use crate::starting::start;
 use crate::web_ask::WebAsk;
