@@ -29,7 +29,7 @@ pub(crate) fn receive(
     }
 }
 
-/// The same where the segment's bytes come next, and it has nothing else that is new.
+/// The same in place, where the segment's bytes come next, and it has nothing else that is new.
 #[inline(always)]
 pub(crate) fn receive_next(
     held: &mut Option<Held>,
