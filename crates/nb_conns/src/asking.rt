@@ -164,6 +164,7 @@ fn end_up<L>() -> Emit<L>
 }
 
 /// Asks for what goes up: what is lent, and then the end.
+#[inline(always)]
 pub(crate) fn ask_up<L: CarriesConn>(window: Option<Box<Lent>>, ends: bool, ups: &mut Few<Emit<L>>)
     requires blank { (ups.old.first ≡ None) × (ups.old.second ≡ None) }
     ensures { GivesBack L.carrier (boxed window) ends ups.new }
@@ -184,6 +185,7 @@ pub(crate) fn ask_up<L: CarriesConn>(window: Option<Box<Lent>>, ends: bool, ups:
 }
 
 /// Closes both ports at an end, the one above first: its user hears of it before the port below is given back.
+#[inline(always)]
 pub(crate) fn ask_close<N, L>(over: Option<Cause>, fx: &mut Fx<N, L>)
     requires { fx.old.closes.items ≡ [] }
     ensures { fx.new ≡ record fx.old { closes = record { items = closes_for over } } }

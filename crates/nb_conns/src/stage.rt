@@ -52,6 +52,7 @@ impl ConnStage {
     }
 
     /// What was lent comes back.
+    #[inline(always)]
     pub(crate) fn take_lent(&mut self, lent: &mut Lent)
         ensures { TakesBack self.old self.new lent.old }
     {
@@ -73,6 +74,7 @@ impl ConnStage {
     }
 
     /// It is over where the connection has ended.
+    #[inline(always)]
     pub(crate) fn end_if(&mut self, has_ended: bool)
         ensures { self.new ≡ (if has_ended then stage.Over else self.old) }
     {

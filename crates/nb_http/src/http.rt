@@ -108,6 +108,7 @@ impl Http {
 
     /// Takes bytes of the stream, and returns how many: at least one where there are any, before the
     /// end. `rec` is the number of the record that brought them.
+    #[inline(always)]
     pub fn bytes(&mut self, rec: u32, first: &[u8], second: &[u8], acts: &mut Acts) -> u32
         requires { length first.now + length second.now < 2 ^ 32 }
         // What it took and what goes up, added to all before, is what it stands for.
@@ -135,6 +136,7 @@ impl Http {
     }
 
     /// Takes bytes by the state.
+    #[inline(always)]
     fn take(&mut self, rec: u32, first: &[u8], second: &[u8]) -> Taken
         requires count { length first.now + length second.now < 2 ^ 32 }
         requires none { self.old.waiting ≡ 0 }

@@ -78,6 +78,7 @@ fn gather(head: &mut Vec<u8>, first: &[u8], second: &[u8]) -> usize
 
 impl Http {
     /// Goes on with a head.
+    #[inline(never)]
     pub(crate) fn take_head(&mut self, rec: u32, first: &[u8], second: &[u8]) -> Taken
         requires at { self.old.core.state ≡ Head }
         requires count { length first.now + length second.now < 2 ^ 32 }
@@ -100,6 +101,7 @@ impl Http {
     }
 
     /// Hands on bytes of a body of a stated length.
+    #[inline(always)]
     pub(crate) fn take_sized(&mut self, rec: u32, left: u64, first: &[u8], second: &[u8]) -> Taken
         requires at { self.old.core.state ≡ Sized left }
         requires count { length first.now + length second.now < 2 ^ 32 }
@@ -120,6 +122,7 @@ impl Http {
     }
 
     /// Hands on bytes of a body to the stream's end; the first too many ends it.
+    #[inline(never)]
     pub(crate) fn take_open(&mut self, rec: u32, room: u64, first: &[u8], second: &[u8]) -> Taken
         requires at { self.old.core.state ≡ ToEnd room }
         requires count { length first.now + length second.now < 2 ^ 32 }
@@ -142,6 +145,7 @@ impl Http {
     }
 
     /// Gathers bytes of a chunked body; the first too many ends it.
+    #[inline(never)]
     pub(crate) fn take_chunks(&mut self, rec: u32, room: u64, first: &[u8], second: &[u8]) -> Taken
         requires at { self.old.core.state ≡ Chunked room }
         requires count { length first.now + length second.now < 2 ^ 32 }

@@ -51,6 +51,7 @@ impl CarriesConn for Load {
         Load::Conn(load)
     }
 
+    #[inline(always)]
     fn conn_load(self) -> Option<ConnLoad> {
         match self {
             Load::Body(_) => None,

@@ -45,6 +45,7 @@ impl Held {
 
     /// Holds the bytes from a place on. Those outside the window, and those of places that hold one,
     /// are left out.
+    #[inline(always)]
     pub fn put(&mut self, pos: u32, bytes: &[u8]) -> Put
         requires { pos + length bytes.now < 2 ^ 31 }
         ensures held { (p : ℕ) → (window self.new).at p

@@ -195,6 +195,7 @@ impl Ring {
     }
 
     /// Holds bytes run by run, each where its place lies in the window and holds none.
+    #[inline(never)]
     fn scatter(&mut self, pos: u32, bytes: &[u8]) -> u32
         requires ring { IsRing self.old }
         requires small { pos + length bytes.now < 2 ^ 31 }
@@ -215,6 +216,7 @@ impl Ring {
     }
 
     /// Holds bytes from `next` on, as many as fit, where no later place is held.
+    #[inline(always)]
     fn append(&mut self, bytes: &[u8]) -> u32
         requires ring { IsRing self.old }
         requires none_marked { self.old.end ≤ self.old.next }
@@ -240,6 +242,7 @@ impl Ring {
 
     /// Holds the bytes from a place on, each where its place lies in the window and holds none, and
     /// answers how many were held.
+    #[inline(always)]
     pub(crate) fn put(&mut self, pos: u32, bytes: &[u8]) -> u32
         requires ring { IsRing self.old }
         requires small { pos + length bytes.now < 2 ^ 31 }

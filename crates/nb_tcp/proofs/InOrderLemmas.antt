@@ -14,15 +14,17 @@ use Rattle.nb_reasm.specs.declared.held.Held.{Held}
 use Rattle.nb_reasm.specs.HeldWindows.{window}
 use Rattle.nb_tcp.specs.declared.link.Link.{Link}
 use Rattle.nb_tcp.specs.declared.conn.Conn.{Conn}
+use Rattle.nb_tcp.specs.declared.conn.ConnState.{ConnState}
 use Rattle.nb_tcp.specs.declared.conn.ConnState.TheVariants.{Established}
 use Rattle.nb_tcp.specs.declared.variables.Variables.{Variables}
+use Rattle.nb_tcp.specs.declared.variables.Verdict.{Verdict}
 use Rattle.nb_tcp.specs.declared.variables.Verdict.TheVariants as verdict
 use Rattle.nb_tcp.specs.declared.variables.Breach.TheVariants as breach
-use Rattle.nb_tcp.specs.InOrder.{is_data, continues_by, has_said_all, is_next, ComesInOrder}
+use Rattle.nb_tcp.specs.InOrder.{is_data, continues_by, has_said_all, is_next, is_next_of, ComesInOrder}
 use Rattle.nb_tcp.specs.Numbers.{bare_flow, distance_of, judged, found_stop, with_stop, with_next, with_ack, piece_place, piece_bytes, counted_upto, kept_bytes, passes_limit, breached, sends_more, upto_stop}
 use Rattle.nb_tcp.specs.Receiving.{PutInto, HoldsSegment, Receives}
 use Rattle.nb_tcp.specs.Replies.{acknowledging, grown_acts, taken_acts, breach_state, breach_retry}
-use Rattle.nb_tcp.specs.SegmentSteps.{TakesSegment}
+use Rattle.nb_tcp.specs.SegmentSteps.{TakesSegment, FollowsVerdict, FollowsState}
 
 off : (b : Bool) → not b ≡ true → b ≡ false
 off true e = absurd (false≢true e)
@@ -188,3 +190,15 @@ takes_next old new v u rec s now acts next small got unacked_is acts_is state_is
       link = link_is;
       given = given_is;
     }
+
+-- so it does on an established connection
+pub follows_next : (old new : Conn) (v u : Variables) (rec : ℕ) (s : Incoming) (now : ℕ) (acts : Acts) → old.state ≡ Established v → is_next_of old.state old.given s ≡ true → old.given < 2 ^ 32 → Receives v s old.held new.held u → new.unacked.items ≡ old.unacked.items
+    → acts ≡ acknowledging old.link (record u { room = s.window }) s (grown_acts v.next u.next) → new.state ≡ Established (record u { room = s.window }) → new.retry ≡ started now Probe → new.link ≡ old.link → new.given ≡ old.given
+    → FollowsState old old.state rec s now new acts
+follows_next old new v u rec s now acts is next low got unacked_is acts_is state_is retry_is link_is given_is =
+    let next_here : is_next v old.given s ≡ true = subst (λ (z : ConnState). is_next_of z old.given s ≡ true) is next in
+    let said : IsNext v old.given s = next_is v old.given s next_here in
+    let small : v.acked < 2 ^ 32 = omega (arith, said.acked, said.given_is, low) in
+    subst (λ (z : ConnState). FollowsState old z rec s now new acts) (sym is)
+    (subst (λ (k : Verdict). FollowsVerdict old v rec s now k new acts) (sym (next_taken v old.given s said))
+    (takes_next old new v u rec s now acts next_here small got unacked_is acts_is state_is retry_is link_is given_is))

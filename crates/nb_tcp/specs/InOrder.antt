@@ -3,6 +3,8 @@ use Rattle.std.specs.Prelude.{◌≡◌, ◌≤◌, ℕ, ◌+◌, ◌-◌, ◌^�
 use Rattle.std.specs.Option.{is_none}
 use Rattle.nb_streams.specs.Segments.{Incoming}
 use Rattle.nb_streams.specs.Flows.{advance_of}
+use Rattle.nb_tcp.specs.declared.conn.ConnState.{ConnState}
+use Rattle.nb_tcp.specs.declared.conn.ConnState.TheVariants.{SynSent, Established, Ended}
 use Rattle.nb_tcp.specs.declared.variables.Variables.{Variables}
 use Rattle.nb_tcp.specs.Numbers.{bare_flow, distance_of}
 
@@ -20,6 +22,12 @@ has_said_all v given s = advance_of (bare_flow v) s == 0 && (v.acked == v.sent &
 
 abbrev pub is_next : Variables → ℕ → Incoming → Bool
 is_next v given s = is_data s && (continues_by v s && has_said_all v given s)
+
+-- so it is on an established connection
+abbrev pub is_next_of : ConnState → ℕ → Incoming → Bool
+is_next_of SynSent given s = false
+is_next_of (Established v) given s = is_next v given s
+is_next_of (Ended at_end) given s = false
 
 -- its bytes come next, and no end is known or comes
 pub record ComesInOrder (v : Variables) (s : Incoming) : Type 0 where

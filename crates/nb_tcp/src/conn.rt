@@ -95,6 +95,7 @@ impl Conn {
     /// A segment of the connection's port, from its peer's, which an IPv4 packet can carry; `rec` is its
     /// record's number. What waits was lent and given back before. Where `ready` is asked, it is to be lent
     /// now.
+    #[inline(always)]
     pub fn segment(&mut self, rec: u32, segment: &Segment<'_>, now: u64, acts: &mut Acts)
         requires delivered { HasDelivered self.old }
         requires body { length segment.now.body.now < 2 ^ 16 }
@@ -165,6 +166,7 @@ impl Conn {
     }
 
     /// Takes back what was lent, also after the end. All of its front counts as delivered.
+    #[inline(always)]
     pub fn regain(&mut self, held: Held)
         ensures stands { (l : Link) (start : ℕ) (h : List ConnEntry) → ConnStands l start self.old h → is_lent_after h ≡ true → WindowStands (window held) (held_after l.isn (tcp_calls h))
             → ConnStands l start self.new (h ++ conn_entry comes_back (only_ready false) ∷ []) }

@@ -29,22 +29,19 @@ pub(crate) fn receive(
     }
 }
 
-/// The same where the segment's bytes come next, and it has nothing else that is new.
+/// The same in place, where the segment's bytes come next, and it has nothing else that is new.
 #[inline(always)]
 pub(crate) fn receive_next(
     held: &mut Option<Held>,
-    variables: Variables,
+    variables: &mut Variables,
     segment: &Segment<'_>,
-) -> Variables
-    requires { ComesInOrder variables (incoming segment.now) }
-    ensures { Receives variables (incoming segment.now) held.old held.new result }
+)
+    requires { ComesInOrder variables.old (incoming segment.now) }
+    ensures { Receives variables.old (incoming segment.now) held.old held.new variables.new }
 {
     match held {
-        None => variables,
-        Some(held) => Variables {
-            next: hold(held, variables.next, segment.body),
-            ..variables
-        },
+        None => {}
+        Some(held) => variables.next = hold(held, variables.next, segment.body),
     }
 }
 
@@ -84,6 +81,7 @@ pub(crate) fn unacked_text(unacked: &[u8], variables: Variables) -> &[u8]
 }
 
 /// The window once all of its front was passed over.
+#[inline(always)]
 pub(crate) fn passed_over(held: Held) -> Held
     ensures { PassesOver (window held) (window result) }
 {

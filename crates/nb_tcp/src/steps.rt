@@ -6,7 +6,7 @@ ghost use Rattle.nb_retry.specs.declared.plan.Plan.TheVariants.{Common, Probe};
 ghost use Rattle.nb_terms.specs.Reasons.{as_cause};
 ghost use Rattle.nb_streams.specs.Endings.{plan_tries, end_cause};
 ghost use Rattle.nb_tcp.specs.Arriving.{incoming};
-ghost use Rattle.nb_tcp.specs.InOrder.{is_next};
+ghost use Rattle.nb_tcp.specs.InOrder.{is_next_of};
 ghost use Rattle.nb_tcp.specs.Numbers.{breached, judged, opened_variables};
 ghost use Rattle.nb_tcp.specs.Replies.{only_ready, also_sending, also_over, all_sending, first_tried, unacked_text, went_on, ongoing_acts, ongoing_retry, grown_acts, acknowledging, taken_acts, breach_state, breach_retry, syn_answered, syn_answer_acts, syn_answer_state, syn_answer_retry, established_acts, sent_again, has_come_all, given_acts, given_state, given_retry, has_finished};
 ghost use Rattle.nb_tcp.specs.SegmentSteps.{TakesSegment, FollowsVerdict, FollowsState};
@@ -29,11 +29,15 @@ const RESET: u16 = 65_535;
 
 impl Conn {
     /// A segment comes.
+    #[inline(always)]
     pub(crate) fn come(&mut self, rec: u32, segment: &Segment<'_>, now: u64, acts: &mut Acts)
         requires none { acts.old ≡ only_ready false }
         requires body { length segment.now.body.now < 2 ^ 16 }
         ensures { FollowsState self.old self.old.state rec (incoming segment.now) now self.new acts.new }
     {
+        if self.is_next(segment) {
+            return self.take_next(rec, segment, now, acts);
+        }
         match self.state {
             ConnState::SynSent => self.asked(rec, segment, now, acts),
             ConnState::Established(variables) => {
@@ -43,7 +47,22 @@ impl Conn {
         }
     }
 
+    /// The segment's bytes come next, and it has nothing else that is new.
+    #[inline(always)]
+    fn is_next(&self, segment: &Segment<'_>) -> bool
+        requires { length segment.now.body.now < 2 ^ 16 }
+        ensures value { result ≡ is_next_of self.now.state self.now.given (incoming segment.now) }
+        ensures low { result ≡ true → self.now.given < 2 ^ 32 }
+    {
+        match &self.state {
+            ConnState::SynSent => false,
+            ConnState::Established(variables) => variables.is_next(segment, self.given),
+            ConnState::Ended { .. } => false,
+        }
+    }
+
     /// A segment comes before the connection is established (RFC 9293, section 3.10.7.3).
+    #[inline(never)]
     fn asked(&mut self, rec: u32, segment: &Segment<'_>, now: u64, acts: &mut Acts)
         requires none { acts.old ≡ only_ready false }
         requires asked { self.old.state ≡ SynSent }
@@ -69,6 +88,7 @@ impl Conn {
     }
 
     /// A segment comes to an established connection (RFC 9293, section 3.10.7.4).
+    #[inline(never)]
     fn established(
         &mut self,
         variables: Variables,
@@ -81,9 +101,6 @@ impl Conn {
         requires body { length segment.now.body.now < 2 ^ 16 }
         ensures { FollowsVerdict self.old variables rec (incoming segment.now) now (judged variables (incoming segment.now)) self.new acts.new }
     {
-        if variables.is_next(segment, self.given) {
-            return self.take_next(variables, rec, segment, now, acts);
-        }
         match variables.judge(segment) {
             Verdict::Reset => {
                 self.end(
@@ -98,28 +115,23 @@ impl Conn {
         }
     }
 
-    /// The segment's bytes come next, and it has nothing else that is new.
+    /// Takes a segment whose bytes come next, and that has nothing else that is new.
     #[inline(always)]
-    fn take_next(
-        &mut self,
-        variables: Variables,
-        _rec: u32,
-        segment: &Segment<'_>,
-        now: u64,
-        acts: &mut Acts,
-    )
+    fn take_next(&mut self, _rec: u32, segment: &Segment<'_>, now: u64, acts: &mut Acts)
         requires none { acts.old ≡ only_ready false }
-        requires next { is_next variables self.old.given (incoming segment.now) ≡ true }
-        ensures { TakesSegment self.old variables _rec (incoming segment.now) now self.new acts.new }
+        requires next { is_next_of self.old.state self.old.given (incoming segment.now) ≡ true }
+        requires low { self.old.given < 2 ^ 32 }
+        ensures { FollowsState self.old self.old.state _rec (incoming segment.now) now self.new acts.new }
     {
-        let received = receive_next(&mut self.held, variables, segment);
-        let after = Variables {
-            room: segment.window,
-            ..received
+        let ConnState::Established(variables) = &mut self.state else {
+            return;
         };
-        tell_growth(variables.next, after.next, acts);
+        let before = variables.next;
+        receive_next(&mut self.held, variables, segment);
+        variables.room = segment.window;
+        let after = *variables;
+        tell_growth(before, after.next, acts);
         self.acknowledge(after, segment, acts);
-        self.state = ConnState::Established(after);
         self.retry.start(now, Plan::Probe);
     }
 
@@ -172,6 +184,7 @@ impl Conn {
     }
 
     /// What a segment brings is acknowledged.
+    #[inline(always)]
     fn acknowledge(&self, after: Variables, segment: &Segment<'_>, acts: &mut Acts)
         requires { length acts.old.sends.items < 2 }
         ensures { acts.new ≡ acknowledging self.now.link after (incoming segment.now) acts.old }

@@ -261,7 +261,8 @@ impl Variables {
     #[inline(always)]
     pub(crate) fn is_next(self, segment: &Segment<'_>, given: u32) -> bool
         requires { length segment.now.body.now < 2 ^ 16 }
-        ensures { result ≡ is_next self given (incoming segment.now) }
+        ensures value { result ≡ is_next self given (incoming segment.now) }
+        ensures low { given < 2 ^ 32 }
     {
         is_data(segment) && (self.continues_by(segment) && self.has_said_all(segment, given))
     }

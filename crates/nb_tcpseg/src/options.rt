@@ -10,8 +10,22 @@ const NO_OPERATION: u8 = 1;
 
 const MAXIMUM_SEGMENT_SIZE: u8 = 2;
 
-/// The first maximum segment size among the options, or None where they are malformed.
-pub(crate) fn mss_in(options: &[u8]) -> Option<Option<u16>>
+/// The first maximum segment size among the options, or None where they are malformed. Most headers have no options.
+#[inline(always)]
+pub(crate) fn mss_of(options: &[u8]) -> Option<Option<u16>>
+    ensures sound { IfSome result (λ mss. OptionsSay options.now mss) }
+    ensures complete { (mss : Option ℕ) → OptionsSay options.now mss
+        → IsSomeAnd result (λ found. found ≡ mss) }
+{
+    if options.is_empty() {
+        return Some(None);
+    }
+    mss_in(options)
+}
+
+/// The same, option by option.
+#[inline(never)]
+fn mss_in(options: &[u8]) -> Option<Option<u16>>
     ensures sound { IfSome result (λ mss. OptionsSay options.now mss) }
     ensures complete { (mss : Option ℕ) → OptionsSay options.now mss
         → IsSomeAnd result (λ found. found ≡ mss) }

@@ -5,7 +5,7 @@ ghost use Rattle.std.specs.Option.{unwrap_or};
 ghost use Rattle.nb_wire.specs.Checksum.{checksum, HasSum};
 ghost use Rattle.nb_tcpseg.specs.SegmentText.{tcp_pseudo_header, IsIntact, sent_header_len};
 
-use crate::options::mss_in;
+use crate::options::mss_of;
 use nb_ipv4::PROTO_TCP;
 use nb_wire::{Full, Ip4, Out, is_intact_after, sum16};
 
@@ -104,7 +104,7 @@ impl<'a> Segment<'a> {
         }
         let (header, body) = bytes.split_at(header_len);
         let (_, options) = header.split_at(FIXED_LEN);
-        let mss = mss_in(options)?;
+        let mss = mss_of(options)?;
         Some(Segment {
             src_port: u16::from_be_bytes([s0, s1]),
             dst_port: u16::from_be_bytes([d0, d1]),

@@ -166,6 +166,18 @@ part_on k m slot now fx v new acts w h b text e from takes within least hands wh
     (up_says k m b text fx.ups ups ∙ ap (λ (z : Option Body). body_says m z ++ moves_says m.rec text) whole ∙ ap (λ z. z ++ moves_says m.rec text) (body_said m h.core new acts fx.took within hands) ∙ ap (λ z. gives_says m.rec (gave m.bytes acts new) ++ moves_says m.rec z) move)
     (up_goes k b text fx.ups ups) cl) stage
 
+-- bytes of the stream come, and a range of them goes up, and nothing else
+pub range_on : {N L : Type 0} (k : WebCarrier L) (m : Said) (slot now : ℕ) (fx : Fx N L) (v : WebStage) (new : Kept) (acts : Acts) (h : Kept) (from to : ℕ) → v ≡ Fetching h
+    → stage_takes_web v 5 slot m ≡ true → TakesFirst m.rec h.core new m.bytes fx.took acts → fx.took ≤ length m.bytes → DecidesLast h.core (take fx.took m.bytes) → HandsUp h.core new acts fx.took
+    → acts.give ≡ Some (from, to) → acts.over ≡ None → AnswersUp k (Some (Range from to)) None fx.ups
+    → fx.makes ≡ None → fx.downs.first ≡ None → fx.downs.second ≡ None → fx.closes.items ≡ [] → FetchesOn k v (Fetching new) (up slot m now true fx)
+range_on k m slot now fx v new acts h from to e takes first within least hands give over ups mk d1 d2 cl =
+    part_on k m slot now fx v new acts (Fetching new) h (Some (Range from to)) None e takes first within least hands
+    (sym (ap (λ (o : Option (ℕ × ℕ)). body_for o (take new.waiting new.core.chunks.block)) give))
+    (sym (ap (λ (o : Option Cause). moved_at_end o new.core) over)) ups mk d1 d2
+    (cl ∙ sym (ap (λ (o : Option Cause). closes_for o) over))
+    (sym (ap (λ (o : Option Cause). if is_some o then Ended else Fetching new) over))
+
 -- the stream's end comes
 pub ended_on : {N L : Type 0} (k : WebCarrier L) (m : Said) (slot now : ℕ) (fx : Fx N L) (v w : WebStage) (h : Kept) (new : Core) (over : Option Cause) → v ≡ Fetching h → w ≡ Ended
     → stage_takes_web v 8 slot m ≡ true → EndsStream m.rec h.core new over → TookAll m fx → fx.makes ≡ None → fx.downs.first ≡ None → fx.downs.second ≡ None → fx.ups.first ≡ None → fx.ups.second ≡ None

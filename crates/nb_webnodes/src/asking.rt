@@ -87,6 +87,7 @@ fn moved_of(alloc: Global, http: &Http, over: Option<Cause>) -> Result<Option<Te
 }
 
 /// What goes up by a call of the core that asked for this.
+#[inline(never)]
 pub(crate) fn gather_answer(
     alloc: Global,
     http: &Http,
@@ -102,7 +103,8 @@ pub(crate) fn gather_answer(
 }
 
 /// The next bytes of the body.
-fn body_up<L: CarriesWeb>(body: Body) -> Emit<L>
+#[inline(always)]
+pub(crate) fn body_up<L: CarriesWeb>(body: Body) -> Emit<L>
     ensures { result ≡ body_emit L.web body }
 {
     let (from, to, load) = match body {

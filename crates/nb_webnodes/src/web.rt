@@ -10,7 +10,9 @@ ghost use Rattle.nb_conns.specs.ConnEffects.{ConnWithin, SaysNothing, closes_for
 ghost use Rattle.nb_webnodes.specs.WebEffects.{AnswersUp};
 ghost use Rattle.nb_webnodes.specs.WebTalks.{WebStands, FetchesOn, IsUnaskedWeb, stage_takes_web, stage_asks_web, stage_is_fetching};
 
-use crate::asking::{ABOVE, Answer, BELOW, all_of, ask_below, ask_close, ask_up, gather_answer};
+use crate::asking::{
+    ABOVE, Answer, BELOW, Body, all_of, ask_below, ask_close, ask_up, body_up, gather_answer,
+};
 use crate::stage::WebStage;
 use crate::starting::start;
 use crate::web_ask::WebAsk;
@@ -114,6 +116,10 @@ impl Web {
             return self.give_up();
         }
         fx.took = http.bytes(msg.rec, msg.first, msg.second, &mut self.acts);
+        if let (Some((from, to)), None) = (self.acts.give, self.acts.over) {
+            fx.ups.first.put(body_up(Body::Range(from, to)));
+            return Ok(());
+        }
         // A core that goes on takes some of the bytes, so that the guard always holds.
         match gather_answer(self.alloc, http, &self.acts, &mut self.room) {
             Ok(given) if fx.took > 0 || count == 0 => {
@@ -125,6 +131,7 @@ impl Web {
     }
 
     /// Asks for what goes up, and for the closes. It has ended where the response is decided.
+    #[inline(never)]
     fn carry_out<N, L: CarriesWeb>(&mut self, given: Answer, fx: &mut Fx<N, L>)
         requires { SaysNothing fx.old × (fx.old.closes.items ≡ []) }
         ensures stage { self.new.stage ≡ (if is_some self.old.acts.over then stage.Ended else self.old.stage) }
