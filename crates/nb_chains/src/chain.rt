@@ -62,6 +62,7 @@ impl Chain {
     }
 
     /// A datagram or an echo reply comes in the record `rec`, at the time `now` in milliseconds.
+    #[inline(always)]
     pub fn message<O: Outside>(
         self,
         graph: &mut Graph<Obj>,

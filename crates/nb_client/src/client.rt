@@ -70,6 +70,7 @@ impl Client {
 
     /// Uses a record: START is the first, and each other one comes while a command waits, or where the last step has yielded.
     /// Where memory runs out nothing is put, and the client is of no use any more.
+    #[inline(always)]
     pub fn step(&mut self, entry: &InRec<'_>, log: &mut Log) -> Turn
         requires valid { IsIn (in_of entry.now) }
         requires fits { CanUse (in_of entry.now) self.old.stage }

@@ -246,6 +246,7 @@ impl Site {
     }
 
     /// Drives whose open has ended are forgotten.
+    #[inline(always)]
     pub(crate) fn forget_ended(&mut self)
         ensures used { self.new.used ≡ self.old.used }
         ensures opens { self.new.opens ≡ self.old.opens }

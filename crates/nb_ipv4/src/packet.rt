@@ -176,6 +176,7 @@ fn is_fragment(high: u8, low: u8) -> bool
     high % DONT_FRAGMENT != 0 || low != 0
 }
 
+#[inline(always)]
 fn is_header_intact(header: &[u8]) -> bool
     requires even { length header.now % 2 ≡ 0 }
     requires room { length header.now ≤ 60 }

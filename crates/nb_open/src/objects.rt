@@ -47,6 +47,7 @@ pub(crate) struct Brought {
 
 impl OpenObjects {
     /// A datagram, an echo reply or a segment comes in the record `rec`, at the time `now` in milliseconds.
+    #[inline(always)]
     pub(crate) fn message(
         self,
         graph: &mut Graph<Obj>,

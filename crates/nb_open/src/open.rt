@@ -33,6 +33,7 @@ pub struct Open {
 impl Open {
     /// A datagram, an echo reply or a segment comes for it in the record `rec`, at the time `now` in milliseconds. Where it
     /// ends, its objects are let go, and what it has found stands on the desk. All that was told stands there, spelled.
+    #[inline(always)]
     pub fn receive(
         &self,
         alloc: Global,
@@ -138,6 +139,7 @@ impl Open {
     }
 
     /// Lets its objects go where it has ended, or where a message found no route.
+    #[inline(always)]
     pub(crate) fn settle(
         &self,
         alloc: Global,
@@ -162,6 +164,7 @@ impl Open {
     }
 
     /// Takes what it has brought out of its objects, and lets them go.
+    #[inline(never)]
     fn end(
         &self,
         alloc: Global,

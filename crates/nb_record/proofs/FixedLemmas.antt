@@ -1,16 +1,8 @@
 -- The parts of a record of a fixed length, put one after another, are its spelling.
 use Rattle.std.proofs.Common.{◌≡◌, ℕ, List, [], ◌∷◌, ◌++◌, ap, ◌∙◌, append_assoc}
-use Rattle.std.specs.Int.{w16, w32, w64, to_be_bytes}
+use Rattle.std.specs.Int.{w64, to_be_bytes}
 use Rattle.nb_terms.specs.declared.event.Event.{Event}
-use Rattle.nb_defs.specs.Records.{out_text, record_text, event_text, cause_text, advanced, graph}
-
--- its head, and the two numbers of an ADVANCE
-pub advance_appends : (w : List ℕ) (number place : ℕ)
-    → ((w ++ (0 ∷ 0 ∷ 0 ∷ 7 ∷ 0x89 ∷ [])) ++ to_be_bytes w16 number) ++ to_be_bytes w32 place ≡ w ++ out_text (advanced number place)
-unfolding out_text record_text
-advance_appends w number place =
-    append_assoc (w ++ (0 ∷ 0 ∷ 0 ∷ 7 ∷ 0x89 ∷ [])) (to_be_bytes w16 number) (to_be_bytes w32 place)
-    ∙ append_assoc w (0 ∷ 0 ∷ 0 ∷ 7 ∷ 0x89 ∷ []) (to_be_bytes w16 number ++ to_be_bytes w32 place)
+use Rattle.nb_defs.specs.Records.{out_text, record_text, event_text, cause_text, graph}
 
 -- both ends of an event, and its cause
 ends_join : (o : List ℕ) (slot : ℕ) (p : List ℕ) (other : ℕ) (c : List ℕ)

@@ -1,4 +1,4 @@
-//! The spelling of the records that have a fixed length.
+//! The spelling of GRAPH.
 
 ghost use Rattle.std.specs.Prelude.{◌≡◌, ◌+◌, ◌≤◌, ◌++◌, ◌∷◌, [], length};
 ghost use Rattle.std.specs.Int.{w64, to_be_bytes};
@@ -8,52 +8,11 @@ ghost use Rattle.nb_defs.specs.Records as defs;
 use nb_terms::{Cause, Event};
 use nb_wire::Out;
 
-/// The types of the output records of a fixed length.
-const STEP: u8 = 0x81;
-
-const TRY: u8 = 0x88;
-
-const ADVANCE: u8 = 0x89;
-
+/// The type of the record.
 const GRAPH: u8 = 0x8b;
 
-/// How many bytes the longest of these records has.
+/// How many bytes it has.
 pub(crate) const ROOM: usize = 33;
-
-/// Appends a STEP.
-#[tactic(auto, unfolding(nb_defs::specs::Records::out_text, nb_defs::specs::Records::record_text))]
-#[inline(always)]
-pub(crate) fn append_step(number: u32, out: &mut Out<'_>)
-    requires room { 33 ≤ out.old.left }
-    ensures { out.new.written ≡ out.old.written ++ out_text (defs.step number) }
-{
-    out.push(&[0, 0, 0, 5, STEP]);
-    out.push(&number.to_be_bytes());
-}
-
-/// Appends a TRY.
-#[tactic(auto, unfolding(nb_defs::specs::Records::out_text, nb_defs::specs::Records::record_text))]
-#[inline(always)]
-pub(crate) fn append_try(number: u16, n: u8, out: &mut Out<'_>)
-    requires room { 33 ≤ out.old.left }
-    ensures { out.new.written ≡ out.old.written ++ out_text (defs.tried number n) }
-{
-    out.push(&[0, 0, 0, 4, TRY]);
-    out.push(&number.to_be_bytes());
-    out.push(&[n]);
-}
-
-/// Appends an ADVANCE.
-#[tactic(auto, using(crate::proofs::FixedLemmas::advance_appends))]
-#[inline(always)]
-pub(crate) fn append_advance(number: u16, place: u32, out: &mut Out<'_>)
-    requires room { 33 ≤ out.old.left }
-    ensures { out.new.written ≡ out.old.written ++ out_text (defs.advanced number place) }
-{
-    out.push(&[0, 0, 0, 7, ADVANCE]);
-    out.push(&number.to_be_bytes());
-    out.push(&place.to_be_bytes());
-}
 
 /// Appends a cause.
 #[tactic(auto, unfolding(nb_defs::specs::Records::cause_text))]

@@ -59,6 +59,9 @@ impl Desk {
 pub fn lent(alloc: Global, kept: Option<Desk>) -> Result<Desk, NoMemory> {
     match kept {
         Some(desk) => Ok(desk),
-        None => Desk::new(alloc),
+        None => {
+            let desk = Desk::new(alloc)?;
+            Ok(desk)
+        }
     }
 }

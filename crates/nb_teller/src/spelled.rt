@@ -82,6 +82,7 @@ impl Spelled {
     }
 
     /// Forgets what was told. The room for its records stays.
+    #[inline(always)]
     pub fn clear(&mut self)
         ensures { IsBlank self.new }
     {
@@ -96,6 +97,7 @@ impl Spelled {
     }
 
     /// The cause of the first close that was told. An error where memory ran out, in the graph or here.
+    #[inline(always)]
     pub fn first_close(&self) -> Result<Option<Cause>, NoMemory>
         ensures { IfOk result (HasSpelled self.now) }
     {

@@ -78,6 +78,7 @@ impl<'a> Teller<'a> {
     }
 
     /// An error where memory ran out, in the graph or here.
+    #[inline(always)]
     pub fn check(&self) -> Result<(), NoMemory>
         ensures { OnOk result (IsWholeSpelling self.now.told.value) }
     {
@@ -88,6 +89,7 @@ impl<'a> Teller<'a> {
     }
 
     /// What was told. An error where memory ran out, in the graph or here.
+    #[inline(always)]
     pub fn finish(self) -> Result<Box<Spelled>, NoMemory>
         ensures told { IfOk result (λ told. told.value ≡ self.entry.told.value) }
         ensures whole { IfOk result (λ told. IsWholeSpelling told.value) }

@@ -71,6 +71,7 @@ impl WebChain {
 
     /// A segment comes in the record `rec`, at the time `now` in milliseconds. Its checksum is right between the two
     /// addresses.
+    #[inline(always)]
     pub fn message<O: Outside>(
         self,
         graph: &mut Graph<Obj>,
