@@ -74,6 +74,15 @@ class Names(unittest.TestCase):
         wrong = {crate: pages for crate, pages in rows.items() if pages != ["ARCHITECTURE.md"]}
         self.assertEqual(wrong, {}, "crates without exactly one row in ARCHITECTURE.md")
 
+    def test_each_crate_lists_what_its_text_names(self) -> None:
+        """A library that is listed and not named costs each gate time."""
+        for line in (TOP / "crates.txt").read_text().splitlines():
+            crate, _, listed = line.partition(":")
+            folder = TOP / "crates" / crate.split()[0]
+            parts = [path for path in folder.rglob("*") if path.suffix in (".rt", ".antt") and "out" not in path.parts]
+            named = {name for path in parts for name in re.findall(r"\w+", path.read_text())}
+            self.assertEqual([name for name in listed.split() if name not in named], [], crate)
+
     def test_what_is_named_is_there(self) -> None:
         for page in PAGES:
             text = page.read_text()
