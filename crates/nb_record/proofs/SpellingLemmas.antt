@@ -1,17 +1,12 @@
 -- The parts of an output record, put one after another, are its spelling.
-use Rattle.std.proofs.Common.{◌≡◌, ℕ, ◌+◌, ◌<◌, Bool, true, false, List, [], ◌∷◌, ◌++◌, length, take, get_or, refl, sym, ap, ◌∙◌, arith}
+use Rattle.std.proofs.Common.{◌≡◌, ℕ, ◌+◌, ◌<◌, Bool, true, false, List, [], ◌∷◌, ◌++◌, length, take, get_or, refl, sym, ap, ◌∙◌, append_assoc, arith}
 use Rattle.std.specs.Int.{w16, w32, to_be_bytes}
 use Rattle.std.specs.List.{flat_map}
-use Rattle.std.proofs.lemmas.List.{length-append, take_more, flat_map_more}
+use Rattle.std.proofs.lemmas.List.{append-nil, length-append, take_more, flat_map_more}
 use mir.Val.{bool_byte}
-use Rattle.nb_defs.specs.Records.{out_text, command, record_text, word_text, flag_of}
+use Rattle.nb_defs.specs.Records.{out_text, out_texts, command, sent, tried, record_text, word_text, flag_of}
 use Rattle.nb_record.specs.Logged.{Logged, Puts}
 use Rattle.nb_record.proofs.LogLemmas.{Puts-then, Puts-same}
-
--- the length and the type, then the body
-pub record_puts : (a b c : Logged) (kind : ℕ) (body : List ℕ) → Puts a b (to_be_bytes w32 (length body + 1) ++ kind ∷ []) → Puts b c body → Puts a c (record_text kind body)
-unfolding record_text
-record_puts a b c kind body p q = Puts-then a b c (to_be_bytes w32 (length body + 1) ++ kind ∷ []) body p q
 
 pub word_puts : (a b c : Logged) (w : List ℕ) → Puts a b (to_be_bytes w16 (length w)) → Puts b c w → Puts a c (word_text w)
 unfolding word_text
@@ -26,6 +21,14 @@ parts_puts a b c d kind head tail p q r =
     Puts-same a d ((to_be_bytes w32 n ++ (kind ∷ [])) ++ head ++ tail) _
     (ap (λ (n : ℕ). to_be_bytes w32 (n + 1) ++ (kind ∷ (head ++ tail))) (sym (length-append head tail)))
     (Puts-then a c d ((to_be_bytes w32 n ++ (kind ∷ [])) ++ head) tail (Puts-then a b c (to_be_bytes w32 n ++ (kind ∷ [])) head p q) r)
+
+-- a TRY, and the length, the type and the bytes of a FRAME
+pub tried_then_sent : (number n : ℕ) (frame : List ℕ)
+    → (out_text (tried number n) ++ (to_be_bytes w32 (length frame + 1) ++ 0x82 ∷ [])) ++ frame ≡ out_texts (tried number n ∷ sent frame ∷ [])
+unfolding out_text record_text
+tried_then_sent number n frame =
+    append_assoc (out_text (tried number n)) (to_be_bytes w32 (length frame + 1) ++ 0x82 ∷ []) frame
+    ∙ ap (λ (w : List ℕ). out_text (tried number n) ++ w) (sym (append-nil (record_text 0x82 frame)))
 
 -- a record of the same head and tail
 pub record_same : (kind : ℕ) (head head' tail tail' : List ℕ) → head ≡ head' → tail ≡ tail' → record_text kind (head ++ tail) ≡ record_text kind (head' ++ tail')

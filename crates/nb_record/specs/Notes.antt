@@ -1,5 +1,5 @@
 -- The reads that a line over memory notes.
-use Rattle.std.specs.Prelude.{◌≡◌, Bool, true, false, List, [], ◌∷◌, ◌++◌, Option, Some, None, IfSome, option_to_list}
+use Rattle.std.specs.Prelude.{◌≡◌, Bool, true, false, List, [], ◌∷◌, ◌++◌, Option, Some, None, IfSome}
 use Rattle.nb_record.specs.declared.notes.ReadNote.{ReadNote}
 use Rattle.nb_record.specs.declared.notes.ReadNotes.{ReadNotes}
 

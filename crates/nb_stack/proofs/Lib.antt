@@ -1,3 +1,4 @@
+pub mod AckLaws
 pub mod AnswerLaws
 pub mod MacLaws
 pub mod MessageLaws

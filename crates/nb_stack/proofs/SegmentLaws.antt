@@ -1,7 +1,7 @@
 -- A segment whose checksum is put into its place, and the sum of the words before its options.
-use Rattle.std.proofs.Common.{◌≡◌, ℕ, ◌+◌, ◌*◌, ◌<◌, ◌≤◌, ◌^◌, List, [], ◌∷◌, ◌++◌, length, get_or, take, drop, refl, sym, ap, subst, ◌∙◌, append-nil, append_assoc, sum, arith}
+use Rattle.std.proofs.Common.{◌≡◌, ℕ, ◌+◌, ◌*◌, ◌<◌, ◌^◌, List, [], ◌∷◌, ◌++◌, length, get_or, take, drop, refl, sym, ap, subst, ◌∙◌, append-nil, append_assoc, sum, arith}
 use Rattle.std.specs.Int.{w16, w32, to_be_bytes}
-use Rattle.std.proofs.lemmas.List.{length-append, take_all, take-append-le, drop-append-le}
+use Rattle.std.proofs.lemmas.List.{length-append, take-append-le, drop-append-le}
 use Rattle.nb_wire.specs.Checksum.{words, checksum, HasSum}
 use Rattle.nb_wire.specs.declared.address.Ip4.{Ip4}
 use Rattle.nb_wire.proofs.BytesLaws.{IsBytes}
@@ -67,11 +67,6 @@ header_whole src dst fixed unsummed field twenty is field_is =
     ∙ ap (λ (x : List ℕ). checksum (tcp_pseudo_header src dst 20 ++ x)) without
     ∙ ap (λ (n : ℕ). checksum (tcp_pseudo_header src dst n ++ without_checksum fixed)) (sym twenty) in
     ap (λ (n : ℕ). take 16 fixed ++ to_be_bytes w16 n ++ drop 18 fixed) sum_is
-
--- a header in as many bytes as it has is all of them
-pub header_alone : (fixed first second : List ℕ) → fixed ≡ take 20 first → 20 ≤ length first → length first + length second ≡ 20 → fixed ≡ first ++ second
-header_alone fixed first [] is least twenty = is ∙ take_all 20 first (omega (arith, twenty)) ∙ sym (append-nil first)
-header_alone fixed first (x ∷ second) is least twenty = absurd (omega (arith, twenty, least))
 
 -- a header with its checksum, and what follows it
 pub segment_whole : (src dst : Ip4) (fixed options second first head : List ℕ) (field len : ℕ) → length fixed ≡ 20 → first ≡ fixed ++ options → head ≡ take 16 fixed ++ to_be_bytes w16 field ++ drop 18 fixed → len ≡ length (first ++ second) → field ≡ checksum ((tcp_pseudo_header src dst len ++ without_checksum fixed) ++ (options ++ second)) → head ++ (options ++ second) ≡ with_checksum src dst (first ++ second)

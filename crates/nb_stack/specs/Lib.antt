@@ -8,4 +8,5 @@ pub mod Resets
 pub mod Sizes
 pub mod Envelope
 pub mod Sends
+pub mod Acks
 pub mod Takes

@@ -5,6 +5,7 @@
 // `Stack`.
 #![tactic(auto)]
 
+mod acks;
 mod address;
 mod envelope;
 mod message;

@@ -17,10 +17,10 @@ use nb_tcpseg::Segment;
 use nb_wire::{Ip4, Mac, Out, sum_of_address, sum16_after};
 
 /// The bytes of a TCP header without options.
-const SEGMENT_HEAD: u16 = 20;
+pub(crate) const SEGMENT_HEAD: u16 = 20;
 
 /// The bytes of a UDP header.
-const DATAGRAM_HEAD: u16 = 8;
+pub(crate) const DATAGRAM_HEAD: u16 = 8;
 
 /// Between whom a packet goes: the interfaces that its frame names, and the two hosts.
 #[derive(Clone, Copy)]
@@ -109,57 +109,8 @@ fn put_other(
     }
 }
 
-// A transfer's acknowledgements have four bytes. They go by themselves, since sums and copies of a known
-// length cost less.
-#[inline(always)]
-fn put_datagram(
-    ends: Endpoints,
-    own_port: u16,
-    to_port: u16,
-    first: &[u8],
-    second: &[u8],
-    out: &mut Out<'_>,
-)
-    requires even { length first.now % 2 ≡ 0 }
-    requires short { length first.now + length second.now ≤ 1480 }
-    requires room { 1522 ≤ out.old.left }
-    ensures put { let d = sent_udp own_port to_port first.now second.now in
-        out.new.written
-        ≡ out.old.written ++ packet_between ends 17 (sent_datagram ends.from ends.to d) }
-    ensures size { let d = sent_udp own_port to_port first.now second.now in
-        IsFrameSize (length (packet_between ends 17 (sent_datagram ends.from ends.to d))) }
-{
-    match (first, second) {
-        ([], [a, b, c, d]) => {
-            put_any_datagram(ends, own_port, to_port, &[], &[*a, *b, *c, *d], out)
-        }
-        _ => put_long_datagram(ends, own_port, to_port, first, second, out),
-    }
-}
-
 #[inline(never)]
-fn put_long_datagram(
-    ends: Endpoints,
-    own_port: u16,
-    to_port: u16,
-    first: &[u8],
-    second: &[u8],
-    out: &mut Out<'_>,
-)
-    requires even { length first.now % 2 ≡ 0 }
-    requires short { length first.now + length second.now ≤ 1480 }
-    requires room { 1522 ≤ out.old.left }
-    ensures put { let d = sent_udp own_port to_port first.now second.now in
-        out.new.written
-        ≡ out.old.written ++ packet_between ends 17 (sent_datagram ends.from ends.to d) }
-    ensures size { let d = sent_udp own_port to_port first.now second.now in
-        IsFrameSize (length (packet_between ends 17 (sent_datagram ends.from ends.to d))) }
-{
-    put_any_datagram(ends, own_port, to_port, first, second, out)
-}
-
-#[inline(always)]
-fn put_any_datagram(
+fn put_datagram(
     ends: Endpoints,
     own_port: u16,
     to_port: u16,
@@ -186,7 +137,7 @@ fn put_any_datagram(
 
 // These heads and a datagram's as one array, which is stored at once.
 #[inline(always)]
-fn with_head(heads: [u8; 34], head: [u8; 8]) -> [u8; 42]
+pub(crate) fn with_head(heads: [u8; 34], head: [u8; 8]) -> [u8; 42]
     ensures { result ≡ heads ++ head }
 {
     let mut both = [0; 42];
@@ -219,61 +170,9 @@ pub(crate) fn put_echo(
     put_packet(ends, PROTO_ICMP, &head, first, second, out)
 }
 
-// Puts the segment that these bytes are but for its checksum. Its header lies in `first`. A header alone,
-// as most acknowledgements are, goes by itself, since sums and copies of a known length cost less.
-#[inline(always)]
-fn put_segment(ends: Endpoints, first: &[u8], second: &[u8], out: &mut Out<'_>)
-    requires whole { 20 ≤ length first.now }
-    requires even { length first.now % 2 ≡ 0 }
-    requires short { length first.now + length second.now ≤ 1480 }
-    requires room { 1522 ≤ out.old.left }
-    ensures put { let segment = with_checksum ends.from ends.to (first.now ++ second.now) in
-        out.new.written ≡ out.old.written ++ packet_between ends 6 segment }
-    ensures size { let segment = with_checksum ends.from ends.to (first.now ++ second.now) in
-        IsFrameSize (length (packet_between ends 6 segment)) }
-{
-    match first.first_chunk::<20>() {
-        Some(fixed) if first.len() + second.len() == 20 => put_short_segment(ends, *fixed, out),
-        _ => put_long_segment(ends, first, second, out),
-    }
-}
-
-#[inline(always)]
-fn put_short_segment(ends: Endpoints, fixed: [u8; 20], out: &mut Out<'_>)
-    requires room { 1522 ≤ out.old.left }
-    ensures put { out.new.written
-        ≡ out.old.written ++ packet_between ends 6 (with_checksum ends.from ends.to fixed) }
-    ensures size { IsFrameSize
-        (length (packet_between ends 6 (with_checksum ends.from ends.to fixed))) }
-{
-    let head = with_sum(ends.from, ends.to, fixed);
-    let heads = frame_heads(ends, PROTO_TCP, SEGMENT_HEAD);
-    put(&with_header(heads, head), out);
-}
-
-// The header of a segment that is nothing else, with its checksum in its place.
-#[inline(always)]
-fn with_sum(src: Ip4, dst: Ip4, fixed: [u8; 20]) -> [u8; 20]
-    ensures { result ≡ with_checksum src dst fixed }
-{
-    let before = pseudo_sum(src, dst, SEGMENT_HEAD);
-    let sum = sum16_after(before, &header_with(&fixed, 0), &[]);
-    header_with(&fixed, sum)
-}
-
-// These heads and a segment's as one array, which is stored at once.
-#[inline(always)]
-fn with_header(heads: [u8; 34], header: [u8; 20]) -> [u8; 54]
-    ensures { result ≡ heads ++ header }
-{
-    let mut both = [0; 54];
-    *both.last_chunk_mut().unwrap() = header;
-    *both.first_chunk_mut().unwrap() = heads;
-    both
-}
-
+// Puts the segment that these bytes are but for its checksum. Its header lies in `first`.
 #[inline(never)]
-fn put_long_segment(ends: Endpoints, first: &[u8], second: &[u8], out: &mut Out<'_>)
+fn put_segment(ends: Endpoints, first: &[u8], second: &[u8], out: &mut Out<'_>)
     requires whole { 20 ≤ length first.now }
     requires even { length first.now % 2 ≡ 0 }
     requires short { length first.now + length second.now ≤ 1480 }
@@ -342,7 +241,7 @@ fn segment_sum(src: Ip4, dst: Ip4, len: u16, fixed: &[u8; 20]) -> u32
 
 // The sum of the words of the pseudo-header, which the checksum covers before the segment.
 #[inline(always)]
-fn pseudo_sum(src: Ip4, dst: Ip4, len: u16) -> u32
+pub(crate) fn pseudo_sum(src: Ip4, dst: Ip4, len: u16) -> u32
     ensures sum { HasSum (tcp_pseudo_header src dst len) result }
     ensures room { result < 2 ^ 20 }
 {
@@ -358,7 +257,7 @@ fn word(high: u8, low: u8) -> u32
 
 // The header with this checksum in its place.
 #[inline(always)]
-fn header_with(fixed: &[u8; 20], checksum: u16) -> [u8; 20]
+pub(crate) fn header_with(fixed: &[u8; 20], checksum: u16) -> [u8; 20]
     ensures { result ≡ take 16 fixed.now ++ to_be_bytes w16 checksum ++ drop 18 fixed.now }
 {
     let [c0, c1] = checksum.to_be_bytes();
@@ -409,7 +308,7 @@ fn put_heads(ends: Endpoints, proto: u8, len: u16, out: &mut Out<'_>)
 
 // The heads of a frame and of the packet in it, whose body has `len` bytes.
 #[inline(always)]
-fn frame_heads(ends: Endpoints, proto: u8, len: u16) -> [u8; 34]
+pub(crate) fn frame_heads(ends: Endpoints, proto: u8, len: u16) -> [u8; 34]
     requires { len ≤ 1488 }
     ensures put { (body : List ℕ) → length body ≡ len
         → result ++ body ≡ packet_between ends proto body }

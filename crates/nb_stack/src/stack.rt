@@ -20,10 +20,10 @@ use std::marker::Model;
 /// The link and network layer of a client: its addresses, its neighbours and its ports.
 #[derive(Drop)]
 pub struct Stack {
-    mac: Mac,
+    pub(crate) mac: Mac,
     address: Option<Addr>,
     up: bool,
-    near: Neighbours,
+    pub(crate) near: Neighbours,
     ports: Ports,
 }
 
@@ -295,7 +295,7 @@ impl Stack {
     }
 
     #[inline(always)]
-    fn way(&self, envelope: &Envelope) -> Way
+    pub(crate) fn way(&self, envelope: &Envelope) -> Way
         ensures { (first second : List ℕ)
             → result ≡ way_of self.now (message_of envelope.now first second) }
     {

@@ -1,15 +1,13 @@
-use Rattle.std.proofs.Common.{◌≡◌, true, List, ℕ, [], ◌∷◌, ◌++◌, take, ◌∙◌, ap}
+use Rattle.std.proofs.Common.{◌≡◌, true, List, ℕ, ◌++◌, take, ◌∙◌, ap}
 use Rattle.std.proofs.lemmas.List.{take-append-drop}
 use Rattle.nb_terms.specs.declared.acts.SendTo.{SendTo}
-use Rattle.nb_defs.specs.Records.{sent}
 use Rattle.nb_stack.specs.declared.taken.Fate.{Fate}
 use Rattle.nb_stack.specs.Envelope.{message_of}
 use Rattle.nb_stack.specs.Sends.{put_on, way_of, fate_of}
-use Rattle.nb_machine.specs.Sendings.{has_route, try_records}
+use Rattle.nb_machine.specs.Sendings.{has_route}
 use Rattle.nb_teller.specs.Speakers.{datagram_of}
-use Rattle.nb_runner.proofs.Puts.{Puts-one, Puts-outs}
 use Rattle.nb_teller.proofs.Sendings.{on_its_way}
-use Rattle.nb_teller.proofs.put.put_datagram.Goals as goal
+use Rattle.nb_teller.proofs.put.put_any.Goals as goal
 
 pub returns-clause-records : goal.returns-clause-records
 returns-clause-records c =
@@ -26,4 +24,4 @@ returns-clause-records c =
     let same : c.written.result.now ≡ frame_by message =
     c.written.ensures ∙ c.send_parts.ensures.put ∙ ap (λ t. t ++ frame_by (message_of c.envelope.result first second)) c.out-out.ensures.empty ∙ ap frame_by is in
     let goes : has_route net message ≡ true = on_its_way (fate_by message) (λ e. c.in_default.not-NoRoute (c.send_parts.ensures.fate ∙ ap fate_by is ∙ e)) in
-    rw (goes, ← same) (Puts-outs (try_records c.args.who.now.number c.args.tried) (sent c.written.result.now ∷ []) c.put_try.ensures (Puts-one (sent c.written.result.now) c.put.ensures))
+    rw (goes, ← same) c.put_frame.ensures

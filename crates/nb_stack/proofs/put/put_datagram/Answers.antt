@@ -3,7 +3,7 @@ use Rattle.std.proofs.lemmas.List.{length-append}
 use Rattle.nb_stack.specs.Sends.{packet_between}
 use Rattle.nb_stack.specs.Sizes.{IsFrameSize}
 use Rattle.nb_stack.proofs.PutLaws.{head_between}
-use Rattle.nb_stack.proofs.put.put_any_datagram.Goals as goal
+use Rattle.nb_stack.proofs.put.put_datagram.Goals as goal
 
 body_len : (c : goal.After-put-3) → length (c.head-head.result ++ (c.args.first.now ++ c.args.second.now)) ≡ 8 + (length c.args.first.now + length c.args.second.now)
 body_len c =

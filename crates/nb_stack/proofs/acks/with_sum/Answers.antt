@@ -1,7 +1,7 @@
 use Rattle.std.proofs.Common.{◌≡◌, length, ◌∙◌, rules}
 use Rattle.nb_tcpseg.specs.SegmentText.{tcp_pseudo_header}
 use Rattle.nb_stack.proofs.SegmentLaws.{header_whole}
-use Rattle.nb_stack.proofs.put.with_sum.Goals as goal
+use Rattle.nb_stack.proofs.acks.with_sum.Goals as goal
 
 pub returns : goal.returns
 returns c =
