@@ -28,7 +28,7 @@ use Rattle.nb_conns.specs.declared.tcp.Tcp.{Tcp}
 use Rattle.nb_conns.specs.StreamTags.{stream_tag_number}
 use Rattle.nb_conns.specs.ConnAsks.{conn_ask_in, link_of}
 use Rattle.nb_conns.specs.ConnLoads.{Carrier, window_of_conn, lent_bytes}
-use Rattle.nb_conns.specs.ConnEffects.{ConnEffects, SaysNothing, TookAll, ups_for, closes_for}
+use Rattle.nb_conns.specs.ConnEffects.{ConnEffects, SaysNothing, TookAll, received_says, ups_for, closes_for}
 
 -- How far a connection is: it wasn't asked for yet; it was asked for so, at a time, these calls were made of its core,
 -- and this of it is lent; it has ended after such calls; or it ended before it was asked for.
@@ -146,6 +146,10 @@ abbrev pub with_lending : List ConnEntry → Option Lent → List ConnEntry
 with_lending calls None = calls
 with_lending calls (Some l) = calls ++ conn_entry (lends_out (lent_bytes l)) (only_ready false) ∷ []
 
+-- bytes that were lent and came back at once are two calls
+abbrev pub with_passing : List ConnEntry → List ℕ → List ConnEntry
+with_passing calls bytes = calls ++ conn_entry (lends_out bytes) (only_ready false) ∷ conn_entry comes_back (only_ready false) ∷ []
+
 -- After these calls a window is lent exactly where bytes wait: those below the place of the last advance go up of it.
 abbrev pub LendsSo : List ConnEntry → Bool → Option Lent → Type 0
 LendsSo calls false None = Unit {0}
@@ -167,6 +171,11 @@ pub data Converses {N L : Type 0} (k : Carrier L) : Dialogue → NodeEntry N L �
       → comes_from a slot m ≡ true → IsLaidOut m.bytes s → LendsSo (with_segment_call calls m.rec s now acts) acts.ready out
       → ConnEffects k m acts (ups_for m.rec out (comes_to_end a calls (with_segment_call calls m.rec s now acts))) (closes_for acts.over) (in_list out) fx → TookAll m fx
       → Converses k (talking a start calls None) (up slot m now true fx) (talked_on a start (with_lending (with_segment_call calls m.rec s now acts) out) out acts.over)
+  -- a segment of the peer in order, while nothing is lent and nothing waits: its body goes up as a range of the message, so nothing is lent after it
+  hands_on : (a : ConnAsk) (start : ℕ) (calls : List ConnEntry) (slot : ℕ) (m : Said) (now : ℕ) (fx : Fx N L) (s : SegmentParts) (acts : Acts)
+      → comes_from a slot m ≡ true → IsLaidOut m.bytes s → acts.over ≡ None
+      → ConnEffects k m acts (received_says m.rec s.body ∷ []) [] [] fx → TookAll m fx
+      → Converses k (talking a start calls None) (up slot m now true fx) (talking a start (with_passing (with_segment_call calls m.rec s now acts) s.body) None)
   -- bytes of the peer that are no segment
   takes_none : (a : ConnAsk) (start : ℕ) (calls : List ConnEntry) (out : Option Lent) (slot : ℕ) (m : Said) (now : ℕ) (fx : Fx N L)
       → ((s : SegmentParts) → IsLaidOut m.bytes s → ⊥) → SaysNothing fx → fx.closes.items ≡ [] → TookAll m fx → Converses k (talking a start calls out) (up slot m now true fx) (talking a start calls out)
