@@ -1,10 +1,11 @@
-ghost use Rattle.std.specs.Prelude.{◌≡◌, ◌≤◌, None, Some, length, IfOk};
+ghost use Rattle.std.specs.Prelude.{◌≡◌, ◌≤◌, None, Some, length, IfOk, OnOk};
 ghost use Rattle.nb_ledger.specs.declared.event.Way.TheVariants as way;
 ghost use Rattle.nb_machine.specs.CommandRecords.{no_route};
 ghost use Rattle.nb_machine.specs.Lives.{Live, OpenInput, task, time as time_comes};
 ghost use Rattle.nb_open.specs.Exchanges.{Exchanges, IsInput};
 ghost use Rattle.nb_open.specs.Objects.{AreObjectsChained, AreObjectsShut, AreDriveObjects};
 ghost use Rattle.nb_open.specs.Open.{IsOpenOf, LivesSome};
+ghost use Rattle.nb_teller.specs.Spelling.{IsWholeSpelling};
 ghost use Rattle.nb_open.specs.Settling.{LetsObjectsGo, MaySettle, SettlesOpen, told_so_far};
 
 use crate::objects::Brought;
@@ -59,7 +60,7 @@ impl Open {
         let _port = arrival.port;
         self.objects.message(graph, rec, arrival, now, &mut out);
         let ended = self.settle(alloc, graph, now, &mut out)?;
-        let told = out.finish()?;
+        let told = out.into_told();
         let desk = Desk {
             room,
             made,
@@ -91,7 +92,7 @@ impl Open {
         let mut out = Teller::over(net, &self.speaker, told, &mut room);
         self.objects.time(graph, now, &mut out);
         let ended = self.settle(alloc, graph, now, &mut out)?;
-        let told = out.finish()?;
+        let told = out.into_told();
         let desk = Desk {
             room,
             made,
@@ -128,7 +129,7 @@ impl Open {
         let mut out = Teller::over(net, &self.speaker, told, &mut room);
         self.objects.read(graph, rec, block, count, now, &mut out);
         let ended = self.settle(alloc, graph, now, &mut out)?;
-        let told = out.finish()?;
+        let told = out.into_told();
         let desk = Desk {
             room,
             made,
@@ -149,8 +150,9 @@ impl Open {
     ) -> Result<Option<KeptEnded>, NoMemory>
         requires chained { AreObjectsChained graph.old self.now.objects }
         requires may { MaySettle self.now out.old.told.value graph.old }
-        ensures { IfOk result (SettlesOpen self.now out.old.told.value graph.old graph.new (told_so_far out.old)
+        ensures settles { IfOk result (SettlesOpen self.now out.old.told.value graph.old graph.new (told_so_far out.old)
             (told_so_far out.new)) }
+        ensures whole { OnOk result (IsWholeSpelling out.new.told.value) }
     {
         match out.told.first_close()? {
             Some(cause) => Ok(Some(self.end(alloc, graph, cause, out)?)),
@@ -176,9 +178,11 @@ impl Open {
         requires shut { AreObjectsShut self.now.objects graph.old }
         ensures cause { IfOk result (λ e. e.cause ≡ cause) }
         ensures lets { IfOk result (λ e. LetsObjectsGo self.now.objects e graph.old graph.new (told_so_far out.old) (told_so_far out.new)) }
+        ensures whole { OnOk result (IsWholeSpelling out.new.told.value) }
     {
         let Brought { body, moved } = self.objects.collect(alloc, graph)?;
         self.objects.release(graph, out);
+        out.check()?;
         let ended = KeptEnded::of(alloc, Ended { cause, body, moved })?;
         Ok(ended)
     }

@@ -164,6 +164,7 @@ impl Spelled {
     }
 
     /// The open of this number has come to this place.
+    #[inline(always)]
     pub fn put_advance(&mut self, number: u16, place: u32)
         ensures closed { self.new.closed ≡ self.old.closed }
         ensures found { FindsNothing self.old self.new }

@@ -88,6 +88,14 @@ impl<'a> Teller<'a> {
         }
     }
 
+    /// What was told.
+    #[inline(always)]
+    pub fn into_told(self) -> Box<Spelled>
+        ensures { result.value ≡ self.entry.told.value }
+    {
+        self.told
+    }
+
     /// What was told. An error where memory ran out, in the graph or here.
     #[inline(always)]
     pub fn finish(self) -> Result<Box<Spelled>, NoMemory>
@@ -188,6 +196,58 @@ fn send_answer(told: &mut Spelled, msg: &Msg<'_>)
     }
 }
 
+/// A place is told.
+#[inline(always)]
+fn send_place(told: &mut Spelled, who: &Speaker, msg: &Msg<'_>)
+    requires tag { msg.now.tag ≡ tag_number tag.Advance }
+    ensures { (net : Client) → SpellsMessage net who.now told.old told.new msg.now.tag msg.now.a msg.now.b
+        (msg.now.first.now ++ msg.now.second.now) }
+{
+    told.put_advance(who.number, msg.a);
+}
+
+/// A message leaves that isn't a place. Most of these are datagrams.
+#[inline(always)]
+fn send_more(told: &mut Spelled, net: &Stack, who: &Speaker, room: &mut Room, msg: &Msg<'_>)
+    ensures { SpellsMessage net.now who.now told.old told.new msg.now.tag msg.now.a msg.now.b
+        (msg.now.first.now ++ msg.now.second.now) }
+{
+    if msg.tag == u8::from(Tag::Datagram) {
+        send_datagram(told, net, who, room, None, msg);
+    } else {
+        send_rare(told, net, who, room, msg);
+    }
+}
+
+/// A message of any kind leaves. Not inlined, so that places and datagrams cost little.
+#[inline(never)]
+fn send_rare(told: &mut Spelled, net: &Stack, who: &Speaker, room: &mut Room, msg: &Msg<'_>)
+    ensures { SpellsMessage net.now who.now told.old told.new msg.now.tag msg.now.a msg.now.b
+        (msg.now.first.now ++ msg.now.second.now) }
+{
+    match Tag::try_from(msg.tag) {
+        Ok(Tag::Advance) => send_place(told, who, msg),
+        Ok(Tag::Datagram) => send_datagram(told, net, who, room, None, msg),
+        Ok(Tag::Try) => send_try(told, net, who, room, msg),
+        Ok(Tag::Bytes) => send_bytes(told, msg),
+        Ok(Tag::Address) => send_address(told, msg),
+        Err(_) if msg.tag == u8::from(StreamTag::TwoSegments) => {
+            send_two(told, net, who, room, msg)
+        }
+        Err(_) => send_answer(told, msg),
+        Ok(Tag::Begin) => told.lose(),
+    }
+}
+
+/// An address is told.
+fn send_address(told: &mut Spelled, msg: &Msg<'_>)
+    requires tag { msg.now.tag ≡ tag_number tag.Address }
+    ensures { (net : Client) (who : TheSpeaker) → SpellsMessage net who told.old told.new msg.now.tag msg.now.a msg.now.b
+        (msg.now.first.now ++ msg.now.second.now) }
+{
+    told.put_address(Ip4(msg.a));
+}
+
 impl<'a> Outside for Teller<'a> {
     ghost events = { λ t. heard_by t.net.now t.who.now t.told.value };
 
@@ -197,18 +257,11 @@ impl<'a> Outside for Teller<'a> {
 
     #[inline(always)]
     fn send(&mut self, _from: Port, msg: &Msg<'_>) {
-        let (net, who) = (self.net, self.who);
-        match Tag::try_from(msg.tag) {
-            Ok(Tag::Advance) => self.told.put_advance(who.number, msg.a),
-            Ok(Tag::Datagram) => send_datagram(&mut self.told, net, who, self.room, None, msg),
-            Ok(Tag::Try) => send_try(&mut self.told, net, who, self.room, msg),
-            Ok(Tag::Bytes) => send_bytes(&mut self.told, msg),
-            Ok(Tag::Address) => self.told.put_address(Ip4(msg.a)),
-            Err(_) if msg.tag == u8::from(StreamTag::TwoSegments) => {
-                send_two(&mut self.told, net, who, self.room, msg)
-            }
-            Err(_) => send_answer(&mut self.told, msg),
-            Ok(Tag::Begin) => self.told.lose(),
+        if msg.tag == u8::from(Tag::Advance) {
+            send_place(&mut self.told, self.who, msg);
+        } else {
+            let copy = *msg;
+            send_more(&mut self.told, self.net, self.who, self.room, &copy);
         }
     }
 }

@@ -79,10 +79,10 @@ impl Trail {
         self.forget_used();
         let mut rest = piece;
         for _ in 0..piece.len() {
-            rest = match self.pass_whole(rest) {
-                Some(after) => after,
-                None => self.pass_part(rest),
-            };
+            if self.come == 0 {
+                rest = self.pass_whole(rest);
+            }
+            rest = self.pass_part(rest);
             if rest.is_empty() {
                 return;
             }
@@ -105,16 +105,27 @@ impl Trail {
         self.heads.clear();
     }
 
-    /// Passes the record that stands at the start, if it is all there and none is at hand.
-    #[inline(always)]
-    fn pass_whole<'a>(&mut self, bytes: &'a [u8]) -> Option<&'a [u8]> {
-        let head = bytes.first_chunk::<8>()?;
-        let len = total(head);
-        if self.come > 0 || len < KEPT || bytes.len() < len {
-            return None;
+    /// Passes the records that stand at the start and are all there, up to one that is shorter than what is kept. None is
+    /// at hand.
+    fn pass_whole<'a>(&mut self, bytes: &'a [u8]) -> &'a [u8] {
+        let mut rest = bytes;
+        for _ in 0..bytes.len() {
+            let Some(head) = rest.first_chunk::<8>() else {
+                break;
+            };
+            let len = total(head);
+            let Some(after) = rest.get(len..) else {
+                break;
+            };
+            if len < KEPT {
+                break;
+            }
+            let _ = self.heads.push(*head);
+            rest = after;
         }
-        self.end_record(*head, len);
-        Some(&bytes[len..])
+        let passed = bytes.len().saturating_sub(rest.len());
+        self.passed = self.passed.saturating_add(passed as u64);
+        rest
     }
 
     /// Passes bytes of the record at hand: those of its length field, others that are kept, or the rest.

@@ -9,4 +9,4 @@ settle-requires-clause-may c =
 pub returns : goal.returns
 returns c =
     asks_so c.args.self.now c.args.graph.now c.read.new.graph c.args.net.now c.over-out.result c.read.new.out c.over-out.ensures.net c.over-out.ensures.who c.over-out.ensures.blank
-    c.args.rec c.args.block c.args.count c.args.now c.read.ensures.does c.settle.new.graph c.settle.new.out c.in_ok-told.told.value c.in_ok-ended.ended c.read.ensures.on c.in_ok-ended.ensures c.in_ok-told.ensures.told c.in_ok-told.ensures.whole
+    c.args.rec c.args.block c.args.count c.args.now c.read.ensures.does c.settle.new.graph c.settle.new.out c.into_told-told.result.value c.in_ok-ended.ended c.read.ensures.on c.in_ok-ended.ensures.settles c.into_told-told.ensures c.in_ok-ended.ensures.whole
