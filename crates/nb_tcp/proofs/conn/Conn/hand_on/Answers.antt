@@ -1,0 +1,2 @@
+use Rattle.nb_tcp.proofs.conn.Conn.hand_on.Goals as goal
+
