@@ -1,10 +1,11 @@
 -- A connection goes on to stand for its calls when a segment's body is handed on.
 use Rattle.std.proofs.Common.{◌≡◌, ◌≤◌, ◌<◌, ℕ, ◌+◌, ◌-◌, ◌^◌, ◌==◌, ◌&&◌, ◌||◌, not, nat_lt, nat_le, List, [], ◌∷◌, ◌++◌, length, take, drop, get_or, Option, Some, None, Bool, true, false, refl, ap, ◌∙◌, sym, subst, arith, append_assoc}
-use Rattle.std.specs.Option.{option_or, is_some}
+use Rattle.std.specs.Prelude.{MatchBool}
+use Rattle.std.specs.Option.{option_or, unwrap_or, is_some}
 use Rattle.std.proofs.lemmas.Bool.{le-ltb, ne_eqb, false≢true}
 use Rattle.std.proofs.lemmas.Bool.Decides.{nat_tests}
 use Rattle.std.proofs.lemmas.List.{append-nil, ext_get_or, length-drop, take-append-drop, take_all}
-use Rattle.std.proofs.lemmas.Option.{slice_get-get_or, some-injective}
+use Rattle.std.proofs.lemmas.Option.{slice_get-get_or}
 use Rattle.nb_terms.specs.declared.acts.Acts.{Acts}
 use Rattle.nb_streams.specs.Segments.{Incoming, Arrival}
 use Rattle.nb_streams.specs.Streams.{HeldBytes, front, next, has_ended, is_stop}
@@ -136,14 +137,14 @@ module _ (v : Variables) (h : HeldBytes) (s : Incoming) (w : HeldWindow) (is : H
       up : GoesUp (with_bytes w s.body) (next (held_then v h s)) (drop w.base (front (held_then v h s)))
       up = goes_up (with_bytes w s.body) (held_then v h s) mid_stands
 
+      back : (a b k : ℕ) → a ≡ b → (a + k) - b ≡ k
+      back a b k e = omega (arith, e)
+
       each : (k : ℕ) → k < length (drop w.base (front (held_then v h s))) → get_or (drop w.base (front (held_then v h s))) k 0 ≡ get_or s.body k 0
-      each k l = some-injective
+      each k l = ap (λ (o : Option ℕ). unwrap_or o 0)
           (sym (up.each k l)
           ∙ with_byte w s.body room (w.base + k) (omega (arith, is.front)) (omega (arith, is.front, l, long))
           ∙ ap (λ (n : ℕ). Some (get_or s.body n 0)) (back w.base w.next k is.front))
-
-      back : (a b k : ℕ) → a ≡ b → (a + k) - b ≡ k
-      back a b k e = omega (arith, e)
 
   -- all that has come was delivered with it
   front_is : (bytes : List ℕ) → bytes ≡ take w.base (front h) → bytes ++ s.body ≡ front (held_then v h s)
@@ -201,7 +202,7 @@ left_even : (w x : HeldWindow) (n : ℕ) → w.base ≡ w.next → MovesOn w n x
 left_even w x n e m = omega (arith, e, m.base, m.next)
 
 module _ (l : Link) (start : ℕ) (old new : Conn) (h : List ConnEntry) (m : Arrival) (now : ℕ) (acts : Acts) (was : ConnStands l start old h) (here : IsDelivered old.held) (short : length m.segment.body < 2 ^ 16) (k : HandsOn old m.segment now new acts) where
-  first : List ConnEntry
+  abbrev first : List ConnEntry
   first = h ++ conn_entry (calls_in (segment_came m now)) acts ∷ []
 
   flows : FlowsSo k.variables old.given old.unacked.items (phase_of l h)
@@ -238,7 +239,7 @@ module _ (l : Link) (start : ℕ) (old new : Conn) (h : List ConnEntry) (m : Arr
   means = subst (λ (d : Verdict). Means (is_taken (flow_of k.variables flows.held flows.text) m.segment) (is_reset (flow_of k.variables flows.held flows.text) m.segment) (is_answered (flow_of k.variables flows.held flows.text) m.segment) d)
       (next_taken k.variables old.given m.segment said) (verdict_means k.variables flows.held flows.text m.segment flows.stands.next)
 
-  received : Variables
+  abbrev received : Variables
   received = record k.variables { next = k.variables.next + length m.segment.body }
 
   takes : TakesBut old k.variables m.rec m.segment now new acts received
@@ -271,14 +272,14 @@ module _ (l : Link) (start : ℕ) (old new : Conn) (h : List ConnEntry) (m : Arr
   whole : delivered h ++ m.segment.body ≡ front (held_then k.variables flows.held m.segment)
   whole = front_is k.variables flows.held m.segment (window k.was) hands (delivered h) held_was.2
 
-  second : List ConnEntry
+  abbrev second : List ConnEntry
   second = first ++ conn_entry (lends_out m.segment.body) (only_ready false) ∷ []
 
   lend_but : StandsBut l start new second
   lend_but = stands_on l start new first (lends_out m.segment.body) segment_but refl
       (ap (λ xs. xs ++ m.segment.body) first_delivered ∙ whole ∙ ap front (sym first_held)) refl
 
-  third : List ConnEntry
+  abbrev third : List ConnEntry
   third = second ++ conn_entry comes_back (only_ready false) ∷ []
 
   back_but : StandsBut l start new third
@@ -340,3 +341,14 @@ hands_delivered old new s now acts here k = (
 pub delivered_here : (o : Option Held) → IsDelivered o → is_some o ≡ true
 delivered_here None here = absurd here
 delivered_here (Some w) here = refl
+
+pub as_before : (c : Conn) (st : ConnState) (o : Option Held) → c.state ≡ st → c.held ≡ o → record c { state = st; held = o } ≡ c
+as_before c st o state held = ap (λ (x : ConnState). record c { state = x; held = o }) (sym state) ∙ ap (λ (x : Option Held). record c { held = x }) (sym held)
+
+pub on_true : (b : Bool) {A B : Type 0} (C : Type 0) → (A → B) → MatchBool b A C → MatchBool b B C
+on_true true C f a = f a
+on_true false C f c = c
+
+pub when_true : (b : Bool) {A : Type 0} (C : Type 0) → b ≡ true → MatchBool b A C → A
+when_true true C e a = a
+when_true false C e c = absurd (false≢true e)

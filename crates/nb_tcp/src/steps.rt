@@ -142,11 +142,19 @@ impl Conn {
         requires body { length segment.now.body.now < 2 ^ 16 }
         ensures { MatchBool result (HandsOn self.old (incoming segment.now) now self.new acts.new) (self.new ≡ self.old) }
     {
-        let (ConnState::Established(variables), Some(held)) = (&mut self.state, &mut self.held) else {
+        let ConnState::Established(variables) = &mut self.state else {
             return false;
         };
-        let fits = !segment.body.is_empty() && variables.is_next(segment, self.given);
-        if !(fits && is_bare_at(held, variables.next)) {
+        let Some(held) = &mut self.held else {
+            return false;
+        };
+        if segment.body.is_empty() {
+            return false;
+        }
+        if !variables.is_next(segment, self.given) {
+            return false;
+        }
+        if !is_bare_at(held, variables.next) {
             return false;
         }
         let before = variables.next;
