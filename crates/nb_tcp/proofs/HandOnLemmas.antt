@@ -1,8 +1,8 @@
 -- A connection goes on to stand for its calls when a segment's body is handed on.
-use Rattle.std.proofs.Common.{◌≡◌, ◌≤◌, ◌<◌, ℕ, ◌+◌, ◌-◌, ◌^◌, ◌==◌, ◌&&◌, ◌||◌, not, nat_lt, nat_le, List, [], ◌∷◌, ◌++◌, length, take, drop, get_or, Option, Some, None, Bool, true, false, refl, ap, ◌∙◌, sym, subst, arith, append_assoc}
+use Rattle.std.proofs.Common.{◌≡◌, ◌≤◌, ◌<◌, ℕ, ◌+◌, ◌-◌, ◌^◌, ◌&&◌, ◌||◌, nat_lt, nat_le, List, [], ◌∷◌, ◌++◌, length, take, drop, get_or, Option, Some, None, Bool, true, false, refl, ap, ◌∙◌, sym, subst, arith, append_assoc}
 use Rattle.std.specs.Prelude.{MatchBool}
 use Rattle.std.specs.Option.{option_or, unwrap_or, is_some}
-use Rattle.std.proofs.lemmas.Bool.{le-ltb, ne_eqb, false≢true}
+use Rattle.std.proofs.lemmas.Bool.{le-ltb, false≢true}
 use Rattle.std.proofs.lemmas.Bool.Decides.{nat_tests}
 use Rattle.std.proofs.lemmas.List.{append-nil, ext_get_or, length-drop, take-append-drop, take_all}
 use Rattle.std.proofs.lemmas.Option.{slice_get-get_or}
@@ -10,9 +10,8 @@ use Rattle.nb_terms.specs.declared.acts.Acts.{Acts}
 use Rattle.nb_streams.specs.Segments.{Incoming, Arrival}
 use Rattle.nb_streams.specs.Streams.{HeldBytes, front, next, has_ended, is_stop}
 use Rattle.nb_streams.specs.Flows.{segment_came, conn_phase, held_in, is_taken, held_after}
-use Rattle.nb_streams.specs.Sending.{is_reset, is_answered, brings_more}
+use Rattle.nb_streams.specs.Sending.{is_reset, is_answered}
 use Rattle.nb_streams.specs.Trying.{timer_after}
-use Rattle.nb_streams.proofs.StreamLaws.{either}
 use Rattle.nb_reasm.specs.declared.held.Held.{Held}
 use Rattle.nb_reasm.specs.HeldWindows.{window}
 use Rattle.nb_reasm.specs.Windows.{HeldWindow, NextIsLeast, window_byte}
@@ -27,7 +26,7 @@ use Rattle.nb_tcp.specs.declared.variables.Verdict.TheVariants as verdict
 use Rattle.nb_tcp.specs.InOrder.{ComesInOrder}
 use Rattle.nb_tcp.specs.Numbers.{flow_of, with_stop, with_next, piece_place}
 use Rattle.nb_tcp.specs.Receiving.{PutInto, PassesOver, IsBareAt, MovesOn}
-use Rattle.nb_tcp.specs.Replies.{only_ready, grown_acts, acknowledging, has_finished, has_come_all}
+use Rattle.nb_tcp.specs.Replies.{only_ready, has_finished, has_come_all}
 use Rattle.nb_tcp.specs.SegmentSteps.{HandsOn}
 use Rattle.nb_tcp.specs.ConnHistory.{ConnCall, calls_in, lends_out, comes_back, ConnEntry, conn_entry, tcp_calls_of, tcp_calls, delivered, is_lent_after, ends_by, has_ended_after}
 use Rattle.nb_tcp.specs.ConnPromises.{IsAskedSo, AsksAsPromised}
