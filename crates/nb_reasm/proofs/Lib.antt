@@ -16,3 +16,4 @@ pub mod StepLemmas
 pub mod AppendLemmas
 pub mod WindowLemmas
 pub mod FrontLemmas
+pub mod PassLemmas

@@ -21,7 +21,7 @@ next_is_least r is = (is.joinable.from, is.joinable.to, none, λ p h l. ap (λ (
         (λ t. held_free r r.next (omega arith) (is.here (ltb-true r.next (r.base + capacity r) t)))
         (λ f. held_above r r.next (omega arith) (ltb-false r.next (r.base + capacity r) f))
 
-byte_at-append : (p : ℕ) (xs ys : List (ℕ × ℕ)) → byte_at p (xs ++ ys) ≡ option_or (byte_at p xs) (byte_at p ys)
+pub byte_at-append : (p : ℕ) (xs ys : List (ℕ × ℕ)) → byte_at p (xs ++ ys) ≡ option_or (byte_at p xs) (byte_at p ys)
 byte_at-append p [] ys = refl
 byte_at-append p (q ∷ xs) ys = ap (λ (o : Option ℕ). if_here (q.0 == p) q.1 o) (byte_at-append p xs ys) ∙ first (q.0 == p) q.1 (byte_at p xs) (byte_at p ys)
   where
@@ -46,7 +46,7 @@ one_later w pos b bytes p apart = either (is_inside w p && nat_le pos p)
     offset : pos ≤ p → suc (p - (pos + 1)) ≡ p - pos
     offset h = omega (arith, h, apart)
 
-pairs_byte : (w : HeldWindow) (pos : ℕ) (bytes : List ℕ) (p : ℕ) → byte_at p (window_pairs w pos bytes) ≡ window_byte w pos bytes p
+pub pairs_byte : (w : HeldWindow) (pos : ℕ) (bytes : List ℕ) (p : ℕ) → byte_at p (window_pairs w pos bytes) ≡ window_byte w pos bytes p
 pairs_byte w pos [] p = sym (nothing_left w pos p)
 pairs_byte w pos (b ∷ bytes) p = either (is_inside w pos)
     (λ t. ap (λ (c : Bool). byte_at p (cond c ((pos, b) ∷ window_pairs w (pos + 1) bytes) (window_pairs w (pos + 1) bytes))) t ∙ either (pos == p)

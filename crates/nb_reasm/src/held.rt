@@ -1,6 +1,6 @@
 //! The held window.
 
-ghost use Rattle.std.specs.Prelude.{◌≡◌, ℕ, List, None, Some, ◌+◌, ◌-◌, ◌^◌, ◌<◌, ◌≤◌, ◌++◌, length, slice_index, IfOk};
+ghost use Rattle.std.specs.Prelude.{◌≡◌, ℕ, List, None, Some, ◌+◌, ◌-◌, ◌^◌, ◌<◌, ◌≤◌, ◌++◌, length, slice_index, IfOk, true};
 ghost use Rattle.std.specs.Option.{option_or};
 ghost use Rattle.nb_reasm.specs.Rings.{IsRing};
 
@@ -87,6 +87,32 @@ impl Held {
         ensures stands { (pairs : List (ℕ × ℕ)) → HoldsPairs (window self.old) pairs → HoldsPairs (window self.new) pairs }
     {
         self.ring.advance(n);
+    }
+
+    /// No place from `next` on is held. It may say no where that is so.
+    #[inline(always)]
+    pub fn holds_none_later(&self) -> bool
+        ensures { result ≡ true → (p : ℕ) → (window self.now).next ≤ p → (window self.now).at p ≡ None }
+    {
+        self.ring.end <= self.ring.next
+    }
+
+    /// Moves the window on over so many places, where nothing is held: their bytes are delivered, and it never
+    /// held them.
+    #[inline(always)]
+    pub fn pass(&mut self, n: u32)
+        requires front { (window self.old).base ≡ (window self.old).next }
+        requires none { (p : ℕ) → (window self.old).next ≤ p → (window self.old).at p ≡ None }
+        requires small { (window self.old).next + n < 2 ^ 31 }
+        ensures base { (window self.new).base ≡ (window self.old).base + n }
+        ensures next { (window self.new).next ≡ (window self.old).next + n }
+        ensures size { (window self.new).size ≡ (window self.old).size }
+        ensures none { (p : ℕ) → (window self.new).at p ≡ None }
+        // It is as if they were put and passed over.
+        ensures stands { (pairs : List (ℕ × ℕ)) (bytes : List ℕ) → length bytes ≡ n → HoldsPairs (window self.old) pairs
+            → HoldsPairs (window self.new) (pairs ++ window_pairs (window self.old) (window self.old).next bytes) }
+    {
+        self.ring.pass(n);
     }
 
     /// The first place of the window.

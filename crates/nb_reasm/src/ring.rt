@@ -261,6 +261,23 @@ impl Ring {
         }
     }
 
+    /// Moves the window on over so many places, where none at all is held. The base keeps its slot.
+    #[inline(always)]
+    pub(crate) fn pass(&mut self, count: u32)
+        requires ring { IsRing self.old }
+        requires front { self.old.base ≡ self.old.next }
+        requires none { (p : ℕ) → self.old.next ≤ p → held_byte self.old p ≡ None }
+        requires small { self.old.next + count < 2 ^ 31 }
+        ensures ring { IsRing self.new }
+        ensures base { self.new.base ≡ self.old.base + count }
+        ensures next { self.new.next ≡ self.old.next + count }
+        ensures size { capacity self.new ≡ capacity self.old }
+        ensures none { (p : ℕ) → held_byte self.new p ≡ None }
+    {
+        self.next += count;
+        self.base = self.next;
+    }
+
     /// The bytes below `next`, in two parts.
     pub(crate) fn front(&self) -> (&[u8], &[u8])
         requires { IsRing self.now }

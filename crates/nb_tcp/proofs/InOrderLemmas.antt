@@ -79,7 +79,7 @@ module _ (v : Variables) (s : Incoming) (is : ComesInOrder v s) where
       ∙ ap (λ (o : Option ℕ). record v { stop = first_stop o None }) is.no_stop
       ∙ ap (λ (o : Option ℕ). record v { stop = o }) (sym is.no_stop)
 
-  at_next : piece_place v s ≡ v.next
+  pub at_next : piece_place v s ≡ v.next
   at_next = ap (λ (d : ℕ). cond (ltb d full_window) (min (v.next + d) (2 ^ 32 - 1)) v.next) is.here ∙ omega (arith, is.low)
 
   all_bytes : piece_bytes v s ≡ s.body
@@ -95,7 +95,7 @@ module _ (v : Variables) (s : Incoming) (is : ComesInOrder v s) where
       ∙ ap (λ (xs : List ℕ). kept_bytes v v.next xs) all_bytes
       ∙ take_all (counted_upto v - v.next) s.body (omega (arith, counted, is.low))
 
-  then_next : (n : ℕ) → with_next (with_stop v s) n ≡ record v { next = n }
+  pub then_next : (n : ℕ) → with_next (with_stop v s) n ≡ record v { next = n }
   then_next n =
       ap (λ (u : Variables). with_next u n) still_open
       ∙ ap (λ (o : Option ℕ). record v { next = upto_stop o n }) is.no_stop
@@ -163,17 +163,22 @@ module _ (v : Variables) (given : ℕ) (s : Incoming) (is : IsNext v given s) wh
 none_ahead : (a : ℕ) → a < 2 ^ 32 → ahead a a ≡ 0
 none_ahead a small = omega (arith, small)
 
--- so the short way takes the segment
-pub takes_next : (old new : Conn) (v u : Variables) (rec : ℕ) (s : Incoming) (now : ℕ) (acts : Acts) → is_next v old.given s ≡ true → v.acked < 2 ^ 32 → Receives v s old.held new.held u → new.unacked.items ≡ old.unacked.items
+-- what a taken segment leaves, but what is held
+pub record TakesBut (old : Conn) (v : Variables) (rec : ℕ) (s : Incoming) (now : ℕ) (new : Conn) (acts : Acts) (received : Variables) : Type 0 where
+  pub unacked : new.unacked.items ≡ drop (ahead v.acked (with_ack received s).acked) old.unacked.items
+  pub acts_are : acts ≡ taken_acts old.link v (with_ack received s) old.given new.unacked.items rec s
+  pub state : new.state ≡ breach_state v (with_ack received s) old.given s (breached v s)
+  pub retry : new.retry ≡ breach_retry v (with_ack received s) old.given s now (breached v s) old.retry
+  pub link : new.link ≡ old.link
+  pub given : new.given ≡ old.given
+
+pub takes_but : (old new : Conn) (v u : Variables) (rec : ℕ) (s : Incoming) (now : ℕ) (acts : Acts) → is_next v old.given s ≡ true → v.acked < 2 ^ 32 → u ≡ record v { next = u.next } → new.unacked.items ≡ old.unacked.items
     → acts ≡ acknowledging old.link (record u { room = s.window }) s (grown_acts v.next u.next) → new.state ≡ Established (record u { room = s.window }) → new.retry ≡ started now Probe → new.link ≡ old.link → new.given ≡ old.given
-    → TakesSegment old v rec s now new acts
-takes_next old new v u rec s now acts next small got unacked_is acts_is state_is retry_is link_is given_is =
+    → TakesBut old v rec s now new acts u
+takes_but old new v u rec s now acts next small u_is unacked_is acts_is state_is retry_is link_is given_is =
     let is : IsNext v old.given s = next_is v old.given s next in
-    let u_is : u ≡ record v { next = u.next } = received_is v s is.comes old.held new.held u got in
     let after_is : with_ack u s ≡ record v { next = u.next; room = s.window } = ap (λ (x : Variables). with_ack x s) u_is ∙ next_after v old.given s is u.next small in
     record {
-      received = u;
-      receives = got;
       unacked = unacked_is
           ∙ sym (ap (λ (x : Variables). drop (ahead v.acked x.acked) old.unacked.items) after_is ∙ ap (λ (k : ℕ). drop k old.unacked.items) (none_ahead v.acked small));
       acts_are = acts_is
@@ -190,6 +195,15 @@ takes_next old new v u rec s now acts next small got unacked_is acts_is state_is
       link = link_is;
       given = given_is;
     }
+
+-- so the short way takes the segment
+pub takes_next : (old new : Conn) (v u : Variables) (rec : ℕ) (s : Incoming) (now : ℕ) (acts : Acts) → is_next v old.given s ≡ true → v.acked < 2 ^ 32 → Receives v s old.held new.held u → new.unacked.items ≡ old.unacked.items
+    → acts ≡ acknowledging old.link (record u { room = s.window }) s (grown_acts v.next u.next) → new.state ≡ Established (record u { room = s.window }) → new.retry ≡ started now Probe → new.link ≡ old.link → new.given ≡ old.given
+    → TakesSegment old v rec s now new acts
+takes_next old new v u rec s now acts next small got unacked_is acts_is state_is retry_is link_is given_is =
+    let u_is : u ≡ record v { next = u.next } = received_is v s (next_is v old.given s next).comes old.held new.held u got in
+    let but : TakesBut old v rec s now new acts u = takes_but old new v u rec s now acts next small u_is unacked_is acts_is state_is retry_is link_is given_is in
+    record { received = u; receives = got; unacked = but.unacked; acts_are = but.acts_are; state = but.state; retry = but.retry; link = but.link; given = but.given }
 
 -- so it does on an established connection
 pub follows_next : (old new : Conn) (v u : Variables) (rec : ℕ) (s : Incoming) (now : ℕ) (acts : Acts) → old.state ≡ Established v → is_next_of old.state old.given s ≡ true → old.given < 2 ^ 32 → Receives v s old.held new.held u → new.unacked.items ≡ old.unacked.items

@@ -43,7 +43,7 @@ record StaysSo (l : Link) (start : ℕ) (old new : Conn) (h : List ConnEntry) (e
   state : StateStands new.state new.given new.unacked.items (phase_of l h)
   retry : has_finished new.state ≡ false → (new.retry ≡ old.retry) × (has_finished old.state ≡ false)
 
-same_calls : (h : List ConnEntry) (e : ConnEntry) → tcp_calls_of e.call ≡ [] → tcp_calls (h ++ e ∷ []) ≡ tcp_calls h
+pub same_calls : (h : List ConnEntry) (e : ConnEntry) → tcp_calls_of e.call ≡ [] → tcp_calls (h ++ e ∷ []) ≡ tcp_calls h
 same_calls h e none = calls-append h e ∙ ap (λ xs. tcp_calls h ++ xs) none ∙ append-nil (tcp_calls h)
 
 or_off : (a b : Bool) → (a || (b || false)) ≡ (a || b)
@@ -117,7 +117,7 @@ close_stands l start old new h acts was running acts_are new_is =
     ends_so false false = refl
 
 -- the bytes of the lent window below the place that was told last
-goes_up : (w : HeldWindow) (h : HeldBytes) → WindowStands w h → GoesUp w (next h) (drop w.base (front h))
+pub goes_up : (w : HeldWindow) (h : HeldBytes) → WindowStands w h → GoesUp w (next h) (drop w.base (front h))
 goes_up w h c = record {
   len = length-drop w.base (front h);
   each = λ k l. at k (omega (arith, l, length-drop w.base (front h)));
@@ -167,7 +167,7 @@ upto_most : (stop : Option ℕ) (k : ℕ) → upto_stop stop k ≤ k
 upto_most None k = omega arith
 upto_most (Some stop) k = omega arith
 
-passed_stands : (old new : HeldWindow) (h : HeldBytes) → WindowStands old h → PassesOver old new → WindowStands new h
+pub passed_stands : (old new : HeldWindow) (h : HeldBytes) → WindowStands old h → PassesOver old new → WindowStands new h
 passed_stands old new h c p = record {
   size = p.size ∙ c.size;
   least = (omega (arith, p.base, p.next), omega (arith, p.base, p.next), none, λ k l m. absurd (never k new.base new.next l m (p.base ∙ sym p.next)));

@@ -20,3 +20,4 @@ pub mod CallStandsLemmas
 pub mod ConnLaws
 pub mod MaySendLaws
 pub mod KeptWindowLemmas
+pub mod HandOnLemmas

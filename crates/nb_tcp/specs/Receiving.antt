@@ -1,5 +1,5 @@
 -- RFC 9293, section 3.10.7.4: what is held of a segment
-use Rattle.std.specs.Prelude.{◌≡◌, ◌≤◌, ℕ, List, Option, Some, None}
+use Rattle.std.specs.Prelude.{◌≡◌, ◌≤◌, ℕ, ◌+◌, List, Option, Some, None}
 use Rattle.std.specs.Option.{option_or}
 use Rattle.nb_reasm.specs.declared.held.Held.{Held}
 use Rattle.nb_reasm.specs.HeldWindows.{window}
@@ -32,3 +32,15 @@ pub record PassesOver (old new : HeldWindow) : Type 0 where
   pub next : new.next ≡ old.next
   pub size : new.size ≡ old.size
   pub at : (p : ℕ) → new.base ≤ p → new.at p ≡ old.at p
+
+-- the window goes on at this place, and holds none from it on
+pub record IsBareAt (w : HeldWindow) (place : ℕ) : Type 0 where
+  pub next : w.next ≡ place
+  pub none : (p : ℕ) → w.next ≤ p → w.at p ≡ None
+
+-- what a window that holds nothing is so many places on
+pub record MovesOn (old : HeldWindow) (count : ℕ) (new : HeldWindow) : Type 0 where
+  pub base : new.base ≡ old.base + count
+  pub next : new.next ≡ old.next + count
+  pub size : new.size ≡ old.size
+  pub none : (p : ℕ) → new.at p ≡ None

@@ -9,7 +9,7 @@ ghost use Rattle.nb_tcp.specs.declared.link.Link.{Link};
 ghost use Rattle.nb_tcp.specs.declared.conn.SendError.TheVariants as SendError;
 ghost use Rattle.nb_tcp.specs.Arriving.{incoming};
 ghost use Rattle.nb_tcp.specs.Replies.{only_ready};
-ghost use Rattle.nb_tcp.specs.ConnHistory.{ConnEntry, conn_entry, calls_in, comes_back, closes_from_above, tcp_calls, is_waiting_after, is_lent_after, has_ended_after};
+ghost use Rattle.nb_tcp.specs.ConnHistory.{ConnEntry, conn_entry, calls_in, lends_out, comes_back, closes_from_above, tcp_calls, is_waiting_after, is_lent_after, has_ended_after};
 ghost use Rattle.nb_tcp.specs.ConnPromises.{starting_acts, text_in};
 ghost use Rattle.nb_tcp.specs.ConnStanding.{WindowStands, HasDelivered, has_window, KeepsWindow, IsLent, IsConnAsking, ConnStands};
 
@@ -112,6 +112,29 @@ impl Conn {
     {
         acts.clear();
         self.come(rec, segment, now, acts);
+    }
+
+    /// Takes a segment whose bytes come next, has nothing else that is new, and finds nothing held: its body goes
+    /// up at once, out of its message. So it does what `segment`, `lend` and `regain` would do one after another.
+    /// Else it does nothing, and says so.
+    #[inline(always)]
+    pub fn hand_on(&mut self, _rec: u32, segment: &Segment<'_>, now: u64, acts: &mut Acts) -> bool
+        requires delivered { HasDelivered self.old }
+        requires body { length segment.now.body.now < 2 ^ 16 }
+        // With this call and what it asks, the connection stands for three calls more: the segment, the delivery of
+        // its body, and the window's return.
+        ensures stands { MatchBool result ((l : Link) (start : ℕ) (h : List ConnEntry) → ConnStands l start self.old h
+            → ConnStands l start self.new ((h ++ conn_entry (calls_in (segment_came (record { rec = _rec; segment = incoming segment.now }) now)) acts.new ∷ [])
+            ++ conn_entry (lends_out segment.now.body.now) (only_ready false) ∷ conn_entry comes_back (only_ready false) ∷ [])) (self.new ≡ self.old) }
+        ensures taken { result ≡ true → (0 < length segment.now.body.now) × (acts.new.over ≡ None) × (acts.new.ready ≡ true) }
+        // It hadn't ended before, and the peer's stream hadn't and hasn't.
+        ensures going { result ≡ true → (l : Link) (start : ℕ) (h : List ConnEntry) → ConnStands l start self.old h
+            → (has_ended_after h ≡ false) × (has_ended (held_after l.isn (tcp_calls h)) ≡ false)
+            × (has_ended (held_after l.isn (tcp_calls (h ++ conn_entry (calls_in (segment_came (record { rec = _rec; segment = incoming segment.now }) now)) acts.new ∷ []))) ≡ false) }
+        ensures delivered { HasDelivered self.new }
+        ensures window { has_window self.new ≡ true }
+    {
+        self.pass_on(segment, now, acts)
     }
 
     /// It is this time, in milliseconds since the start of the run.

@@ -1,10 +1,10 @@
 //! What of a segment is held, and what of the text is forgotten.
 
-ghost use Rattle.std.specs.Prelude.{◌≡◌, ℕ, ◌<◌, ◌^◌, ◌+◌, ◌-◌, ◌≤◌, length, drop, take, min};
+ghost use Rattle.std.specs.Prelude.{◌≡◌, ℕ, ◌<◌, ◌^◌, ◌+◌, ◌-◌, ◌≤◌, length, drop, take, min, true};
 ghost use Rattle.nb_reasm.specs.HeldWindows.{window};
 ghost use Rattle.nb_tcp.specs.Arriving.{incoming};
 ghost use Rattle.nb_tcp.specs.InOrder.{ComesInOrder};
-ghost use Rattle.nb_tcp.specs.Receiving.{Receives, PutInto, PassesOver};
+ghost use Rattle.nb_tcp.specs.Receiving.{Receives, PutInto, PassesOver, IsBareAt};
 
 use crate::variables::{MAX_SIZE, Variables};
 use nb_reasm::Held;
@@ -89,4 +89,12 @@ pub(crate) fn passed_over(held: Held) -> Held
     let waiting = held.next() - held.base();
     held.advance(waiting);
     held
+}
+
+/// The window goes on at this place, and holds none from it on.
+#[inline(always)]
+pub(crate) fn is_bare_at(held: &Held, place: u32) -> bool
+    ensures { result ≡ true → IsBareAt (window held.now) place }
+{
+    held.next() == place && held.holds_none_later()
 }

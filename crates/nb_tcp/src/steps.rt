@@ -1,6 +1,6 @@
 //! The steps of a connection: first what a segment calls for, then what is sent and kept.
 
-ghost use Rattle.std.specs.Prelude.{◌≡◌, ◌<◌, ◌≤◌, ◌+◌, ◌^◌, true, false, length, Some, Ok, Err, IsOk, IfOk, IfErr, OnOk, OnErr};
+ghost use Rattle.std.specs.Prelude.{◌≡◌, ◌<◌, ◌≤◌, ◌+◌, ◌^◌, true, false, length, Some, Ok, Err, IsOk, IfOk, IfErr, OnOk, OnErr, MatchBool};
 ghost use Rattle.nb_retry.specs.Timer.{started};
 ghost use Rattle.nb_retry.specs.declared.plan.Plan.TheVariants.{Common, Probe};
 ghost use Rattle.nb_terms.specs.Reasons.{as_cause};
@@ -9,15 +9,15 @@ ghost use Rattle.nb_tcp.specs.Arriving.{incoming};
 ghost use Rattle.nb_tcp.specs.InOrder.{is_next_of};
 ghost use Rattle.nb_tcp.specs.Numbers.{breached, judged, opened_variables};
 ghost use Rattle.nb_tcp.specs.Replies.{only_ready, also_sending, also_over, all_sending, first_tried, unacked_text, went_on, ongoing_acts, ongoing_retry, grown_acts, acknowledging, taken_acts, breach_state, breach_retry, syn_answered, syn_answer_acts, syn_answer_state, syn_answer_retry, established_acts, sent_again, has_come_all, given_acts, given_state, given_retry, has_finished};
-ghost use Rattle.nb_tcp.specs.SegmentSteps.{TakesSegment, FollowsVerdict, FollowsState};
+ghost use Rattle.nb_tcp.specs.SegmentSteps.{TakesSegment, FollowsVerdict, FollowsState, HandsOn};
 ghost use Rattle.nb_tcp.specs.declared.conn.ConnState.TheVariants.{SynSent, Established, Ended};
 ghost use Rattle.nb_tcp.specs.declared.conn.SendError.TheVariants as SendError;
 ghost use Rattle.nb_tcp.specs.OtherSteps.{ticked_acts, ticked_conn, FollowsGiven, SameConn, closed_acts, closed_conn};
-ghost use Rattle.nb_tcp.specs.ConnStanding.{waits_in};
+ghost use Rattle.nb_tcp.specs.ConnStanding.{waits_in, HasDelivered};
 
 use crate::conn::{Conn, ConnState, SendError};
 use crate::place::has;
-use crate::receiving::{forget, receive, receive_next, unacked_text};
+use crate::receiving::{forget, is_bare_at, receive, receive_next, unacked_text};
 use crate::syn_answer::{SynAnswer, judge_answer};
 use crate::variables::{Breach, LIMIT, Variables, Verdict};
 use nb_retry::{Due, Plan};
@@ -133,6 +133,40 @@ impl Conn {
         tell_growth(before, after.next, acts);
         self.acknowledge(after, segment, acts);
         self.retry.start(now, Plan::Probe);
+    }
+
+    /// Takes a segment whose bytes come next, while nothing is held, and holds none of them. Else it does nothing.
+    #[inline(always)]
+    pub(crate) fn pass_on(&mut self, segment: &Segment<'_>, now: u64, acts: &mut Acts) -> bool
+        requires delivered { HasDelivered self.old }
+        requires body { length segment.now.body.now < 2 ^ 16 }
+        ensures { MatchBool result (HandsOn self.old (incoming segment.now) now self.new acts.new) (self.new ≡ self.old) }
+    {
+        let ConnState::Established(variables) = &mut self.state else {
+            return false;
+        };
+        let Some(held) = &mut self.held else {
+            return false;
+        };
+        if segment.body.is_empty() {
+            return false;
+        }
+        if !variables.is_next(segment, self.given) {
+            return false;
+        }
+        if !is_bare_at(held, variables.next) {
+            return false;
+        }
+        let before = variables.next;
+        held.pass(segment.body.len() as u32);
+        variables.next = before + segment.body.len() as u32;
+        variables.room = segment.window;
+        let after = *variables;
+        acts.clear();
+        tell_growth(before, after.next, acts);
+        self.acknowledge(after, segment, acts);
+        self.retry.start(now, Plan::Probe);
+        true
     }
 
     fn take(
