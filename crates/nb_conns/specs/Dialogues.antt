@@ -295,6 +295,14 @@ pub record LentFrom (old new : Connected) (acts : Acts) (l : Lent) : Type 0 wher
   pub lends : acts.ready ≡ true → has_window old.conn ≡ true → (w : Held) × (l.held ≡ Some w) × (l.count ≡ unwrap_or acts.advance 0 - (window w).base)
       × ((k : Link) (start : ℕ) (calls : List ConnEntry) → ConnStands k start old.conn calls → IsLent k start calls (window w) new.conn)
 
+-- A segment was taken by a connection that these calls were made of, and its body goes up as it stands: the core stands
+-- for the calls after it and for the passing of these bytes, and nothing of it is lent.
+pub record HandedOn (a : ConnAsk) (start : ℕ) (before after : List ConnEntry) (bytes : List ℕ) (acts : Acts) (r : Connected) : Type 0 where
+  pub talks : TalksSo r a start (with_passing after bytes) None
+  pub alive : acts.over ≡ None
+  pub ready : acts.ready ≡ true
+  pub lasts : comes_to_end a before after ≡ false
+
 -- A segment was taken by a connection that these calls were made of: with it, and with what is lent of it, the core
 -- stands for the calls after it.
 pub record TookSegment (a : ConnAsk) (start : ℕ) (before after : List ConnEntry) (acts : Acts) (l : Lent) (r : Connected) (ends : Bool) : Type 0 where
