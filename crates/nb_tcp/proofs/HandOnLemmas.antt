@@ -1,18 +1,17 @@
 -- A connection goes on to stand for its calls when a segment's body is handed on.
-use Rattle.std.proofs.Common.{◌≡◌, ◌≤◌, ◌<◌, ℕ, ◌+◌, ◌-◌, ◌^◌, ◌==◌, ◌&&◌, ◌||◌, not, nat_lt, nat_le, List, [], ◌∷◌, ◌++◌, length, take, drop, get_or, Option, Some, None, Bool, true, false, refl, ap, ◌∙◌, sym, subst, arith, append_assoc}
+use Rattle.std.proofs.Common.{◌≡◌, ◌≤◌, ◌<◌, ℕ, ◌+◌, ◌-◌, ◌^◌, ◌&&◌, ◌||◌, nat_lt, nat_le, List, [], ◌∷◌, ◌++◌, length, take, drop, get_or, Option, Some, None, Bool, true, false, refl, ap, ◌∙◌, sym, subst, arith, append_assoc}
 use Rattle.std.specs.Prelude.{MatchBool}
 use Rattle.std.specs.Option.{option_or, unwrap_or, is_some}
-use Rattle.std.proofs.lemmas.Bool.{le-ltb, ne_eqb, false≢true}
+use Rattle.std.proofs.lemmas.Bool.{le-ltb, false≢true}
 use Rattle.std.proofs.lemmas.Bool.Decides.{nat_tests}
 use Rattle.std.proofs.lemmas.List.{append-nil, ext_get_or, length-drop, take-append-drop, take_all}
 use Rattle.std.proofs.lemmas.Option.{slice_get-get_or}
 use Rattle.nb_terms.specs.declared.acts.Acts.{Acts}
 use Rattle.nb_streams.specs.Segments.{Incoming, Arrival}
 use Rattle.nb_streams.specs.Streams.{HeldBytes, front, next, has_ended, is_stop}
-use Rattle.nb_streams.specs.Flows.{segment_came, after_tcp_call, conn_phase, held_in, is_taken, held_after}
-use Rattle.nb_streams.specs.Sending.{is_reset, is_answered, brings_more}
+use Rattle.nb_streams.specs.Flows.{segment_came, conn_phase, held_in, is_taken, held_after}
+use Rattle.nb_streams.specs.Sending.{is_reset, is_answered}
 use Rattle.nb_streams.specs.Trying.{timer_after}
-use Rattle.nb_streams.proofs.StreamLaws.{either}
 use Rattle.nb_reasm.specs.declared.held.Held.{Held}
 use Rattle.nb_reasm.specs.HeldWindows.{window}
 use Rattle.nb_reasm.specs.Windows.{HeldWindow, NextIsLeast, window_byte}
@@ -21,24 +20,22 @@ use Rattle.nb_reasm.proofs.PutLemmas.{byte_if}
 use Rattle.nb_tcp.specs.declared.link.Link.{Link}
 use Rattle.nb_tcp.specs.declared.conn.Conn.{Conn}
 use Rattle.nb_tcp.specs.declared.conn.ConnState.{ConnState}
-use Rattle.nb_tcp.specs.declared.conn.ConnState.TheVariants.{Established}
 use Rattle.nb_tcp.specs.declared.variables.Variables.{Variables}
 use Rattle.nb_tcp.specs.declared.variables.Verdict.{Verdict}
 use Rattle.nb_tcp.specs.declared.variables.Verdict.TheVariants as verdict
 use Rattle.nb_tcp.specs.InOrder.{ComesInOrder}
-use Rattle.nb_tcp.specs.Numbers.{flow_of, found_stop, with_stop, with_next, piece_place, piece_bytes, kept_bytes, judged}
+use Rattle.nb_tcp.specs.Numbers.{flow_of, with_stop, with_next, piece_place}
 use Rattle.nb_tcp.specs.Receiving.{PutInto, PassesOver, IsBareAt, MovesOn}
-use Rattle.nb_tcp.specs.Replies.{only_ready, grown_acts, acknowledging, has_finished, has_come_all}
+use Rattle.nb_tcp.specs.Replies.{only_ready, has_finished, has_come_all}
 use Rattle.nb_tcp.specs.SegmentSteps.{HandsOn}
-use Rattle.nb_tcp.specs.ConnHistory.{ConnCall, calls_in, lends_out, comes_back, ConnEntry, conn_entry, tcp_calls_of, tcp_calls, delivered, is_waiting_after, is_lent_after, ends_by, has_ended_after}
+use Rattle.nb_tcp.specs.ConnHistory.{ConnCall, calls_in, lends_out, comes_back, ConnEntry, conn_entry, tcp_calls_of, tcp_calls, delivered, is_lent_after, ends_by, has_ended_after}
 use Rattle.nb_tcp.specs.ConnPromises.{IsAskedSo, AsksAsPromised}
-use Rattle.nb_tcp.specs.ConnStanding.{WindowStands, waits_in, IsDelivered, HoldsRest, GoesUp, FlowStands, FlowsSo, StateStands, TimerStandsFor, ConnStands}
+use Rattle.nb_tcp.specs.ConnStanding.{WindowStands, waits_in, IsDelivered, HoldsRest, GoesUp, FlowsSo, StateStands, TimerStandsFor, ConnStands}
 use Rattle.nb_tcp.proofs.WindowStandsLemmas.{PutsSegment, held_then, put_stands}
 use Rattle.nb_tcp.proofs.DeliveryLemmas.{next_then, delivered_then}
-use Rattle.nb_tcp.proofs.ReceivedLemmas.{next_low}
 use Rattle.nb_tcp.proofs.InOrderLemmas.{IsNext, next_is, next_taken, at_next, kept_is, then_next, TakesBut, takes_but}
 use Rattle.nb_tcp.proofs.TakenLemmas.{Means, verdict_means}
-use Rattle.nb_tcp.proofs.TakenStandsLemmas.{TakenBut, LeavesBut, taken_but}
+use Rattle.nb_tcp.proofs.TakenStandsLemmas.{LeavesBut, taken_but}
 use Rattle.nb_tcp.proofs.LendStandsLemmas.{goes_up, passed_stands, same_calls}
 use Rattle.nb_tcp.proofs.ConnHistoryLemmas.{delivered-append, advanced-append, waiting-append, lent-append, ended-append, EachConnEntry-append}
 use Rattle.nb_tcp.proofs.GoesOnLemmas.{phase_of, phase_then, StandsBut, goes_on_but}
@@ -175,29 +172,6 @@ stands_on l start c h call was nothing asks going =
       timer = λ running. subst (λ cs. TimerStandsFor c.retry (timer_after l.isn start cs)) (sym calls) (was.timer running);
     }
 
--- what a segment that is handed on asks
-abbrev handed_acts : Conn → Incoming → Variables → Acts
-handed_acts old s v = acknowledging old.link (record v { next = v.next + length s.body; room = s.window }) s (grown_acts v.next (v.next + length s.body))
-
-asks_ready : (old : Conn) (s : Incoming) (v : Variables) → 0 < length s.body → (handed_acts old s v).ready ≡ true
-asks_ready old s v some = either (brings_more s) (λ t. rw t more) (λ f. rw f more)
-  where
-    apart : (a n : ℕ) → 0 < n → a ≡ a + n → ⊥
-    apart a n l e = omega (arith, l, e)
-
-    more : not (v.next == v.next + length s.body) ≡ true
-    more = ap not (ne_eqb v.next (v.next + length s.body) (apart v.next (length s.body) some))
-
-asks_no_end : (old : Conn) (s : Incoming) (v : Variables) → (handed_acts old s v).over ≡ None
-asks_no_end old s v = either (brings_more s) (λ t. rw t refl) (λ f. rw f refl)
-
-pub hands_taken : (old new : Conn) (s : Incoming) (now : ℕ) (acts : Acts) → HandsOn old s now new acts → (0 < length s.body) × (acts.over ≡ None) × (acts.ready ≡ true)
-hands_taken old new s now acts k = (
-  k.some,
-  ap (λ (x : Acts). x.over) k.acts_are ∙ asks_no_end old s k.variables,
-  ap (λ (x : Acts). x.ready) k.acts_are ∙ asks_ready old s k.variables k.some,
-)
-
 left_even : (w x : HeldWindow) (n : ℕ) → w.base ≡ w.next → MovesOn w n x → x.base ≡ x.next
 left_even w x n e m = omega (arith, e, m.base, m.next)
 
@@ -330,17 +304,6 @@ module _ (l : Link) (start : ℕ) (old new : Conn) (h : List ConnEntry) (m : Arr
     sym was.at_end ∙ ap has_come_all k.state_was ∙ open_end,
     sym segment_but.at_end ∙ ap has_come_all k.state ∙ ap (λ o. is_stop o (k.variables.next + length m.segment.body)) said.comes.no_stop,
   )
-
--- the next segment may come
-pub hands_delivered : (old new : Conn) (s : Incoming) (now : ℕ) (acts : Acts) → IsDelivered old.held → HandsOn old s now new acts → IsDelivered new.held × (is_some new.held ≡ true)
-hands_delivered old new s now acts here k = (
-  subst IsDelivered (sym k.held) (left_even (window k.was) (window k.left) (length s.body) (subst IsDelivered k.held_was here) k.moves),
-  ap (λ (o : Option Held). is_some o) k.held,
-)
-
-pub delivered_here : (o : Option Held) → IsDelivered o → is_some o ≡ true
-delivered_here None here = absurd here
-delivered_here (Some w) here = refl
 
 pub as_before : (c : Conn) (st : ConnState) (o : Option Held) → c.state ≡ st → c.held ≡ o → record c { state = st; held = o } ≡ c
 as_before c st o state held = ap (λ (x : ConnState). record c { state = x; held = o }) (sym state) ∙ ap (λ (x : Option Held). record c { held = x }) (sym held)

@@ -1,4 +1,4 @@
-use Rattle.std.proofs.Common.{◌≡◌, ◌<◌, ◌+◌, ℕ, length, refl, ap, ◌∙◌, sym, arith}
+use Rattle.std.proofs.Common.{◌+◌, length, refl, ap, ◌∙◌, sym, arith}
 use Rattle.std.proofs.lemmas.Bool.Decides.{nat_tests}
 use Rattle.nb_terms.specs.declared.acts.Acts.{Acts}
 use Rattle.nb_tcp.specs.declared.variables.Variables.{Variables}
