@@ -1,5 +1,5 @@
 -- What a call of a connection asks for lies within what an entry may ask for.
-use Rattle.std.proofs.Common.{◌≡◌, ℕ, zero, suc, ◌++◌, List, [], ◌∷◌, Option, Some, None, Bool, false, map, refl, ap, sym, ◌∙◌, subst, arith}
+use Rattle.std.proofs.Common.{◌≡◌, ℕ, ◌≤◌, zero, suc, ◌++◌, List, [], ◌∷◌, Option, Some, None, Bool, false, map, refl, ap, sym, ◌∙◌, subst, arith}
 use Rattle.std.proofs.lemmas.Option.{none-some}
 use Rattle.std.proofs.lemmas.List.Concat.{flat_map-append}
 use Rattle.std.specs.Prelude.{IfSome}
@@ -9,11 +9,11 @@ use Rattle.nb_terms.specs.declared.cause.Cause.{Cause}
 use Rattle.nb_effects.specs.declared.effects.Emit.{Emit}
 use Rattle.nb_effects.specs.declared.effects.Few.{Few}
 use Rattle.nb_effects.specs.declared.effects.Fx.{Fx}
-use Rattle.nb_graph.specs.Trace.{Said, silence, loads, in_list, carried}
+use Rattle.nb_graph.specs.Trace.{Said, silence, loads, in_list, carried, bytes_between}
 use Rattle.nb_graph.specs.Effects.{AreUps, AreCloses, IsUp}
 use Rattle.nb_conns.specs.declared.conn_load.Lent.{Lent}
 use Rattle.nb_conns.specs.ConnLoads.{Carrier, window_of_conn, windows_in}
-use Rattle.nb_conns.specs.ConnEffects.{SendsDown, GivesBack, ConnEffects, ConnWithin, few_say, emit_says, emits_of, ups_for, closes_for, GoesAbove}
+use Rattle.nb_conns.specs.ConnEffects.{SendsDown, GivesBack, ConnEffects, ConnWithin, few_say, emit_says, emits_of, received_says, range_emit, ups_for, closes_for, GoesAbove}
 
 both_within : (cause : Cause) → AreCloses ((0, cause) ∷ (1, cause) ∷ [])
 both_within cause zero d h = omega arith
@@ -73,3 +73,36 @@ no_ups_for {L} k window ends f gives w e = none f (gives.says silence ∙ ap (λ
 
     none : (f : Few (Emit L)) → few_say k silence f ≡ [] → (f.first ≡ None) × (f.second ≡ None)
     none f h = empty f.first f.second h
+
+-- bytes of the message go up
+range_emits : {L : Type 0} (from to : ℕ) (f : Few (Emit L)) → f.first ≡ Some (range_emit from to) → f.second ≡ None → emits_of f ≡ range_emit from to ∷ []
+range_emits {L} from to f one two = ap (λ (z : Option (Emit L)). in_list z ++ in_list f.second) one ∙ ap (λ (z : Option (Emit L)). range_emit from to ∷ in_list z) two
+
+range_loads : {L : Type 0} (from to : ℕ) (f : Few (Emit L)) → f.first ≡ Some (range_emit from to) → f.second ≡ None → loads f ≡ []
+range_loads {L} from to f one two = ap (λ (z : Option (Emit L)). carried z ++ carried f.second) one ∙ ap (λ (z : Option (Emit L)). carried z) two
+
+pub range_effects : {N L : Type 0} (k : Carrier L) (m : Said) (acts : Acts) (from to : ℕ) (fx : Fx N L) → fx.makes ≡ None → SendsDown k acts fx.downs → fx.ups.first ≡ Some (range_emit from to) → fx.ups.second ≡ None → fx.closes.items ≡ []
+    → ConnEffects k m acts (received_says m.rec (bytes_between m.bytes from to) ∷ []) [] [] fx
+range_effects k m acts from to fx no_make downs one two closes =
+    record {
+      no_make = no_make;
+      downs = downs.says m;
+      below = downs.below;
+      ups = ap (λ z. map (emit_says k m) z) (range_emits from to fx.ups one two);
+      above = subst (λ z. AllByRecursion GoesAbove z) (sym (range_emits from to fx.ups one two)) (refl, tt);
+      closes = closes;
+      windows = flat_map-append (λ load. window_of_conn (k.as_conn load)) (loads fx.downs) (loads fx.ups) ∙ ap (λ z. z ++ windows_in k (loads fx.ups)) downs.windows ∙ ap (λ z. windows_in k z) (range_loads from to fx.ups one two);
+    }
+
+pub range_within : {N L : Type 0} (k : Carrier L) (acts : Acts) (from to len : ℕ) (fx : Fx N L) → fx.makes ≡ None → SendsDown k acts fx.downs → fx.ups.first ≡ Some (range_emit from to) → fx.ups.second ≡ None → fx.closes.items ≡ [] → from ≤ to → to ≤ len → ConnWithin len fx
+range_within {N} {L} k acts from to len fx no_make downs one two closes order most =
+    record {
+      no_make = no_make;
+      downs = downs.within len;
+      ups = (
+        (λ _. two),
+        subst (λ (z : Option (Emit L)). IfSome z (IsUp len)) (sym one) (refl, λ _. (order, most)),
+        subst (λ (z : Option (Emit L)). IfSome z (IsUp len)) (sym two) tt,
+      );
+      closes = subst (λ (z : List (ℕ × Cause)). AreCloses z) (sym closes) (end_within None);
+    }

@@ -1,5 +1,5 @@
 -- What a connection stands for once it took a segment and lent what waits.
-use Rattle.std.proofs.Common.{◌≡◌, ℕ, zero, suc, ◌+◌, ◌-◌, ◌≤◌, ◌==◌, ◌&&◌, ◌||◌, Bool, true, false, not, List, [], ◌∷◌, ◌++◌, length, take, Option, Some, None, is_some, refl, ap, sym, ◌∙◌, subst, arith, if◌then◌else◌}
+use Rattle.std.proofs.Common.{◌≡◌, ℕ, zero, suc, ◌+◌, ◌-◌, ◌≤◌, ◌==◌, ◌&&◌, ◌||◌, Bool, true, false, not, List, [], ◌∷◌, ◌++◌, length, take, Option, Some, None, is_some, append_assoc, refl, ap, sym, ◌∙◌, subst, arith, if◌then◌else◌}
 use Rattle.std.specs.Prelude.{unwrap_or, MatchBool, IfSome}
 use Rattle.std.proofs.lemmas.Bool.{false≢true}
 use Rattle.nb_terms.specs.declared.acts.Acts.{Acts}
@@ -15,7 +15,7 @@ use Rattle.nb_tcp.specs.declared.link.Link.{Link}
 use Rattle.nb_tcp.specs.declared.conn.Conn.{Conn}
 use Rattle.nb_tcp.specs.Numbers.{upto_stop}
 use Rattle.nb_tcp.specs.Replies.{only_ready}
-use Rattle.nb_tcp.specs.ConnHistory.{calls_in, lends_out, ConnEntry, conn_entry, tcp_calls, advanced_to, is_waiting_after, has_ended_after, ends_by}
+use Rattle.nb_tcp.specs.ConnHistory.{calls_in, lends_out, comes_back, ConnEntry, conn_entry, tcp_calls, advanced_to, is_waiting_after, is_lent_after, has_ended_after, ends_by}
 use Rattle.nb_tcp.specs.ConnPromises.{AsksAsPromised, ConnKeeps}
 use Rattle.nb_tcp.specs.ConnStanding.{WindowStands, GoesUp, ConnStands, HasDelivered, IsLent, has_window}
 use Rattle.nb_tcp.proofs.ConnHistoryLemmas.{advanced-append, waiting-append, lent-append, ended-append}
@@ -25,7 +25,7 @@ use Rattle.nb_conns.specs.declared.conn_load.Lent.{Lent}
 use Rattle.nb_conns.specs.declared.stage.Running.{Running as Connected}
 use Rattle.nb_conns.specs.ConnAsks.{link_of}
 use Rattle.nb_conns.specs.ConnLoads.{lent_bytes}
-use Rattle.nb_conns.specs.Dialogues.{arriving, with_segment_call, with_lending, LendsSo, comes_to_end, IsLentOut, TalksSo, TookSegment, LentFrom, lent_out, lent_out_of}
+use Rattle.nb_conns.specs.Dialogues.{arriving, with_segment_call, with_lending, with_passing, LendsSo, comes_to_end, IsLentOut, TalksSo, TookSegment, HandedOn, LentFrom, lent_out, lent_out_of}
 
 bytes_from-take : (w : HeldWindow) (p n k : ℕ) → k ≤ n → take k (bytes_from w p n) ≡ bytes_from w p k
 bytes_from-take w p n zero l = refl
@@ -151,6 +151,48 @@ took old mid new a start calls acts l rec s now had has t same stands waits ther
           lends = subst (λ z. IsLentOut a (with_lending after z) new.conn z) (sym some) (lent-append after lending, (w, out.1, subst (λ z. WindowStands (window w) z) (sym held) is.window_is));
           to_end = ends_as (after ++ lending ∷ []) whole held;
         }
+
+-- what it stands for once it took a segment whose body goes up as it stands
+pub handed : (old new : Connected) (a : ConnAsk) (start : ℕ) (calls : List ConnEntry) (acts : Acts) (rec : ℕ) (s : SegmentParts) (now : ℕ) → TalksSo old a start calls None → new.ask ≡ old.ask
+    → ((k : Link) (st : ℕ) (h : List ConnEntry) → ConnStands k st old.conn h → ConnStands k st new.conn (with_passing (with_segment_call h rec s now acts) s.body))
+    → acts.over ≡ None → acts.ready ≡ true
+    → ((k : Link) (st : ℕ) (h : List ConnEntry) → ConnStands k st old.conn h → has_ended (held_after k.isn (tcp_calls (with_segment_call h rec s now acts))) ≡ false)
+    → HasDelivered new.conn → HandedOn a start calls (with_segment_call calls rec s now acts) s.body acts new
+handed old new a start calls acts rec s now t asked stands alive ready lasts delivered =
+    record {
+      talks = record {
+        asked = asked ∙ t.asked;
+        stands = stands (link_of a) start calls t.stands;
+        goes_on = ap (λ z. has_ended_after z) by_two ∙ ended-append lending back ∙ or_nothing (has_ended_after lending) ∙ ended-append after lends ∙ or_nothing (has_ended_after after) ∙ ended_then calls entry t.goes_on ∙ or_nothing (is_some acts.over) ∙ ap (λ z. is_some z) alive;
+        none_waits = ap (λ z. is_waiting_after z) by_two ∙ waiting-append lending back;
+        lends = (delivered, ap (λ z. is_lent_after z) by_two ∙ lent-append lending back);
+      };
+      alive = alive;
+      ready = ready;
+      lasts = ap (λ z. not (has_ended (held_after a.isn (tcp_calls calls))) && z) (lasts (link_of a) start calls t.stands) ∙ and_off (not (has_ended (held_after a.isn (tcp_calls calls))));
+    }
+  where
+    entry : ConnEntry
+    entry = conn_entry (calls_in (segment_came (arriving rec s) now)) acts
+
+    lends : ConnEntry
+    lends = conn_entry (lends_out s.body) (only_ready false)
+
+    back : ConnEntry
+    back = conn_entry comes_back (only_ready false)
+
+    after : List ConnEntry
+    after = calls ++ entry ∷ []
+
+    lending : List ConnEntry
+    lending = after ++ lends ∷ []
+
+    by_two : with_passing after s.body ≡ lending ++ back ∷ []
+    by_two = sym (append_assoc after (lends ∷ []) (back ∷ []))
+
+    and_off : (b : Bool) → (b && false) ≡ false
+    and_off true = refl
+    and_off false = refl
 
 -- what waits is lent
 pub lend_is : (old new : Connected) (acts : Acts) (l : Lent) (o : Option Held) → new.ask ≡ old.ask → acts.ready ≡ true → l.held ≡ o → is_some o ≡ has_window old.conn

@@ -32,8 +32,8 @@ use Rattle.nb_conns.specs.declared.tcp.Tcp.{Tcp}
 use Rattle.nb_conns.specs.StreamTags.{stream_tag_number}
 use Rattle.nb_conns.specs.ConnAsks.{conn_ask_in, link_of}
 use Rattle.nb_conns.specs.ConnLoads.{Carrier, window_of_conn}
-use Rattle.nb_conns.specs.ConnEffects.{ConnEffects, SaysNothing, TookAll, ups_for, closes_for}
-use Rattle.nb_conns.specs.Dialogues.{Dialogue, unopened, talking, closed_off, given_up, is_home, talked_on, comes_from, with_segment_call, with_lending, Converses, is_asked, takes_segment, takes_none, takes_text, takes_tick, has_back, is_closed, rests_still, ConversesTo, IsLentOut, TalksSo, IsConnAt, before_asked, while_talking, once_closed, never_asked, TcpStands, CarriesOn, CarriesOnHome, TakesHere, TakesBack, ReturnsTo, CallsConn, TookSegment, lent_out, stage_asks}
+use Rattle.nb_conns.specs.ConnEffects.{ConnEffects, SaysNothing, TookAll, received_says, ups_for, closes_for}
+use Rattle.nb_conns.specs.Dialogues.{Dialogue, unopened, talking, closed_off, given_up, is_home, talked_on, comes_from, with_segment_call, with_lending, with_passing, Converses, is_asked, takes_segment, hands_on, takes_none, takes_text, takes_tick, has_back, is_closed, rests_still, ConversesTo, IsLentOut, TalksSo, IsConnAt, before_asked, while_talking, once_closed, never_asked, TcpStands, CarriesOn, CarriesOnHome, TakesHere, TakesBack, ReturnsTo, CallsConn, TookSegment, HandedOn, lent_out, stage_asks}
 use Rattle.nb_conns.proofs.WindowLemmas.{lent_one}
 use Rattle.nb_conns.proofs.TakenLemmas.{ended_then}
 use Rattle.nb_conns.proofs.DialogueLemmas.{rests_on, stands_on, runs_more, quiet_other}
@@ -129,6 +129,27 @@ pub segment_on : {N L : Type 0} (k : Carrier L) (slot : ℕ) (m : Said) (now : �
     → ((a : ConnAsk) (start : ℕ) (calls : List ConnEntry) → TalksSo old a start calls None → TookSegment a start calls (with_segment_call calls m.rec s now acts) acts l r ends) → new ≡ (if is_some acts.over then Over else Running r)
     → CarriesOnHome k (Running old) new (up slot m now true fx)
 segment_on k slot m now fx s acts old r l ends new here effects all took e = λ d home at. segment_at k slot m now fx s acts old r l ends new here effects all took e d home at
+
+-- a segment whose body goes up as it stands
+handed_at : {N L : Type 0} (k : Carrier L) (slot : ℕ) (m : Said) (now : ℕ) (fx : Fx N L) (s : SegmentParts) (acts : Acts) (old r : Connected) (new : ConnStage) → TakesHere (Running old) slot m s
+    → ConnEffects k m acts (received_says m.rec s.body ∷ []) [] [] fx → TookAll m fx
+    → ((a : ConnAsk) (start : ℕ) (calls : List ConnEntry) → TalksSo old a start calls None → HandedOn a start calls (with_segment_call calls m.rec s now acts) s.body acts r) → new ≡ Running r
+    → (d : Dialogue) → is_home d ≡ true → IsConnAt (Running old) d → (f : Dialogue) × Converses k d (up slot m now true fx) f × IsConnAt new f
+handed_at k slot m now fx s acts old r new here effects all handed e _ home (while_talking _ a start calls (Some x) t) = absurd (false≢true home)
+handed_at {N} {L} k slot m now fx s acts old r new here effects all handed e _ home (while_talking _ a start calls None t) =
+    let after = with_passing (with_segment_call calls m.rec s now acts) s.body in
+    let is = handed a start calls t in
+    let from : comes_from a slot m ≡ true = ap (λ z. comes_from z slot m) (sym t.asked) ∙ here.0 in (
+      talking a start after None,
+      hands_on a start calls slot m now fx s acts from here.1 is.alive is.ready is.lasts effects all,
+      subst (λ (z : ConnStage). IsConnAt z (talking a start after None)) (sym e) (while_talking r a start after None is.talks),
+    )
+
+pub handed_on : {N L : Type 0} (k : Carrier L) (slot : ℕ) (m : Said) (now : ℕ) (fx : Fx N L) (s : SegmentParts) (acts : Acts) (old r : Connected) (new : ConnStage) → TakesHere (Running old) slot m s
+    → ConnEffects k m acts (received_says m.rec s.body ∷ []) [] [] fx → TookAll m fx
+    → ((a : ConnAsk) (start : ℕ) (calls : List ConnEntry) → TalksSo old a start calls None → HandedOn a start calls (with_segment_call calls m.rec s now acts) s.body acts r) → new ≡ Running r
+    → CarriesOnHome k (Running old) new (up slot m now true fx)
+handed_on k slot m now fx s acts old r new here effects all handed e = λ d home at. handed_at k slot m now fx s acts old r new here effects all handed e d home at
 
 -- bytes that are no segment
 none_at : {N L : Type 0} (k : Carrier L) (slot : ℕ) (m : Said) (now : ℕ) (fx : Fx N L) (r : Connected) → ((s : SegmentParts) → IsLaidOut m.bytes s → ⊥) → SaysNothing fx → fx.closes.items ≡ [] → TookAll m fx

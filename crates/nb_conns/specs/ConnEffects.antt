@@ -141,6 +141,10 @@ segments_emit k h acts = record { slot = 1; tag = stream_tag_number h.tag; a = h
 abbrev pub received_emit : {L : Type 0} → Carrier L → Box Lent → Emit L
 received_emit k window = record { slot = 0; tag = stream_tag_number Received; a = 0; b = 0; from = 0; to = 0; load = Some (k.as_load (Window window)) }
 
+-- the bytes that go up stand in the message
+abbrev pub range_emit : {L : Type 0} → (from to : ℕ) → Emit L
+range_emit from to = record { slot = 0; tag = stream_tag_number Received; a = 0; b = 0; from = from; to = to; load = None }
+
 abbrev pub end_emit : {L : Type 0} → Emit L
 end_emit = record { slot = 0; tag = stream_tag_number End; a = 0; b = 0; from = 0; to = 0; load = None }
 

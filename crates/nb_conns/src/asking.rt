@@ -5,7 +5,7 @@ ghost use Rattle.std.specs.Option.{option_map};
 ghost use Rattle.nb_graph.specs.Trace.{Said};
 ghost use Rattle.nb_conns.specs.StreamTags.{stream_tag_number};
 ghost use Rattle.nb_conns.specs.ConnEffects.{SendsDown, GivesBack, ConnEffects, ConnWithin, SaysNothing, closes_for};
-ghost use Rattle.nb_conns.specs.ConnEffects.{place_emit, segments_emit, received_emit, end_emit, heading_of, segments_tag, boxed};
+ghost use Rattle.nb_conns.specs.ConnEffects.{place_emit, segments_emit, received_emit, range_emit, end_emit, heading_of, segments_tag, boxed};
 
 use crate::conn_load::{CarriesConn, ConnLoad, Lent};
 use crate::stream_tag::StreamTag;
@@ -145,6 +145,22 @@ fn received_up<L: CarriesConn>(window: Box<Lent>) -> Emit<L>
         from: 0,
         to: 0,
         load: Some(L::carry(ConnLoad::Window(window))),
+    }
+}
+
+/// Bytes `from` to `to` of the message, as the next ones of the stream.
+#[inline(always)]
+pub(crate) fn range_up<L>(from: u32, to: u32) -> Emit<L>
+    ensures { result ≡ range_emit from to }
+{
+    Emit {
+        slot: ABOVE,
+        tag: u8::from(StreamTag::Received),
+        a: 0,
+        b: 0,
+        from,
+        to,
+        load: None,
     }
 }
 

@@ -1,6 +1,6 @@
 //! How far a connection's object is.
 
-ghost use Rattle.std.specs.Prelude.{◌≡◌, ◌-◌, ◌<◌, ◌^◌, ◌&&◌, not, unwrap_or, ℕ, List, Some, None, length, IfOk, OnOk, MatchBool, [], if◌then◌else◌};
+ghost use Rattle.std.specs.Prelude.{◌≡◌, ◌-◌, ◌<◌, ◌^◌, ◌&&◌, not, unwrap_or, ℕ, List, Some, None, true, false, length, IfOk, OnOk, MatchBool, [], if◌then◌else◌};
 ghost use Rattle.nb_conns.specs.declared.stage.ConnStage.TheVariants as stage;
 ghost use Rattle.nb_reasm.specs.declared.held.Held.{Held as Window};
 ghost use Rattle.nb_reasm.specs.HeldWindows.{window};
@@ -11,7 +11,7 @@ ghost use Rattle.nb_tcp.specs.ConnHistory.{ConnEntry, calls_in};
 ghost use Rattle.nb_tcp.specs.ConnPromises.{starting_acts};
 ghost use Rattle.nb_tcp.specs.ConnStanding.{HasDelivered, KeepsWindow};
 ghost use Rattle.nb_conns.specs.ConnAsks.{link_of};
-ghost use Rattle.nb_conns.specs.Dialogues.{TalksSo, TookSegment, TakesBack, ReturnsTo, CallsConn, LentFrom, with_segment_call, stage_is_over};
+ghost use Rattle.nb_conns.specs.Dialogues.{TalksSo, TookSegment, HandedOn, TakesBack, ReturnsTo, CallsConn, LentFrom, with_segment_call, stage_is_over};
 
 use crate::ConnAsk;
 use crate::conn_load::Lent;
@@ -110,10 +110,29 @@ impl Running {
     }
 
     /// Whether the next segment may come.
+    #[inline(always)]
     pub(crate) fn has_delivered(&self) -> bool
         ensures { MatchBool result (HasDelivered self.now.conn) (HasDelivered self.now.conn → ⊥) }
     {
         self.conn.has_delivered()
+    }
+
+    /// Takes a segment whose body can go up as it stands. Else nothing is called.
+    #[inline(always)]
+    pub(crate) fn hand_on(
+        &mut self,
+        rec: u32,
+        segment: &Segment<'_>,
+        now: u64,
+        acts: &mut Acts,
+    ) -> bool
+        requires delivered { HasDelivered self.old.conn }
+        requires body { length segment.now.body.now < 2 ^ 16 }
+        ensures on { result ≡ true → (a : ConnAsk) (start : ℕ) (calls : List ConnEntry) → TalksSo self.old a start calls None
+            → HandedOn a start calls (with_segment_call calls rec (segment_parts segment.now) now acts.new) segment.now.body.now acts.new self.new }
+        ensures same { result ≡ false → self.new ≡ self.old }
+    {
+        self.conn.hand_on(rec, segment, now, acts)
     }
 
     /// Takes a segment. What waits then is lent. Whether all of the stream has come by it.

@@ -3,15 +3,15 @@
 ghost use Rattle.std.specs.Prelude.{◌≡◌, ◌+◌, ◌<◌, ◌≤◌, ◌^◌, ◌++◌, ◌∷◌, ℕ, List, [], length, min, None, true, false, IfOk, OnOk, if◌then◌else◌};
 ghost use Rattle.std.specs.Result.{is_ok};
 ghost use Rattle.std.specs.Option.{is_some};
-ghost use Rattle.nb_graph.specs.Trace.{Said, said, NodeEntry, up, down, closed, time, regain, IsSettled, LacksLoad, in_list, silence};
+ghost use Rattle.nb_graph.specs.Trace.{Said, said, NodeEntry, up, down, closed, time, regain, IsSettled, LacksLoad, in_list, silence, bytes_between};
 ghost use Rattle.nb_graph.specs.Effects.{IsNothing};
 ghost use Rattle.nb_tcpseg.specs.SegmentText.{segment_parts, IsLaidOut};
 ghost use Rattle.nb_conns.specs.declared.stage.ConnStage.TheVariants as stage;
-ghost use Rattle.nb_conns.specs.ConnEffects.{ConnEffects, ConnWithin, SaysNothing, ups_for, closes_for, boxed};
+ghost use Rattle.nb_conns.specs.ConnEffects.{ConnEffects, ConnWithin, SaysNothing, received_says, ups_for, closes_for, boxed};
 ghost use Rattle.nb_conns.specs.Dialogues.{TcpStands, CarriesOn, CarriesOnHome, IsUnopened, TakesHere, TakesBack, comes_from, lent_out, stage_takes, stage_asks, stage_is_over, stage_is_waiting};
 
 use crate::ConnAsk;
-use crate::asking::{ABOVE, BELOW, all_of, ask_close, ask_down, ask_up};
+use crate::asking::{ABOVE, BELOW, all_of, ask_close, ask_down, ask_up, range_up};
 use crate::conn_load::{CarriesConn, ConnLoad, Lent};
 use crate::stage::{ConnStage, Running};
 use crate::stream_tag::{StreamTag, is_stream_tag};
@@ -81,7 +81,7 @@ impl Tcp {
         requires blank { SaysNothing fx.old × (fx.old.closes.items ≡ []) }
         requires took { fx.old.took ≡ min (length (said msg.now).bytes) 4294967295 }
         ensures leads { CarriesOnHome L.carrier self.old.stage self.new.stage (up slot (said msg.now) now (is_ok result) fx.new) }
-        ensures within { (len : ℕ) → ConnWithin len fx.new }
+        ensures within { ConnWithin (length msg.now.first.now + length msg.now.second.now) fx.new }
         ensures took { fx.new.took ≡ fx.old.took }
     {
         if !self.takes(slot, msg) {
@@ -121,48 +121,71 @@ impl Tcp {
         requires took { fx.old.took ≡ min (length bytes.now) 4294967295 }
         ensures leads { (slot : ℕ) (m : Said) → stage_takes self.old.stage slot m ≡ true → m.rec ≡ rec → m.bytes ≡ bytes.now
             → CarriesOnHome L.carrier self.old.stage self.new.stage (up slot m now (is_ok result) fx.new) }
-        ensures within { (len : ℕ) → ConnWithin len fx.new }
+        ensures within { ConnWithin (length bytes.now) fx.new }
         ensures took { fx.new.took ≡ fx.old.took }
     {
         let ConnStage::Running(_) = &self.stage else {
             return Ok(());
         };
         match Segment::parse(bytes) {
-            Some(segment) => self.take_segment(rec, &segment, now, fx),
+            Some(segment) => self.take_segment(rec, &segment, bytes.len(), now, fx),
             None => Ok(()),
         }
     }
 
-    /// A segment comes from the peer.
+    /// A segment comes from the peer, in a message of `len` bytes.
     #[inline(always)]
     fn take_segment<N, L: CarriesConn>(
         &mut self,
         rec: u32,
         segment: &Segment<'_>,
+        len: usize,
         now: u64,
         fx: &mut Fx<N, L>,
     ) -> Result<(), NoMemory>
         requires blank { SaysNothing fx.old × (fx.old.closes.items ≡ []) }
-        requires body { length segment.now.body.now < 2 ^ 16 }
+        requires body { length segment.now.body.now ≤ len }
+        requires short { len < 2 ^ 16 }
         ensures leads { (slot : ℕ) (m : Said) → TakesHere self.old.stage slot m (segment_parts segment.now) → m.rec ≡ rec
-            → fx.old.took ≡ min (length m.bytes) 4294967295
+            → fx.old.took ≡ min (length m.bytes) 4294967295 → length m.bytes ≡ len
             → CarriesOnHome L.carrier self.old.stage self.new.stage (up slot m now (is_ok result) fx.new) }
-        ensures within { (len : ℕ) → ConnWithin len fx.new }
+        ensures within { ConnWithin len fx.new }
         ensures took { fx.new.took ≡ fx.old.took }
     {
         let ConnStage::Running(running) = &mut self.stage else {
             return Ok(());
         };
-        let (Some(mut acts), Some(mut lent)) = (self.acts.take(), self.lent.take()) else {
+        let Some(mut acts) = self.acts.take() else {
             return self.give_up();
         };
         if !running.has_delivered() {
             return self.give_up();
         }
+        if running.hand_on(rec, segment, now, &mut acts) {
+            let from = (len - segment.body.len()) as u32;
+            self.pass_on(acts, from, len as u32, fx);
+            return Ok(());
+        }
+        let Some(mut lent) = self.lent.take() else {
+            return self.give_up();
+        };
         let ends = running.take(rec, segment, now, &mut acts, &mut lent);
         let window = self.keep(lent);
         self.carry_out(acts, window, ends, fx);
         Ok(())
+    }
+
+    /// Asks for what a call asks for. Bytes `from` to `to` of the message go up.
+    #[inline(always)]
+    fn pass_on<N, L: CarriesConn>(&mut self, acts: Box<Acts>, from: u32, to: u32, fx: &mut Fx<N, L>)
+        requires { SaysNothing fx.old × (fx.old.closes.items ≡ []) }
+        ensures stage { self.new.stage ≡ self.old.stage }
+        ensures effects { (m : Said) → ConnEffects L.carrier m acts.value (received_says m.rec (bytes_between m.bytes from to) ∷ []) [] [] fx.new }
+        ensures within { (len : ℕ) → from ≤ to → to ≤ len → ConnWithin len fx.new }
+        ensures took { fx.new.took ≡ fx.old.took }
+    {
+        self.acts = ask_down(acts, &mut fx.downs);
+        fx.ups.first.put(range_up(from, to));
     }
 
     /// Keeps what has no window, and gives back what has one.
