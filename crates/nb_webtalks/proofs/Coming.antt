@@ -9,7 +9,7 @@ use Rattle.nb_streams.specs.Flows.{TcpCall}
 use Rattle.nb_tcp.specs.ConnHistory.{ConnEntry, EachConnEntry, calls_in, conn_entry, delivered, delivered_by, tcp_calls, tcp_calls_of}
 use Rattle.nb_tcp.specs.ConnPromises.{ConnKeeps}
 use Rattle.nb_tcp.proofs.ConnLaws.{all_went_up}
-use Rattle.nb_tcp.proofs.ConnHistoryLemmas.{calls-append, delivered-append}
+use Rattle.nb_tcp.proofs.ConnHistoryLemmas.{calls-append}
 use Rattle.nb_conns.specs.declared.conn_ask.ConnAsk.{ConnAsk}
 use Rattle.nb_conns.specs.declared.conn_load.Lent.{Lent}
 use Rattle.nb_conns.specs.declared.stage.ConnStage.{ConnStage}
@@ -29,7 +29,6 @@ use Rattle.nb_webtalks.specs.Tellings.{messages_of}
 use Rattle.nb_webtalks.proofs.Walking.{WebCall}
 use Rattle.nb_webtalks.proofs.Steps.{walked}
 use Rattle.nb_webtalks.proofs.Lowers.{asked_at, had, lent_of}
-use Rattle.nb_webtalks.proofs.Rising.{up_bytes}
 use Rattle.nb_webtalks.proofs.Begins.{home_at, nothing_owed}
 use Rattle.nb_webtalks.proofs.Calls.{CallDid, did_break, did_decide, did_fail, did_go}
 

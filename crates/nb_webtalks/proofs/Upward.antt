@@ -1,5 +1,5 @@
 -- What goes up with an entry of the connection, and what stands behind a segment's entry then.
-use Rattle.std.proofs.Common.{◌≡◌, ℕ, Bool, true, false, List, [], ◌∷◌, ◌++◌, Option, Some, None, refl, ap, ◌∙◌, append-nil}
+use Rattle.std.proofs.Common.{◌≡◌, ℕ, Bool, false, List, [], ◌∷◌, ◌++◌, Option, Some, None, refl, ap, ◌∙◌, append-nil}
 use Rattle.nb_graph.specs.Trace.{Said}
 use Rattle.nb_tcp.specs.ConnHistory.{ConnEntry, conn_entry, delivered, lends_out, tcp_calls}
 use Rattle.nb_tcp.specs.Replies.{only_ready}
