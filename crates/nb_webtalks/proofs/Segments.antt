@@ -112,13 +112,13 @@ module _ (a : ConnAsk) (start : ℕ) (calls : List TcpCall) (entries : List Conn
     ends_so = ap (λ (z : Acts). z.over) asked
 
     -- with what went up all has
-    comes_so : (es more behind : List ConnEntry) (sent : List ℕ) → es ≡ entries ++ entry ∷ behind ++ more → ConnKeeps (link_of a) start es → LetsUp acts.ready behind sent → stream_by a calls ++ sent ≡ stream_by a (with_segment calls m now)
+    comes_so : (es more behind : List ConnEntry) (sent : List ℕ) → es ≡ entries ++ entry ∷ (behind ++ more) → ConnKeeps (link_of a) start es → LetsUp acts.ready behind sent → stream_by a calls ++ sent ≡ stream_by a (with_segment calls m now)
     comes_so es more _ _ is keeps (lets_none idle) =
         append-nil (stream_by a calls)
         ∙ none_more a.isn calls (segment_came m now) (ap (λ z. next (held_in phase) == next (held_in z)) (sym come_then) ∙ not_off _ (sym (ap (λ (z : Acts). z.ready) asked) ∙ idle))
     comes_so es more _ _ is keeps (lets_all bytes back silent holds) =
         let lends : ConnEntry = conn_entry (lends_out bytes) (only_ready false) in
-        let es_is : es ≡ (entries ++ entry ∷ []) ++ lends ∷ back ++ more = is ∙ sym (append_assoc entries (entry ∷ []) (lends ∷ back ++ more)) in
+        let es_is : es ≡ (entries ++ entry ∷ []) ++ lends ∷ (back ++ more) = is ∙ sym (append_assoc entries (entry ∷ []) (lends ∷ (back ++ more))) in
         ap (λ z. z ++ bytes) (sym gave ∙ sym (append-nil (delivered entries)) ∙ sym (delivered-append entries entry))
         ∙ each_at (AsksAsPromised (link_of a) start) [] (entries ++ entry ∷ []) lends (back ++ more) (subst (EachConnEntry (AsksAsPromised (link_of a) start) []) es_is keeps.each)
         ∙ ap (stream_by a) (calls-append entries entry ∙ ap (λ z. z ++ segment_came m now ∷ []) called)
@@ -181,7 +181,7 @@ module _ (c : WebChain) (order : IsInOrder c) (g h : Objects Obj) (now : ℕ) (n
     knows p rest at asked had_is =
         let e : ConnEntry = conn_entry (calls_in (segment_came m now)) acts in
         let keeps = kept_at st.state p a start (subst (IsConnAt st.state) (sym at) st.is_conn) asked in
-        let p_is : had p ≡ entries ++ e ∷ behind ++ rest = had_is ∙ ap (λ z. z ++ rest) es_is ∙ append_assoc entries (e ∷ behind) rest in
+        let p_is : had p ≡ entries ++ e ∷ (behind ++ rest) = had_is ∙ ap (λ z. z ++ rest) es_is ∙ append_assoc entries (e ∷ behind) rest in
         let so = asks_so a start calls entries called gave m now acts (had p) (behind ++ rest) p_is keeps in
         record { keeps = keeps; asked = so; all = comes_so a start calls entries called gave m now acts so (had p) rest behind sent p_is keeps lets }
 
