@@ -94,7 +94,7 @@ pub out_step : {N L : Type 0} (k : Carrier L) (d f : Dialogue) (e : NodeEntry N 
 out_step k _ _ _ w v (is_asked a m now fx tag asks effects) was owes = more_out k w v (lent fx) [] [] was owes effects.windows
 out_step k _ _ _ w v (takes_segment a start calls slot m now fx s acts out from is so effects all) was owes =
     talked_out k a start _ out acts.over v (more_out k w v (lent fx) [] (in_list out) was owes effects.windows)
-out_step k _ _ _ w v (hands_on a start calls slot m now fx s acts from is alive ready open effects all) was owes = more_out k w v (lent fx) [] [] was owes effects.windows
+out_step k _ _ _ w v (hands_on a start calls slot m now fx s acts from is alive ready lasts effects all) was owes = more_out k w v (lent fx) [] [] was owes effects.windows
 out_step k _ _ _ w v (takes_none a start calls out slot m now fx none says shut all) was owes = same_out k (talking a start calls out) fx w v says owes was
 out_step k _ _ _ w v (takes_text a start calls out m now fx acts tag effects) was owes =
     talked_out k a start _ out acts.over v (more_out k w v (lent fx) (in_list out) [] was owes effects.windows ∙ append-nil (in_list out))
