@@ -121,8 +121,8 @@ pub behind : (calls : List ConnEntry) (e : ConnEntry) (out : Option Lent) (more 
 behind calls e None more = (more, append_assoc calls (e ∷ []) more)
 behind calls e (Some l) more = (_, append_assoc (calls ++ e ∷ []) _ more ∙ append_assoc calls (e ∷ []) _)
 
-module _ {c : WebCall} {n : ℕ} {ds : List (Deed Obj Load)} {a : ConnAsk} {start : ℕ} {entries : List ConnEntry} {call : TcpCall} {q : AskParts} {stream : List ℕ} {rec : ℕ} (acts : Acts) (es behind : List ConnEntry) (gave : List ℕ) (out : Option Lent) (ended : Bool)
-    (is : es ≡ entries ++ conn_entry (calls_in call) acts ∷ behind) (silent : tcp_calls behind ≡ []) (holds : delivered behind ≡ gave) where
+module _ {c : WebCall} {n : ℕ} {ds : List (Deed Obj Load)} {a : ConnAsk} {start : ℕ} {entries : List ConnEntry} {call : TcpCall} {q : AskParts} {stream : List ℕ} {rec : ℕ}
+    (acts : Acts) (es behind : List ConnEntry) (gave : List ℕ) (out : Option Lent) (ended : Bool) (is : es ≡ entries ++ conn_entry (calls_in call) acts ∷ behind) (silent : tcp_calls behind ≡ []) (holds : delivered behind ≡ gave) where
   pub on_from : CallDid c n ds (talked_on a start es out acts.over) acts.over (downs_for rec acts) q rec stream gave ended → first_close (told_of ds) ≡ None
       → GoesOn c ds a start entries call q stream rec × (ended ≡ false)
   on_from (did_fail fails) none = absurd (none-some _ (sym none ∙ fails))
