@@ -1,7 +1,7 @@
 -- Neither a connection nor a fetch by HTTP asks for a make.
 use Rattle.std.proofs.Common.{◌≡◌, ℕ, Bool, true, false, not, List, [], ◌∷◌, ◌++◌}
 use Rattle.nb_conns.specs.ConnLoads.{Carrier}
-use Rattle.nb_conns.specs.Dialogues.{AsksIdly, Converses, ConversesTo, Dialogue, is_asked, takes_segment, takes_none, takes_text, takes_tick, has_back, is_closed, ends_short, rests_still}
+use Rattle.nb_conns.specs.Dialogues.{AsksIdly, Converses, ConversesTo, Dialogue, is_asked, takes_segment, hands_on, takes_none, takes_text, takes_tick, has_back, is_closed, ends_short, rests_still}
 use Rattle.nb_frames.specs.Within.{AsksNoMake}
 use Rattle.nb_graph.specs.Trace.{NodeEntry, up, down, closed, time, regain}
 use Rattle.nb_webnodes.specs.WebEffects.{WebCarrier}
@@ -36,6 +36,7 @@ web_last k (d ∷ t) e v w (u, goes, run) = web_last k t e u w run
 conn_makes : {N L : Type 0} (k : Carrier L) (v w : Dialogue) (e : NodeEntry N L) → Converses k v e w → AsksNoMake e
 conn_makes k _ _ _ (is_asked a m now fx tag asks effects) = λ d. effects.no_make
 conn_makes k _ _ _ (takes_segment a start past slot m now fx s acts out from is lends effects took) = λ d. effects.no_make
+conn_makes k _ _ _ (hands_on a start past slot m now fx s acts from is goes waits unended effects took) = λ d. effects.no_make
 conn_makes k _ _ _ (takes_none a start past out slot m now fx isnt says closes took) = λ d. says.no_make
 conn_makes k _ _ _ (takes_text a start past out m now fx acts tag effects) = λ d. effects.no_make
 conn_makes k _ _ _ (takes_tick a start past out now fx acts effects) = λ d. effects.no_make

@@ -6,7 +6,7 @@ use Rattle.nb_graph.specs.Trace.{NodeEntry, up, down, closed, time, regain}
 use Rattle.nb_conns.specs.ConnEffects.{closes_for}
 use Rattle.nb_conns.specs.ConnLoads.{Carrier}
 use Rattle.nb_conns.specs.declared.tcp.Tcp.{Tcp}
-use Rattle.nb_conns.specs.Dialogues.{AsksIdly, Converses, ConversesTo, Dialogue, unopened, talking, closed_off, given_up, is_live, is_talking, talked_on, is_asked, takes_segment, takes_none, takes_text, takes_tick, has_back, is_closed, ends_short, rests_still, TcpStands}
+use Rattle.nb_conns.specs.Dialogues.{AsksIdly, Converses, ConversesTo, Dialogue, unopened, talking, closed_off, given_up, is_live, is_talking, talked_on, is_asked, takes_segment, hands_on, takes_none, takes_text, takes_tick, has_back, is_closed, ends_short, rests_still, TcpStands}
 use Rattle.nb_responses.specs.Chunks.{Verdict, more, open_body, body, moved, status, broken, large, long, many}
 use Rattle.nb_readings.specs.Ends.{verdict_end, is_decided}
 use Rattle.nb_http.specs.Standing.{Core, HasRead, is_over}
@@ -113,6 +113,7 @@ conn_step : {N L : Type 0} (k : Carrier L) (v w : Dialogue) (e : NodeEntry N L) 
 conn_step k _ _ _ (is_asked a m now fx tag asks effects) live = record { passes = λ d. inl effects.closes; goes_on = λ h. refl }
 conn_step k _ _ _ (takes_segment a start past slot m now fx s acts out from is lends effects took) live =
     record { passes = λ d. at_end acts.over fx.closes.items effects.closes; goes_on = λ h. talked_further a start _ out acts.over (not_over acts.over fx.closes.items effects.closes h) }
+conn_step k _ _ _ (hands_on a start past slot m now fx s acts from is goes waits unended effects took) live = record { passes = λ d. inl effects.closes; goes_on = λ h. refl }
 conn_step k _ _ _ (takes_none a start past out slot m now fx isnt says closes took) live = record { passes = λ d. inl closes; goes_on = λ h. refl }
 conn_step k _ _ _ (takes_text a start past out m now fx acts tag effects) live =
     record { passes = λ d. at_end acts.over fx.closes.items effects.closes; goes_on = λ h. talked_further a start _ out acts.over (not_over acts.over fx.closes.items effects.closes h) }

@@ -12,7 +12,7 @@ use Rattle.nb_conns.specs.declared.conn_load.Lent.{Lent}
 use Rattle.nb_conns.specs.declared.tcp.Tcp.{Tcp}
 use Rattle.nb_conns.specs.ConnLoads.{Carrier, window_of_conn, windows_in}
 use Rattle.nb_conns.specs.ConnEffects.{SaysNothing}
-use Rattle.nb_conns.specs.Dialogues.{Dialogue, unopened, talking, closed_off, given_up, is_talking, is_home, at_close, talked_on, is_quiet, is_window, AsksIdly, Converses, is_asked, takes_segment, takes_none, takes_text, takes_tick, has_back, is_closed, ends_short, rests_still, ConversesTo, TcpStands}
+use Rattle.nb_conns.specs.Dialogues.{Dialogue, unopened, talking, closed_off, given_up, is_talking, is_home, at_close, talked_on, is_quiet, is_window, AsksIdly, Converses, is_asked, takes_segment, hands_on, takes_none, takes_text, takes_tick, has_back, is_closed, ends_short, rests_still, ConversesTo, TcpStands}
 
 windows-append : {L : Type 0} (k : Carrier L) (v w : List L) → windows_in k (v ++ w) ≡ windows_in k v ++ windows_in k w
 windows-append k v w = flat_map-append (λ load. window_of_conn (k.as_conn load)) v w
@@ -94,6 +94,7 @@ pub out_step : {N L : Type 0} (k : Carrier L) (d f : Dialogue) (e : NodeEntry N 
 out_step k _ _ _ w v (is_asked a m now fx tag asks effects) was owes = more_out k w v (lent fx) [] [] was owes effects.windows
 out_step k _ _ _ w v (takes_segment a start calls slot m now fx s acts out from is so effects all) was owes =
     talked_out k a start _ out acts.over v (more_out k w v (lent fx) [] (in_list out) was owes effects.windows)
+out_step k _ _ _ w v (hands_on a start calls slot m now fx s acts from is alive ready lasts effects all) was owes = more_out k w v (lent fx) [] [] was owes effects.windows
 out_step k _ _ _ w v (takes_none a start calls out slot m now fx none says shut all) was owes = same_out k (talking a start calls out) fx w v says owes was
 out_step k _ _ _ w v (takes_text a start calls out m now fx acts tag effects) was owes =
     talked_out k a start _ out acts.over v (more_out k w v (lent fx) (in_list out) [] was owes effects.windows ∙ append-nil (in_list out))

@@ -171,9 +171,9 @@ pub data Converses {N L : Type 0} (k : Carrier L) : Dialogue → NodeEntry N L �
       → comes_from a slot m ≡ true → IsLaidOut m.bytes s → LendsSo (with_segment_call calls m.rec s now acts) acts.ready out
       → ConnEffects k m acts (ups_for m.rec out (comes_to_end a calls (with_segment_call calls m.rec s now acts))) (closes_for acts.over) (in_list out) fx → TookAll m fx
       → Converses k (talking a start calls None) (up slot m now true fx) (talked_on a start (with_lending (with_segment_call calls m.rec s now acts) out) out acts.over)
-  -- a segment of the peer in order, while nothing is lent and nothing waits: its body goes up as a range of the message, so nothing is lent after it
+  -- a segment of the peer that brings its body in order and no end, while nothing is lent: the body goes up as it stands in the message, so nothing is lent after it
   hands_on : (a : ConnAsk) (start : ℕ) (calls : List ConnEntry) (slot : ℕ) (m : Said) (now : ℕ) (fx : Fx N L) (s : SegmentParts) (acts : Acts)
-      → comes_from a slot m ≡ true → IsLaidOut m.bytes s → acts.over ≡ None
+      → comes_from a slot m ≡ true → IsLaidOut m.bytes s → acts.over ≡ None → acts.ready ≡ true → comes_to_end a calls (with_segment_call calls m.rec s now acts) ≡ false
       → ConnEffects k m acts (received_says m.rec s.body ∷ []) [] [] fx → TookAll m fx
       → Converses k (talking a start calls None) (up slot m now true fx) (talking a start (with_passing (with_segment_call calls m.rec s now acts) s.body) None)
   -- bytes of the peer that are no segment

@@ -9,7 +9,7 @@ use Rattle.nb_graph.specs.Deeds.{rest}
 use Rattle.nb_graph.specs.Trace.{NodeEntry, Said, up, down, closed, time, regain}
 use Rattle.nb_conns.specs.ConnEffects.{ConnEffects, SaysNothing, TookAll, emits_of}
 use Rattle.nb_conns.specs.ConnLoads.{Carrier}
-use Rattle.nb_conns.specs.Dialogues.{Converses, ConversesTo, Dialogue, is_asked, takes_segment, takes_none, takes_text, takes_tick, has_back, is_closed, ends_short, rests_still}
+use Rattle.nb_conns.specs.Dialogues.{Converses, ConversesTo, Dialogue, is_asked, takes_segment, hands_on, takes_none, takes_text, takes_tick, has_back, is_closed, ends_short, rests_still}
 use Rattle.nb_nodes.specs.declared.load.Load.{Load}
 use Rattle.nb_nodes.specs.declared.obj.Obj.{Obj}
 use Rattle.nb_nodes.specs.Carried.{CarriesNothing}
@@ -138,6 +138,7 @@ module _ (top x y : ℕ) (low : y ≡ top → ⊥) where
   conn_so : (k : Carrier Load) (v w : Dialogue) (e : NodeEntry Obj Load) → Converses k v e w → EntrySo top x y e
   conn_so k _ _ _ (is_asked a m now fx tag asks effects) = λ _. conn_says k m _ _ _ _ fx effects
   conn_so k _ _ _ (takes_segment a start past slot m now fx s acts out from is lends effects took) = ((λ _. conn_says k m _ _ _ _ fx effects), λ _ short. none_left m true fx took short)
+  conn_so k _ _ _ (hands_on a start past slot m now fx s acts from is goes waits unended effects took) = ((λ _. conn_says k m _ _ _ _ fx effects), λ _ short. none_left m true fx took short)
   conn_so k _ _ _ (takes_none a start past out slot m now fx isnt says closes took) = ((λ _. nothing_so top y fx says), λ _ short. none_left m true fx took short)
   conn_so k _ _ _ (takes_text a start past out m now fx acts tag effects) = λ _. conn_says k m _ _ _ _ fx effects
   conn_so k _ _ _ (takes_tick a start past out now fx acts effects) = λ _. conn_says k _ _ _ _ _ fx effects

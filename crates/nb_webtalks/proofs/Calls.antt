@@ -11,7 +11,7 @@ use Rattle.nb_graph.specs.Deeds.{Deed, Stage, Holds, Closes, MustUnplug, Settles
 use Rattle.nb_tcp.specs.ConnHistory.{ConnEntry}
 use Rattle.nb_conns.specs.declared.conn_ask.ConnAsk.{ConnAsk}
 use Rattle.nb_conns.specs.declared.conn_load.Lent.{Lent}
-use Rattle.nb_conns.specs.ConnEffects.{ConnEffects, SaysNothing, closes_for, downs_for, emits_of, ups_for}
+use Rattle.nb_conns.specs.ConnEffects.{ConnEffects, SaysNothing, closes_for, downs_for, emits_of}
 use Rattle.nb_conns.specs.ConnLoads.{windows_in}
 use Rattle.nb_conns.specs.Dialogues.{Dialogue, closed_off, talked_on}
 use Rattle.nb_http.specs.Standing.{Core}
@@ -22,13 +22,14 @@ use Rattle.nb_nodes.specs.Fetches.{gathers, taken_below}
 use Rattle.nb_nodes.specs.Objects.{obj_nature}
 use Rattle.nb_webnodes.specs.WebAsks.{AskParts}
 use Rattle.nb_webnodes.specs.WebTalks.{Fetched, ReadsOn, WebTalk, cut_short, ends_early, fetching, stays_idle, web_decided}
+use Rattle.nb_webtalks.proofs.Upward.{says_up, sent_bytes}
 use Rattle.nb_webtalks.proofs.Scenes.{View}
 use Rattle.nb_webtalks.proofs.Walking.{WebCall, Walk, view}
 use Rattle.nb_webtalks.proofs.Steps.{close_lower_up, close_network, conn_settles, left_by, shut_conn_top, shut_network, some_more, unplug_lower_up, weaker}
 use Rattle.nb_webtalks.proofs.Uppers.{RanOut, as_stages, fetch_closed, runs_silent}
 use Rattle.nb_webtalks.proofs.Lowers.{IsBegun, OwesTo, Regains, few_below, owes_nothing, regains_both}
 use Rattle.nb_webtalks.proofs.Middle.{Answers, emits_stages, few_stages}
-use Rattle.nb_webtalks.proofs.Rising.{ClosingOf, Upped, closing_after, few_loads, up_bytes, up_decided, up_failed, up_goes, ups_walk}
+use Rattle.nb_webtalks.proofs.Rising.{ClosingOf, Upped, closing_after, few_loads, up_decided, up_failed, up_goes, ups_walk}
 
 -- THE CONNECTION ENDS BY ITSELF
 
@@ -104,18 +105,18 @@ runs_both x m fx xs gs none closes =
     ap (λ z. z ++ gs) all ∙ append_assoc downs (ups ++ closes_of x xs) gs ∙ ap (λ z. downs ++ z) (append_assoc ups (closes_of x xs) gs)
 
 module _ {c : WebCall} {n : ℕ} {a : List (NodeEntry Obj Load)} {ds : List (Deed Obj Load)} {q : AskParts} {core : Core} {stream given : List ℕ} (b : ConnAsk) (start : ℕ) (reads : ReadsOn core stream given) (going : gathers a ≡ true) (taken : taken_below a ≡ given) where
-  -- its segments go down, what is lent goes up, and it ends or goes on
-  pub entry_by : (j : ℕ) (by : Way) → settles_by {N = Obj} {L = Load} by c.conn ≡ Settles c.conn ∷ [] → (m : Said) (more : List ConnEntry) (acts : Acts) (out : Option Lent) (ended : Bool) (fx : Fx Obj Load)
-      → ConnEffects conn_carrier m acts (ups_for m.rec out ended) (closes_for acts.over) (in_list out) fx
+  -- its segments go down, bytes go up, and it ends or goes on
+  pub entry_by : (j : ℕ) (by : Way) → settles_by {N = Obj} {L = Load} by c.conn ≡ Settles c.conn ∷ [] → (m : Said) (more : List ConnEntry) (acts : Acts) (out : Option Lent) (sent : Option (List ℕ)) (ended : Bool) (fx : Fx Obj Load)
+      → ConnEffects conn_carrier m acts (says_up m.rec sent ended) (closes_for acts.over) (in_list out) fx
       → Walk c n (view true true true true) (runs_of obj_nature c.conn m true fx ++ Holds (port_at c.conn j) by None ∷ []) a (fetching q core stream given) (talked_on b start more out acts.over) [] None ds
-      → CallDid c n ds (talked_on b start more out acts.over) acts.over (downs_for m.rec acts) q m.rec stream (up_bytes out) ended
-  entry_by j by settles m more acts out ended fx effects k =
+      → CallDid c n ds (talked_on b start more out acts.over) acts.over (downs_for m.rec acts) q m.rec stream (sent_bytes sent) ended
+  entry_by j by settles m more acts out sent ended fx effects k =
       let d : Dialogue = talked_on b start more out acts.over in
       let hs : List (Stage Obj Load) = closes_of c.conn (closes_for acts.over) ++ Holds (port_at c.conn j) by None ∷ [] in
       let one = few_below m (loads fx.ups) fx.downs effects.below (owes_out b start more out acts.over (loads fx.downs ++ loads fx.ups) effects.windows)
       (as_stages (few_of obj_nature c.conn m fx.downs ++ (emits_stages c.conn m (emits_of fx.ups) ++ hs)) (runs_both c.conn m fx (closes_for acts.over) (Holds (port_at c.conn j) by None ∷ []) effects.no_make effects.closes) k) in
-      let two = ups_walk m hs reads going taken (one.regains.begun (begun_out b start more out acts.over)) out ended (emits_of fx.ups) effects.ups effects.above (subst (λ z. OwesTo z one.now_at) (few_loads fx.ups) one.owes) one.walk in
-      subst (λ z. CallDid c n ds d acts.over z q m.rec stream (up_bytes out) ended) effects.downs (after_downs one.regains (after_ups j by settles acts.over two))
+      let two = ups_walk m hs reads going taken (one.regains.begun (begun_out b start more out acts.over)) sent ended (emits_of fx.ups) effects.ups effects.above (subst (λ z. OwesTo z one.now_at) (few_loads fx.ups) one.owes) one.walk in
+      subst (λ z. CallDid c n ds d acts.over z q m.rec stream (sent_bytes sent) ended) effects.downs (after_downs one.regains (after_ups j by settles acts.over two))
     where
       after_downs : {d p : Dialogue} {over : Option Cause} {told : List Said} {bytes : List ℕ} → Regains d p → CallDid c n ds p over told q m.rec stream bytes ended → CallDid c n ds d over told q m.rec stream bytes ended
       after_downs r (did_fail out) = did_fail out

@@ -9,7 +9,7 @@ use Rattle.nb_streams.specs.Flows.{TcpCall}
 use Rattle.nb_tcp.specs.ConnHistory.{ConnEntry, EachConnEntry, calls_in, conn_entry, delivered, delivered_by, tcp_calls, tcp_calls_of}
 use Rattle.nb_tcp.specs.ConnPromises.{ConnKeeps}
 use Rattle.nb_tcp.proofs.ConnLaws.{all_went_up}
-use Rattle.nb_tcp.proofs.ConnHistoryLemmas.{calls-append, delivered-append}
+use Rattle.nb_tcp.proofs.ConnHistoryLemmas.{calls-append}
 use Rattle.nb_conns.specs.declared.conn_ask.ConnAsk.{ConnAsk}
 use Rattle.nb_conns.specs.declared.conn_load.Lent.{Lent}
 use Rattle.nb_conns.specs.declared.stage.ConnStage.{ConnStage}
@@ -29,7 +29,6 @@ use Rattle.nb_webtalks.specs.Tellings.{messages_of}
 use Rattle.nb_webtalks.proofs.Walking.{WebCall}
 use Rattle.nb_webtalks.proofs.Steps.{walked}
 use Rattle.nb_webtalks.proofs.Lowers.{asked_at, had, lent_of}
-use Rattle.nb_webtalks.proofs.Rising.{up_bytes}
 use Rattle.nb_webtalks.proofs.Begins.{home_at, nothing_owed}
 use Rattle.nb_webtalks.proofs.Calls.{CallDid, did_break, did_decide, did_fail, did_go}
 
@@ -104,51 +103,47 @@ pub lent_calls : (calls : List ConnEntry) (out : Option Lent) → tcp_calls (wit
 lent_calls calls None = refl
 lent_calls calls (Some l) = calls-append calls _ ∙ append-nil (tcp_calls calls)
 
-lent_gave : (calls : List ConnEntry) (out : Option Lent) → delivered (with_lending calls out) ≡ delivered calls ++ up_bytes out
-lent_gave calls None = sym (append-nil (delivered calls))
-lent_gave calls (Some l) = delivered-append calls _
-
 -- Nothing was closed in a call of the connection: all go on, with what it asked, and what it lent then.
 pub record GoesOn (c : WebCall) (ds : List (Deed Obj Load)) (a : ConnAsk) (start : ℕ) (entries : List ConnEntry) (call : TcpCall) (q : AskParts) (stream : List ℕ) (rec : ℕ) : Type 0 where
   pub acts : Acts
-  pub out : Option Lent
+  pub sent : List ℕ
   pub more : List ConnEntry
   pub after : List ConnEntry
   pub core : Core
   pub given : List ℕ
   pub says : messages_of (told_of ds) ≡ downs_for rec acts
   pub over : acts.over ≡ None
-  pub web : c.web_end ≡ fetching q core (stream ++ up_bytes out) given
-  pub reads : ReadsOn core (stream ++ up_bytes out) given
+  pub web : c.web_end ≡ fetching q core (stream ++ sent) given
+  pub reads : ReadsOn core (stream ++ sent) given
   pub gathering : gathers c.above ≡ true
   pub taken : taken_below c.above ≡ given
   pub conn : c.conn_end ≡ talking a start after None
   pub grows : after ≡ entries ++ conn_entry (calls_in call) acts ∷ more
   pub calls : tcp_calls after ≡ tcp_calls entries ++ call ∷ []
-  pub gave : delivered after ≡ delivered entries ++ up_bytes out
+  pub gave : delivered after ≡ delivered entries ++ sent
 
 -- what was lent stands after the entry
 pub behind : (calls : List ConnEntry) (e : ConnEntry) (out : Option Lent) (more : List ConnEntry) → (behind : List ConnEntry) × (with_lending (calls ++ e ∷ []) out ++ more ≡ calls ++ e ∷ behind)
 behind calls e None more = (more, append_assoc calls (e ∷ []) more)
 behind calls e (Some l) more = (_, append_assoc (calls ++ e ∷ []) _ more ∙ append_assoc calls (e ∷ []) _)
 
-module _ {c : WebCall} {n : ℕ} {ds : List (Deed Obj Load)} {a : ConnAsk} {start : ℕ} {entries : List ConnEntry} {call : TcpCall} {q : AskParts} {stream : List ℕ} {rec : ℕ} (acts : Acts) (out : Option Lent) (ended : Bool) where
-  pub on_from : CallDid c n ds (talked_on a start (with_lending (entries ++ conn_entry (calls_in call) acts ∷ []) out) out acts.over) acts.over (downs_for rec acts) q rec stream (up_bytes out) ended → first_close (told_of ds) ≡ None
+module _ {c : WebCall} {n : ℕ} {ds : List (Deed Obj Load)} {a : ConnAsk} {start : ℕ} {entries : List ConnEntry} {call : TcpCall} {q : AskParts} {stream : List ℕ} {rec : ℕ} (acts : Acts) (es behind : List ConnEntry) (gave : List ℕ) (out : Option Lent) (ended : Bool)
+    (is : es ≡ entries ++ conn_entry (calls_in call) acts ∷ behind) (silent : tcp_calls behind ≡ []) (holds : delivered behind ≡ gave) where
+  pub on_from : CallDid c n ds (talked_on a start es out acts.over) acts.over (downs_for rec acts) q rec stream gave ended → first_close (told_of ds) ≡ None
       → GoesOn c ds a start entries call q stream rec × (ended ≡ false)
   on_from (did_fail fails) none = absurd (none-some _ (sym none ∙ fails))
   on_from (did_go core given b p over off reads going taken r owes w) none =
       let t = walked w in
       let e : ConnEntry = conn_entry (calls_in call) acts in
-      let before : List ConnEntry = with_lending (entries ++ e ∷ []) out in
-      let d : talked_on a start before out acts.over ≡ talking a start before out = ap (talked_on a start before out) over in
+      let d : talked_on a start es out acts.over ≡ talking a start es out = ap (talked_on a start es out) over in
       let on : is_talking p ≡ true = r.talks ∙ ap is_talking d in
       let at = home_at a start p (r.asked ∙ ap asked_at d) on (nothing_owed (lent_of p) (owes on)) in
-      let grows : had p ≡ before ++ r.more = r.grows ∙ ap (λ z. had z ++ r.more) d in
-      let y = behind entries e out r.more in (
+      let then : List ConnEntry = behind ++ r.more in
+      let grows : had p ≡ entries ++ e ∷ then = r.grows ∙ ap (λ z. had z ++ r.more) d ∙ ap (λ z. z ++ r.more) is ∙ append_assoc entries (e ∷ behind) r.more in (
         record {
           acts = acts;
-          out = out;
-          more = y.0;
+          sent = gave;
+          more = then;
           after = had p;
           core = core;
           given = given;
@@ -159,10 +154,11 @@ module _ {c : WebCall} {n : ℕ} {ds : List (Deed Obj Load)} {a : ConnAsk} {star
           gathering = subst (λ z. gathers z ≡ true) t.2 going;
           taken = subst (λ z. taken_below z ≡ given) t.2 taken;
           conn = sym t.4 ∙ at;
-          grows = grows ∙ y.1;
-          calls = ap tcp_calls grows ∙ flat_map-append (λ (x : ConnEntry). tcp_calls_of x.call) before r.more ∙ ap (λ z. tcp_calls before ++ z) r.silent ∙ append-nil (tcp_calls before) ∙ lent_calls (entries ++ e ∷ []) out ∙ calls-append entries e;
-          gave = ap delivered grows ∙ flat_map-append (λ (x : ConnEntry). delivered_by x.call) before r.more ∙ ap (λ z. delivered before ++ z) r.holds ∙ append-nil (delivered before) ∙ lent_gave (entries ++ e ∷ []) out
-              ∙ ap (λ z. z ++ up_bytes out) (delivered-append entries e ∙ append-nil (delivered entries));
+          grows = grows;
+          calls = ap tcp_calls grows ∙ flat_map-append (λ (x : ConnEntry). tcp_calls_of x.call) entries (e ∷ then)
+              ∙ ap (λ z. tcp_calls entries ++ call ∷ z) (flat_map-append (λ (x : ConnEntry). tcp_calls_of x.call) behind r.more ∙ ap (λ z. z ++ tcp_calls r.more) silent ∙ r.silent);
+          gave = ap delivered grows ∙ flat_map-append (λ (x : ConnEntry). delivered_by x.call) entries (e ∷ then)
+              ∙ ap (λ z. delivered entries ++ z) (flat_map-append (λ (x : ConnEntry). delivered_by x.call) behind r.more ∙ ap (λ z. delivered behind ++ z) r.holds ∙ append-nil (delivered behind) ∙ holds);
         },
         off,
       )

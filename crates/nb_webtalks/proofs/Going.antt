@@ -19,7 +19,6 @@ use Rattle.nb_webchains.specs.WebChains.{IsInOrder}
 use Rattle.nb_webnodes.specs.WebAsks.{AskParts}
 use Rattle.nb_webnodes.specs.WebTalks.{FetchedTo, WebTalk, cut_short, fetching, web_decided, web_unasked}
 use Rattle.nb_webtalks.specs.TalkStands.{HasHadCalls, HasTaken, StandsForTalk, stream_by}
-use Rattle.nb_webtalks.proofs.Rising.{up_bytes}
 use Rattle.nb_webtalks.proofs.Starting.{Started, call_of}
 use Rattle.nb_webtalks.proofs.Coming.{GoesOn, gave_all}
 
@@ -40,9 +39,9 @@ module _ (c : WebChain) (order : IsInOrder c) (g h : Objects Obj) (now : ℕ) (a
 
   module _ (every : (w : WebTalk) (d : Dialogue) → FetchedTo web_carrier web_unasked (between ++ entries_of c.web.0 st.deeds) w → ConversesTo conn_carrier unopened (below ++ entries_of c.conn.0 st.deeds) d → PairGoes w d) (unended : has_ended (held_after a.isn (calls ++ call ∷ [])) ≡ false) where
     -- what the connection has delivered is all that has come
-    all_come : (w : WebTalk) (y : PairGoes w st.dialogue) → stream ++ up_bytes y.goes.out ≡ stream_by a (calls ++ call ∷ [])
+    all_come : (w : WebTalk) (y : PairGoes w st.dialogue) → stream ++ y.goes.sent ≡ stream_by a (calls ++ call ∷ [])
     all_come w y =
-        ap (λ z. z ++ up_bytes y.goes.out) (sym y.gave) ∙ sym y.goes.gave ∙ gave_all st.state a start y.goes.after (subst (IsConnAt st.state) y.goes.conn st.is_conn) ∙ ap (stream_by a) (y.goes.calls ∙ ap (λ z. z ++ call ∷ []) y.called)
+        ap (λ z. z ++ y.goes.sent) (sym y.gave) ∙ sym y.goes.gave ∙ gave_all st.state a start y.goes.after (subst (IsConnAt st.state) y.goes.conn st.is_conn) ∙ ap (stream_by a) (y.goes.calls ∙ ap (λ z. z ++ call ∷ []) y.called)
 
     pub stands_then : StandsForTalk a start (calls ++ call ∷ []) c h
     stands_then =
@@ -57,8 +56,8 @@ module _ (c : WebChain) (order : IsInOrder c) (g h : Objects Obj) (now : ℕ) (a
           gathering = one.goes.gathering;
           took = λ w reads. let y = every w st.dialogue reads st.talked in subst (HasTaken (stream_by a (calls ++ call ∷ [])) (taken_below (above ++ entries_of c.fetch.0 st.deeds))) (sym y.goes.web) (all_come w y, sym y.goes.taken, y.goes.reads);
           called = λ d talks. let y = every st.talk d st.fetched talks in
-              let same : stream ++ up_bytes y.goes.out ≡ stream ++ up_bytes one.goes.out = ap stream_of (sym y.goes.web ∙ one.goes.web) in
+              let same : stream ++ y.goes.sent ≡ stream ++ one.goes.sent = ap stream_of (sym y.goes.web ∙ one.goes.web) in
               subst (HasHadCalls a start (calls ++ call ∷ [])) (sym y.goes.conn)
-              (refl, refl, y.goes.calls ∙ ap (λ z. z ++ call ∷ []) y.called, y.goes.gave ∙ ap (λ z. z ++ up_bytes y.goes.out) y.gave ∙ same ∙ all_come st.talk one, refl);
+              (refl, refl, y.goes.calls ∙ ap (λ z. z ++ call ∷ []) y.called, y.goes.gave ∙ ap (λ z. z ++ y.goes.sent) y.gave ∙ same ∙ all_come st.talk one, refl);
           unended = unended;
         }

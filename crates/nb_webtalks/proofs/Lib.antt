@@ -1,4 +1,5 @@
 pub mod TalkLemmas
+pub mod Upward
 pub mod Scenes
 pub mod Walking
 pub mod Steps

@@ -12,7 +12,7 @@ use Rattle.nb_graph.specs.Trace.{NodeEntry, Said, carried, in_list, loads}
 use Rattle.nb_graph.specs.Deeds.{Deed, Stage, Sends, emit_of, returns_of, said_of}
 use Rattle.nb_tcp.specs.ConnHistory.{ConnEntry, closes_from_above, conn_entry, tcp_calls, tcp_calls_of}
 use Rattle.nb_conns.specs.declared.conn_load.Lent.{Lent}
-use Rattle.nb_conns.specs.ConnEffects.{GoesAbove, downs_for, emit_says, received_says, ups_for}
+use Rattle.nb_conns.specs.ConnEffects.{GoesAbove, downs_for, emit_says, received_says}
 use Rattle.nb_conns.specs.ConnLoads.{lent_bytes}
 use Rattle.nb_conns.specs.Dialogues.{Dialogue, is_talking}
 use Rattle.nb_http.specs.Standing.{Core}
@@ -23,6 +23,7 @@ use Rattle.nb_nodes.specs.Fetches.{gathers, taken_below}
 use Rattle.nb_nodes.specs.Objects.{obj_nature}
 use Rattle.nb_webnodes.specs.WebAsks.{AskParts}
 use Rattle.nb_webnodes.specs.WebTalks.{ReadsOn, WebTalk, fetching, web_decided}
+use Rattle.nb_webtalks.proofs.Upward.{says_up, sent_bytes}
 use Rattle.nb_webtalks.proofs.Scenes.{View}
 use Rattle.nb_webtalks.proofs.Walking.{WebCall, Walk, view}
 use Rattle.nb_webtalks.proofs.Steps.{drop_conn_top, send_to_web}
@@ -174,8 +175,8 @@ module _ {c : WebCall} {n : ℕ} {d : Dialogue} {ms : List Said} {ds : List (Dee
       up_decided core taken later given by_end x a y.0 net told cut (λ b. let z = whole b in absurd (false≢true z.1)) answers (closing_before closing y.1) y.3
 
 module _ {c : WebCall} {n : ℕ} {a : List (NodeEntry Obj Load)} {d : Dialogue} {ms : List Said} {ds : List (Deed Obj Load)} {q : AskParts} {core : Core} {stream given : List ℕ} (m : Said) (gs : List (Stage Obj Load)) (reads : ReadsOn core stream given) (going : gathers a ≡ true) (taken : taken_below a ≡ given) (begun : IsBegun d) where
-  pub ups_walk : (out : Option Lent) (ended : Bool) (es : List (Emit Load)) → map (emit_says conn_carrier m) es ≡ ups_for m.rec out ended → AllByRecursion GoesAbove es → OwesTo (loads_in es) d
-      → Walk c n (view true true true true) (emits_stages c.conn m es ++ gs) a (fetching q core stream given) d ms None ds → Upped c n gs d ms ds q m.rec stream (up_bytes out) ended []
+  pub ups_walk : (sent : Option (List ℕ)) (ended : Bool) (es : List (Emit Load)) → map (emit_says conn_carrier m) es ≡ says_up m.rec sent ended → AllByRecursion GoesAbove es → OwesTo (loads_in es) d
+      → Walk c n (view true true true true) (emits_stages c.conn m es ++ gs) a (fetching q core stream given) d ms None ds → Upped c n gs d ms ds q m.rec stream (sent_bytes sent) ended []
   ups_walk None false es says above owes k =
       let none = none_up m es says in
       up_goes core given a d refl (subst (λ z. ReadsOn core z given) (sym (append-nil stream)) reads) going taken (regains_none d) (subst (λ z. OwesTo (loads_in z) d) none owes)
@@ -186,19 +187,19 @@ module _ {c : WebCall} {n : ℕ} {a : List (NodeEntry Obj Load)} {d : Dialogue} 
       let others : map (emit_says conn_carrier m) es ≡ [] = cc in
       let none = none_up m es others in
       end_up m gs [] reads going taken begun e above.0 one (subst (λ z. OwesTo (in_list e.load ++ loads_in z) d) none owes) (as_stages (emits_stages c.conn m (e ∷ []) ++ gs) (ap (λ (z : List (Emit Load)). emits_stages c.conn m (e ∷ z) ++ gs) none) k)
-  ups_walk (Some window) false [] says above owes k = absurd (let z = says in cc)
-  ups_walk (Some window) false (e ∷ es) says above owes k =
-      let one : emit_says conn_carrier m e ≡ received_says m.rec (lent_bytes window) = cc in
+  ups_walk (Some bytes) false [] says above owes k = absurd (let z = says in cc)
+  ups_walk (Some bytes) false (e ∷ es) says above owes k =
+      let one : emit_says conn_carrier m e ≡ received_says m.rec bytes = cc in
       let others : map (emit_says conn_carrier m) es ≡ [] = cc in
       let none = none_up m es others in
-      received_up m gs [] reads going taken begun false (lent_bytes window) e [] above.0 one (subst (λ z. OwesTo (in_list e.load ++ loads_in z) d) none owes) (as_stages (emits_stages c.conn m (e ∷ []) ++ gs) (ap (λ (z : List (Emit Load)). emits_stages c.conn m (e ∷ z) ++ gs) none) k)
-  ups_walk (Some window) true [] says above owes k = absurd (let z = says in cc)
-  ups_walk (Some window) true (e ∷ []) says above owes k = absurd (let z = says in cc)
-  ups_walk (Some window) true (e ∷ (f ∷ es)) says above owes k =
-      let one : emit_says conn_carrier m e ≡ received_says m.rec (lent_bytes window) = cc in
+      received_up m gs [] reads going taken begun false bytes e [] above.0 one (subst (λ z. OwesTo (in_list e.load ++ loads_in z) d) none owes) (as_stages (emits_stages c.conn m (e ∷ []) ++ gs) (ap (λ (z : List (Emit Load)). emits_stages c.conn m (e ∷ z) ++ gs) none) k)
+  ups_walk (Some bytes) true [] says above owes k = absurd (let z = says in cc)
+  ups_walk (Some bytes) true (e ∷ []) says above owes k = absurd (let z = says in cc)
+  ups_walk (Some bytes) true (e ∷ (f ∷ es)) says above owes k =
+      let one : emit_says conn_carrier m e ≡ received_says m.rec bytes = cc in
       let two : emit_says conn_carrier m f ≡ record { tag = 8; rec = m.rec; a = 0; b = 0; bytes = [] } = cc in
       let others : map (emit_says conn_carrier m) es ≡ [] = cc in
       let none = none_up m es others in
       then_end m gs f above.1.0 two begun
-      (received_up m gs (in_list f.load ++ []) reads going taken begun true (lent_bytes window) e (f ∷ []) above.0 one (subst (λ z. OwesTo (in_list e.load ++ (in_list f.load ++ loads_in z)) d) none owes)
+      (received_up m gs (in_list f.load ++ []) reads going taken begun true bytes e (f ∷ []) above.0 one (subst (λ z. OwesTo (in_list e.load ++ (in_list f.load ++ loads_in z)) d) none owes)
       (as_stages (emits_stages c.conn m (e ∷ (f ∷ [])) ++ gs) (ap (λ (z : List (Emit Load)). emits_stages c.conn m (e ∷ (f ∷ z)) ++ gs) none) k))

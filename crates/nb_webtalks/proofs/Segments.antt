@@ -16,16 +16,16 @@ use Rattle.nb_streams.specs.Sending.{calls_for, closing_segment, without_try}
 use Rattle.nb_streams.specs.Streams.{front, grown, has_ended, next}
 use Rattle.nb_talks.specs.TalkPromises.{closes_by, earlier}
 use Rattle.nb_streams.proofs.FlowLaws.{front_grows}
-use Rattle.nb_tcp.specs.ConnHistory.{ConnEntry, EachConnEntry, calls_in, closes_from_above, conn_entry, delivered, tcp_calls, tcp_calls_of}
+use Rattle.nb_tcp.specs.ConnHistory.{ConnEntry, EachConnEntry, calls_in, closes_from_above, conn_entry, delivered, lends_out, tcp_calls, tcp_calls_of}
 use Rattle.nb_tcp.specs.ConnPromises.{AsksAsPromised, ConnKeeps, segment_asks}
 use Rattle.nb_tcp.proofs.ConnHistoryLemmas.{calls-append, delivered-append, phase-append}
+use Rattle.nb_tcp.specs.Replies.{only_ready}
 use Rattle.nb_tcpseg.specs.SegmentText.{IsLaidOut, SegmentParts}
 use Rattle.nb_conns.specs.declared.conn_ask.ConnAsk.{ConnAsk}
 use Rattle.nb_conns.specs.declared.conn_load.Lent.{Lent}
 use Rattle.nb_conns.specs.ConnAsks.{link_of}
 use Rattle.nb_conns.specs.ConnEffects.{downs_for, place_says}
-use Rattle.nb_conns.specs.ConnLoads.{lent_bytes}
-use Rattle.nb_conns.specs.Dialogues.{ConversesTo, Dialogue, IsConnAt, LendsSo, arriving, comes_from, comes_to_end, is_talking, talked_on, talking, unopened, with_lending, with_segment_call}
+use Rattle.nb_conns.specs.Dialogues.{ConversesTo, Dialogue, IsConnAt, arriving, comes_from, comes_to_end, is_talking, talked_on, talking, unopened, with_segment_call}
 use Rattle.nb_http.proofs.RunLaws.{goes_on_undecided}
 use Rattle.nb_http.specs.Standing.{Core}
 use Rattle.nb_nodes.specs.declared.obj.Obj.{Obj}
@@ -44,14 +44,15 @@ use Rattle.nb_webnodes.specs.WebTalks.{FetchedTo, ReadsOn, WebTalk, fetching, we
 use Rattle.nb_webtalks.specs.TalkStands.{StandsForTalk, stream_by}
 use Rattle.nb_webtalks.specs.Tellings.{messages_of}
 use Rattle.nb_webtalks.specs.Comings.{HasBrought, SegmentComes, response_end, segment_comes_so, segment_lacks_memory, segment_says, sends_say, with_segment}
+use Rattle.nb_webtalks.proofs.Upward.{LetsUp, lets_all, lets_gave, lets_none, lets_silent}
 use Rattle.nb_webtalks.proofs.Walking.{WebCall}
 use Rattle.nb_webtalks.proofs.Steps.{walked}
 use Rattle.nb_webtalks.proofs.Lowers.{asked_at, had}
-use Rattle.nb_webtalks.proofs.Rising.{ClosingOf, told_a_close, told_none, up_bytes}
+use Rattle.nb_webtalks.proofs.Rising.{ClosingOf, told_a_close, told_none}
 use Rattle.nb_webtalks.proofs.Calls.{CallDid, did_break, did_decide, did_fail, did_go}
 use Rattle.nb_webtalks.proofs.Entering.{SegmentDid, segment_does, segment_fails, segment_walk}
 use Rattle.nb_webtalks.proofs.Starting.{Started, call_of}
-use Rattle.nb_webtalks.proofs.Coming.{GoesOn, behind, conversed_parts, each_at, fetched_parts, is_fetching, is_talked, kept_at, lent_calls, on_from}
+use Rattle.nb_webtalks.proofs.Coming.{GoesOn, conversed_parts, each_at, fetched_parts, is_fetching, is_talked, kept_at, on_from}
 use Rattle.nb_webtalks.proofs.Going.{PairGoes, stands_then}
 
 -- WHERE A CALL LEFT A CONNECTION
@@ -110,27 +111,23 @@ module _ (a : ConnAsk) (start : ℕ) (calls : List TcpCall) (entries : List Conn
     ends_so : acts.over ≡ segment_end a.isn phase m
     ends_so = ap (λ (z : Acts). z.over) asked
 
-    -- with what was lent all has gone up
-    comes_so : (out : Option Lent) (es more : List ConnEntry) → es ≡ with_lending (entries ++ entry ∷ []) out ++ more → ConnKeeps (link_of a) start es → LendsSo (entries ++ entry ∷ []) acts.ready out
-        → stream_by a calls ++ up_bytes out ≡ stream_by a (with_segment calls m now)
-    comes_so None es more is keeps lends =
+    -- with what went up all has
+    comes_so : (es more behind : List ConnEntry) (sent : List ℕ) → es ≡ entries ++ entry ∷ (behind ++ more) → ConnKeeps (link_of a) start es → LetsUp acts.ready behind sent → stream_by a calls ++ sent ≡ stream_by a (with_segment calls m now)
+    comes_so es more _ _ is keeps (lets_none idle) =
         append-nil (stream_by a calls)
-        ∙ none_more a.isn calls (segment_came m now)
-        (ap (λ z. next (held_in phase) == next (held_in z)) (sym come_then) ∙ not_off _ (sym (ap (λ (z : Acts). z.ready) asked) ∙ waits acts.ready lends))
-      where
-        waits : (b : Bool) → LendsSo (entries ++ entry ∷ []) b None → b ≡ false
-        waits true l = absurd l
-        waits false l = refl
-    comes_so (Some l) es more is keeps lends =
-        ap (λ z. z ++ lent_bytes l) (sym gave ∙ sym (append-nil (delivered entries)) ∙ sym (delivered-append entries entry))
-        ∙ each_at (AsksAsPromised (link_of a) start) [] (entries ++ entry ∷ []) _ more (subst (EachConnEntry (AsksAsPromised (link_of a) start) []) (is ∙ append_assoc (entries ++ entry ∷ []) _ more) keeps.each)
+        ∙ none_more a.isn calls (segment_came m now) (ap (λ z. next (held_in phase) == next (held_in z)) (sym come_then) ∙ not_off _ (sym (ap (λ (z : Acts). z.ready) asked) ∙ idle))
+    comes_so es more _ _ is keeps (lets_all bytes back silent holds) =
+        let lends : ConnEntry = conn_entry (lends_out bytes) (only_ready false) in
+        let es_is : es ≡ (entries ++ entry ∷ []) ++ lends ∷ (back ++ more) = is ∙ sym (append_assoc entries (entry ∷ []) (lends ∷ (back ++ more))) in
+        ap (λ z. z ++ bytes) (sym gave ∙ sym (append-nil (delivered entries)) ∙ sym (delivered-append entries entry))
+        ∙ each_at (AsksAsPromised (link_of a) start) [] (entries ++ entry ∷ []) lends (back ++ more) (subst (EachConnEntry (AsksAsPromised (link_of a) start) []) es_is keeps.each)
         ∙ ap (stream_by a) (calls-append entries entry ∙ ap (λ z. z ++ segment_came m now ∷ []) called)
 
 -- what is known where a call left the connection so
-record Knows (a : ConnAsk) (start : ℕ) (calls : List TcpCall) (m : Arrival) (now : ℕ) (acts : Acts) (out : Option Lent) (p : Dialogue) : Type 0 where
+record Knows (a : ConnAsk) (start : ℕ) (calls : List TcpCall) (m : Arrival) (now : ℕ) (acts : Acts) (sent : List ℕ) (p : Dialogue) : Type 0 where
   keeps : ConnKeeps (link_of a) start (had p)
   asked : acts ≡ segment_asks (link_of a) (conn_phase a.isn calls) m now
-  all : stream_by a calls ++ up_bytes out ≡ stream_by a (with_segment calls m now)
+  all : stream_by a calls ++ sent ≡ stream_by a (with_segment calls m now)
 
 module _ (c : WebChain) (order : IsInOrder c) (g h : Objects Obj) (now : ℕ) (ns : List Notice) (a : ConnAsk) (start : ℕ) (calls : List TcpCall) (s : StandsForTalk a start calls c g) (msg : Said) (sp : SegmentParts)
     (comes : comes_from a 1 msg ≡ true) (is : IsLaidOut msg.bytes sp) (short : length msg.bytes < 2 ^ 32) (st : Started c order g h now (Offers (port_at c.conn.0 1) msg ∷ []) ns s.above s.between s.below) where
@@ -173,21 +170,20 @@ module _ (c : WebChain) (order : IsInOrder c) (g h : Objects Obj) (now : ℕ) (n
     where
       by : (entries : List ConnEntry) (q : AskParts) → SegmentDid (end_of w d) (suc (length st.deeds)) st.deeds a start entries q (stream_by a calls) msg sp → GoesOn (end_of w d) st.deeds a start entries (segment_came m now) q (stream_by a calls) msg.rec
       by entries q (segment_fails out) = absurd (none-some _ (sym (told_close ∙ none) ∙ out))
-      by entries q (segment_does acts out lends did) = (on_from acts out _ did (told_close ∙ none)).0
+      by entries q (segment_does acts es behind sent out is lets did) = (on_from acts es behind sent out _ is (lets_silent acts.ready behind sent lets) (lets_gave acts.ready behind sent lets) did (told_close ∙ none)).0
 
-  module _ (entries : List ConnEntry) (q : AskParts) (called : tcp_calls entries ≡ calls) (gave : delivered entries ≡ stream_by a calls) (acts : Acts) (out : Option Lent) (lends : LendsSo (with_segment_call entries msg.rec sp now acts) acts.ready out) where
-    abbrev lent_to : List ConnEntry
-    lent_to = with_lending (with_segment_call entries msg.rec sp now acts) out
-
+  module _ (entries : List ConnEntry) (q : AskParts) (called : tcp_calls entries ≡ calls) (gave : delivered entries ≡ stream_by a calls) (acts : Acts) (es behind : List ConnEntry) (sent : List ℕ) (out : Option Lent)
+      (es_is : es ≡ entries ++ conn_entry (calls_in (segment_came m now)) acts ∷ behind) (lets : LetsUp acts.ready behind sent) where
     abbrev left_at : Dialogue
-    left_at = talked_on a start lent_to out acts.over
+    left_at = talked_on a start es out acts.over
 
-    knows : (p : Dialogue) (rest : List ConnEntry) → p ≡ st.dialogue → asked_at p ≡ Some (a, start) → had p ≡ lent_to ++ rest → Knows a start calls m now acts out p
+    knows : (p : Dialogue) (rest : List ConnEntry) → p ≡ st.dialogue → asked_at p ≡ Some (a, start) → had p ≡ es ++ rest → Knows a start calls m now acts sent p
     knows p rest at asked had_is =
+        let e : ConnEntry = conn_entry (calls_in (segment_came m now)) acts in
         let keeps = kept_at st.state p a start (subst (IsConnAt st.state) (sym at) st.is_conn) asked in
-        let y = behind entries (conn_entry (calls_in (segment_came m now)) acts) out rest in
-        let so = asks_so a start calls entries called gave m now acts (had p) y.0 (had_is ∙ y.1) keeps in
-        record { keeps = keeps; asked = so; all = comes_so a start calls entries called gave m now acts so out (had p) rest had_is keeps lends }
+        let p_is : had p ≡ entries ++ e ∷ (behind ++ rest) = had_is ∙ ap (λ z. z ++ rest) es_is ∙ append_assoc entries (e ∷ behind) rest in
+        let so = asks_so a start calls entries called gave m now acts (had p) (behind ++ rest) p_is keeps in
+        record { keeps = keeps; asked = so; all = comes_so a start calls entries called gave m now acts so (had p) rest behind sent p_is keeps lets }
 
     -- whether the stream has ended then
     ends_then : (b : Bool) → comes_to_end a entries (with_segment_call entries msg.rec sp now acts) ≡ b → has_ended (held_after a.isn (with_segment calls m now)) ≡ b
@@ -213,19 +209,19 @@ module _ (c : WebChain) (order : IsInOrder c) (g h : Objects Obj) (now : ℕ) (n
         ∙ ap (λ z. place ++ (sends ++ z)) (closes ∙ ap (close_says ends) (ends_so a start calls entries called gave m now acts asked) ∙ ap (λ z. close_says z (segment_end a.isn phase_at m)) (sym is_so))
 
     -- what reads on ends nothing
-    none_ends : (core : Core) (given : List ℕ) → ReadsOn core (stream_by a calls ++ up_bytes out) given → stream_by a calls ++ up_bytes out ≡ stream_by a (with_segment calls m now) → comes_to_end a entries (with_segment_call entries msg.rec sp now acts) ≡ false
+    none_ends : (core : Core) (given : List ℕ) → ReadsOn core (stream_by a calls ++ sent) given → stream_by a calls ++ sent ≡ stream_by a (with_segment calls m now) → comes_to_end a entries (with_segment_call entries msg.rec sp now acts) ≡ false
         → response_end a calls m now ≡ None
     none_ends core given reads all off =
-        let stream = stream_by a calls ++ up_bytes out in
+        let stream = stream_by a calls ++ sent in
         let y = goes_on_undecided reads.rec core stream given None reads.ran reads.goes_on in
         ap (λ (r : Response). verdict_end msg.rec r.verdict) (ap (λ z. response_read z (has_ended (held_after a.isn (with_segment calls m now)))) (sym all) ∙ ap (response_read stream) (ends_then false off) ∙ y.0)
 
-    came_of : CallDid (end_of st.talk st.dialogue) (suc (length st.deeds)) st.deeds left_at acts.over (downs_for msg.rec acts) q msg.rec (stream_by a calls) (up_bytes out) (comes_to_end a entries (with_segment_call entries msg.rec sp now acts))
+    came_of : CallDid (end_of st.talk st.dialogue) (suc (length st.deeds)) st.deeds left_at acts.over (downs_for msg.rec acts) q msg.rec (stream_by a calls) sent (comes_to_end a entries (with_segment_call entries msg.rec sp now acts))
         → SegmentComes a start calls c h m now ns
     came_of (did_fail fails) = segment_lacks_memory (sym told_close ∙ fails)
     came_of (did_go core given b p over off reads going taken r owes w) =
         let t = walked w in
-        let k = knows p r.more t.4 (r.asked ∙ asked_then a start lent_to out acts.over) (r.grows ∙ ap (λ z. z ++ r.more) (had_then a start lent_to out acts.over)) in
+        let k = knows p r.more t.4 (r.asked ∙ asked_then a start es out acts.over) (r.grows ∙ ap (λ z. z ++ r.more) (had_then a start es out acts.over)) in
         let none : first_close ns ≡ None = sym told_close ∙ t.1 in
         let ends = none_ends core given reads k.all off in
         segment_comes_so
@@ -235,7 +231,7 @@ module _ (c : WebChain) (order : IsInOrder c) (g h : Objects Obj) (now : ℕ) (n
         (λ x e. absurd (none-some x (sym ends ∙ e)))
     came_of (did_break core given y b p over off reads r w) =
         let t = walked w in
-        let k = knows p r.more t.4 (r.asked ∙ asked_then a start lent_to out acts.over) (r.grows ∙ ap (λ z. z ++ r.more) (had_then a start lent_to out acts.over)) in
+        let k = knows p r.more t.4 (r.asked ∙ asked_then a start es out acts.over) (r.grows ∙ ap (λ z. z ++ r.more) (had_then a start es out acts.over)) in
         let some : first_close ns ≡ Some y = sym told_close ∙ t.1 in
         let ends = none_ends core given reads k.all off in
         segment_comes_so
@@ -248,7 +244,7 @@ module _ (c : WebChain) (order : IsInOrder c) (g h : Objects Obj) (now : ℕ) (n
         t : (messages_of (told_of st.deeds) ≡ told) × (first_close (told_of st.deeds) ≡ Some x) × (b ≡ s.above ++ entries_of c.fetch.0 st.deeds) × (web_decided q core taken given (Some x) ≡ st.talk) × (p ≡ st.dialogue)
         t = walked w
 
-        decided : (acts ≡ segment_asks (link_of a) phase_at m now) → stream_by a calls ++ up_bytes out ≡ stream_by a (with_segment calls m now) → (closed : List Said) → told ≡ downs_for msg.rec acts ++ closed → closed ≡ close_says (Some x) acts.over → SegmentComes a start calls c h m now ns
+        decided : (acts ≡ segment_asks (link_of a) phase_at m now) → stream_by a calls ++ sent ≡ stream_by a (with_segment calls m now) → (closed : List Said) → told ≡ downs_for msg.rec acts ++ closed → closed ≡ close_says (Some x) acts.over → SegmentComes a start calls c h m now ns
         decided asked all closed told_is closes =
             let ended = has_ended (held_after a.isn (with_segment calls m now)) in
             let y = answers.answered later ended (λ end. let z = whole end in (z.0, ends_then true z.1)) in
@@ -268,18 +264,20 @@ module _ (c : WebChain) (order : IsInOrder c) (g h : Objects Obj) (now : ℕ) (n
 
         by : ClosingOf left_at p net (downs_for msg.rec acts) told → SegmentComes a start calls c h m now ns
         by (told_none off r _ told_is) =
-            let k = knows p r.more t.4 (r.asked ∙ asked_then a start lent_to out acts.over) (r.grows ∙ ap (λ z. z ++ r.more) (had_then a start lent_to out acts.over)) in
-            let y = ended_then a start lent_to out acts.over off in
+            let k = knows p r.more t.4 (r.asked ∙ asked_then a start es out acts.over) (r.grows ∙ ap (λ z. z ++ r.more) (had_then a start es out acts.over)) in
+            let y = ended_then a start es out acts.over off in
             decided k.asked k.all [] (told_is ∙ sym (append-nil (downs_for msg.rec acts))) (sym (ap (close_says (Some x)) y.1))
         by (told_a_close closing before after on asked grows none nothing off _ told_is) =
             let close : ConnEntry = conn_entry closes_from_above closing in
-            let had_is : had p ≡ (lent_to ++ before) ++ close ∷ after = grows ∙ ap (λ z. (z ++ before) ++ close ∷ after) (had_then a start lent_to out acts.over) in
-            let k = knows p (before ++ close ∷ after) t.4 (asked ∙ asked_then a start lent_to out acts.over) (had_is ∙ append_assoc lent_to before (close ∷ after)) in
-            let over = over_then a start lent_to out acts.over on in
-            let kept = each_at (AsksAsPromised (link_of a) start) [] (lent_to ++ before) close after (subst (EachConnEntry (AsksAsPromised (link_of a) start) []) had_is k.keeps.each) in
-            let come : tcp_calls (lent_to ++ before) ≡ with_segment calls m now =
-            flat_map-append (λ (z : ConnEntry). tcp_calls_of z.call) lent_to before ∙ ap (λ z. tcp_calls lent_to ++ z) none ∙ append-nil (tcp_calls lent_to) ∙ lent_calls (with_segment_call entries msg.rec sp now acts) out
-            ∙ calls-append entries (conn_entry (calls_in (segment_came m now)) acts) ∙ ap (λ z. z ++ segment_came m now ∷ []) called in
+            let had_is : had p ≡ (es ++ before) ++ close ∷ after = grows ∙ ap (λ z. (z ++ before) ++ close ∷ after) (had_then a start es out acts.over) in
+            let k = knows p (before ++ close ∷ after) t.4 (asked ∙ asked_then a start es out acts.over) (had_is ∙ append_assoc es before (close ∷ after)) in
+            let over = over_then a start es out acts.over on in
+            let kept = each_at (AsksAsPromised (link_of a) start) [] (es ++ before) close after (subst (EachConnEntry (AsksAsPromised (link_of a) start) []) had_is k.keeps.each) in
+            let e : ConnEntry = conn_entry (calls_in (segment_came m now)) acts in
+            let none_behind : tcp_calls behind ≡ [] = lets_silent acts.ready behind sent lets in
+            let come : tcp_calls (es ++ before) ≡ with_segment calls m now =
+            flat_map-append (λ (z : ConnEntry). tcp_calls_of z.call) es before ∙ ap (λ z. tcp_calls es ++ z) none ∙ append-nil (tcp_calls es) ∙ ap tcp_calls es_is
+            ∙ flat_map-append (λ (z : ConnEntry). tcp_calls_of z.call) entries (e ∷ behind) ∙ ap (λ z. tcp_calls entries ++ segment_came m now ∷ z) none_behind ∙ ap (λ z. z ++ segment_came m now ∷ []) called in
             decided k.asked k.all (downs_for 0 closing) told_is
             (ap (downs_for 0) kept ∙ ap (λ z. sends_say (link_of a) 0 (without_try (closing_segment a.isn (conn_phase a.isn z)) ∷ [])) come ∙ sym (ap (close_says (Some x)) over))
 
@@ -288,4 +286,4 @@ module _ (c : WebChain) (order : IsInOrder c) (g h : Objects Obj) (now : ℕ) (n
     where
       by : (entries : List ConnEntry) (q : AskParts) → tcp_calls entries ≡ calls → delivered entries ≡ stream_by a calls → SegmentDid (end_of st.talk st.dialogue) (suc (length st.deeds)) st.deeds a start entries q (stream_by a calls) msg sp → SegmentComes a start calls c h m now ns
       by entries q called gave (segment_fails out) = segment_lacks_memory (sym told_close ∙ out)
-      by entries q called gave (segment_does acts out lends did) = came_of entries q called gave acts out lends did
+      by entries q called gave (segment_does acts es behind sent out is lets did) = came_of entries q called gave acts es behind sent out is lets did

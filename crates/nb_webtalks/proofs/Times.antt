@@ -107,7 +107,7 @@ module _ (c : WebChain) (order : IsInOrder c) (g h : Objects Obj) (now : ℕ) (n
     where
       by : (entries : List ConnEntry) (q : AskParts) → TimeDid (end_of w d) (suc (length st.deeds)) st.deeds a start entries q (stream_by a calls) → GoesOn (end_of w d) st.deeds a start entries (time_came now) q (stream_by a calls) 0
       by entries q (time_fails out) = absurd (none-some _ (sym (told_close ∙ none) ∙ out))
-      by entries q (time_does acts did) = (on_from acts None false did (told_close ∙ none)).0
+      by entries q (time_does acts did) = (on_from acts (entries ++ conn_entry (calls_in (time_came now)) acts ∷ []) [] [] None false refl refl refl did (told_close ∙ none)).0
 
   module _ (entries : List ConnEntry) (q : AskParts) (called : tcp_calls entries ≡ calls) (acts : Acts) (core : Core) (reads : ReadsOn core (stream_by a calls) (taken_below s.above)) where
     abbrev entry : ConnEntry
