@@ -9,7 +9,6 @@ use Rattle.nb_streams.specs.Flows.{TcpCall}
 use Rattle.nb_tcp.specs.ConnHistory.{ConnEntry, EachConnEntry, calls_in, conn_entry, delivered, delivered_by, tcp_calls, tcp_calls_of}
 use Rattle.nb_tcp.specs.ConnPromises.{ConnKeeps}
 use Rattle.nb_tcp.proofs.ConnLaws.{all_went_up}
-use Rattle.nb_tcp.proofs.ConnHistoryLemmas.{calls-append}
 use Rattle.nb_conns.specs.declared.conn_ask.ConnAsk.{ConnAsk}
 use Rattle.nb_conns.specs.declared.conn_load.Lent.{Lent}
 use Rattle.nb_conns.specs.declared.stage.ConnStage.{ConnStage}
@@ -98,12 +97,7 @@ gave_all _ a start entries (while_talking r _ _ _ _ t) = all_went_up (link_of a)
 
 -- WHERE THEY ARE THEN
 
--- the calls and the bytes, with an entry and with what was lent
-pub lent_calls : (calls : List ConnEntry) (out : Option Lent) → tcp_calls (with_lending calls out) ≡ tcp_calls calls
-lent_calls calls None = refl
-lent_calls calls (Some l) = calls-append calls _ ∙ append-nil (tcp_calls calls)
-
--- Nothing was closed in a call of the connection: all go on, with what it asked, and what it lent then.
+-- Nothing was closed in a call of the connection: all go on, with what it asked, and what went up then.
 pub record GoesOn (c : WebCall) (ds : List (Deed Obj Load)) (a : ConnAsk) (start : ℕ) (entries : List ConnEntry) (call : TcpCall) (q : AskParts) (stream : List ℕ) (rec : ℕ) : Type 0 where
   pub acts : Acts
   pub sent : List ℕ
@@ -127,8 +121,8 @@ pub behind : (calls : List ConnEntry) (e : ConnEntry) (out : Option Lent) (more 
 behind calls e None more = (more, append_assoc calls (e ∷ []) more)
 behind calls e (Some l) more = (_, append_assoc (calls ++ e ∷ []) _ more ∙ append_assoc calls (e ∷ []) _)
 
-module _ {c : WebCall} {n : ℕ} {ds : List (Deed Obj Load)} {a : ConnAsk} {start : ℕ} {entries : List ConnEntry} {call : TcpCall} {q : AskParts} {stream : List ℕ} {rec : ℕ} (acts : Acts) (es behind : List ConnEntry) (gave : List ℕ) (out : Option Lent) (ended : Bool)
-    (is : es ≡ entries ++ conn_entry (calls_in call) acts ∷ behind) (silent : tcp_calls behind ≡ []) (holds : delivered behind ≡ gave) where
+module _ {c : WebCall} {n : ℕ} {ds : List (Deed Obj Load)} {a : ConnAsk} {start : ℕ} {entries : List ConnEntry} {call : TcpCall} {q : AskParts} {stream : List ℕ} {rec : ℕ}
+    (acts : Acts) (es behind : List ConnEntry) (gave : List ℕ) (out : Option Lent) (ended : Bool) (is : es ≡ entries ++ conn_entry (calls_in call) acts ∷ behind) (silent : tcp_calls behind ≡ []) (holds : delivered behind ≡ gave) where
   pub on_from : CallDid c n ds (talked_on a start es out acts.over) acts.over (downs_for rec acts) q rec stream gave ended → first_close (told_of ds) ≡ None
       → GoesOn c ds a start entries call q stream rec × (ended ≡ false)
   on_from (did_fail fails) none = absurd (none-some _ (sym none ∙ fails))

@@ -58,7 +58,8 @@ module _ {c : WebCall} {n : ℕ} {a : List (NodeEntry Obj Load)} {ds : List (Dee
   took_it : (m : Said) (s : SegmentParts) (acts : Acts) (es behind : List ConnEntry) (out : Option Lent) (sent : Option (List ℕ)) (fx : Fx Obj Load) → length m.bytes < 2 ^ 32
       → es ≡ calls ++ conn_entry (calls_in (segment_came (arriving m.rec s) c.now)) acts ∷ behind → LetsUp acts.ready behind (sent_bytes sent)
       → ConnEffects conn_carrier m acts (says_up m.rec sent (comes_to_end b calls (with_segment_call calls m.rec s c.now acts))) (closes_for acts.over) (in_list out) fx → TookAll m fx
-      → Walk c n (view true true true true) (runs_of obj_nature c.conn m true fx ++ Holds (port_at c.conn 1) way.Up (rest m true fx) ∷ []) a (fetching q core stream given) (talked_on b start es out acts.over) [] None ds → SegmentDid c n ds b start calls q stream m s
+      → Walk c n (view true true true true) (runs_of obj_nature c.conn m true fx ++ Holds (port_at c.conn 1) way.Up (rest m true fx) ∷ []) a (fetching q core stream given) (talked_on b start es out acts.over) [] None ds
+      → SegmentDid c n ds b start calls q stream m s
   took_it m s acts es behind out sent fx short is lets effects all k =
       segment_does acts es behind (sent_bytes sent) out is lets
       (entry_by b start reads going taken 1 way.Up refl m es acts out sent (comes_to_end b calls (with_segment_call calls m.rec s c.now acts)) fx effects

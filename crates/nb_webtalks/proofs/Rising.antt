@@ -11,9 +11,7 @@ use Rattle.nb_graph.specs.Whole.{port_at}
 use Rattle.nb_graph.specs.Trace.{NodeEntry, Said, carried, in_list, loads}
 use Rattle.nb_graph.specs.Deeds.{Deed, Stage, Sends, emit_of, returns_of, said_of}
 use Rattle.nb_tcp.specs.ConnHistory.{ConnEntry, closes_from_above, conn_entry, tcp_calls, tcp_calls_of}
-use Rattle.nb_conns.specs.declared.conn_load.Lent.{Lent}
 use Rattle.nb_conns.specs.ConnEffects.{GoesAbove, downs_for, emit_says, received_says}
-use Rattle.nb_conns.specs.ConnLoads.{lent_bytes}
 use Rattle.nb_conns.specs.Dialogues.{Dialogue, is_talking}
 use Rattle.nb_http.specs.Standing.{Core}
 use Rattle.nb_nodes.specs.declared.load.Load.{Load}
@@ -146,11 +144,6 @@ module _ {c : WebCall} {n : ℕ} {a : List (NodeEntry Obj Load)} {d : Dialogue} 
       by : EndDid c n (returns_of c.conn (in_list e.load) ++ gs) d ms ds q m.rec stream → Upped c n gs d ms ds q m.rec stream [] true others
       by (end_failed out) = up_failed out
       by (end_decides core2 given2 x w) = decided_up stream [] true true others (in_list e.load) refl (λ _. (refl, refl)) w
-
--- the bytes that go up
-abbrev pub up_bytes : Option Lent → List ℕ
-up_bytes None = []
-up_bytes (Some window) = lent_bytes window
 
 pub none_up : (m : Said) (es : List (Emit Load)) → map (emit_says conn_carrier m) es ≡ [] → es ≡ []
 none_up m [] h = refl
