@@ -226,7 +226,7 @@ runs_both x m fx xs gs none closes =
 
 module _ (c : DriveCall) (n : ℕ) (ds : List (Deed Obj Load)) (a : DriveAskParts) (tasks : List (ReadTask × ℕ)) (lun : length a.info.lun ≡ 8) (come : List ℕ) (whole : is_refused (cut come).rest ≡ false) (asked : AreAskedBy come tasks)
     (b : ConnAsk) (start : ℕ) (u : UnitTalk) (r : SessionTalk) (reads : Reads a tasks come u r) where
-  -- its segments go down, what is lent goes up, and it ends or goes on
+  -- its segments go down, what came goes up, and it ends or goes on
   pub entry_by : (j : ℕ) (by : Way) → settles_by {N = Obj} {L = Load} by c.conn ≡ Settles c.conn ∷ [] → (m : Said) (more : List ConnEntry) (acts : Acts) (out : Option Lent) (sent : Option (List ℕ)) (ended : Bool) (fx : Fx Obj Load)
       → AreAskedBy (come ++ sent_bytes sent) tasks
       → ConnEffects conn_carrier m acts (says_up m.rec sent ended) (closes_for acts.over) (in_list out) fx
