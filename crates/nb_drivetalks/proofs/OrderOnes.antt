@@ -7,7 +7,7 @@ use Rattle.nb_effects.specs.declared.effects.Fx.{Fx}
 use Rattle.nb_graph.specs.Deeds.{rest}
 use Rattle.nb_graph.specs.Trace.{NodeEntry, Said, up, down, closed, time, regain}
 use Rattle.nb_conns.specs.ConnEffects.{GoesAbove, GoesBelow, SaysNothing, TookAll, emits_of}
-use Rattle.nb_conns.specs.Dialogues.{Converses, ConversesTo, Dialogue, is_asked, takes_segment, takes_none, takes_text, takes_tick, has_back, is_closed, ends_short, rests_still}
+use Rattle.nb_conns.specs.Dialogues.{Converses, ConversesTo, Dialogue, is_asked, takes_segment, hands_on, takes_none, takes_text, takes_tick, has_back, is_closed, ends_short, rests_still}
 use Rattle.nb_drivenodes.specs.SessionTalks.{SessionTalk, SessionTalks, SessionTalksTo, login_answers, login_begins, login_breaks, login_lacks, login_refused, login_waits, session_breaks, session_ends, session_gives, session_lacks, session_rests, session_sends, session_waits}
 use Rattle.nb_drivenodes.specs.UnitTalks.{UnitTalk, UnitTalks, UnitTalksTo, unit_begins, unit_ends, unit_lacks, unit_reads, unit_rests, unit_starts, unit_takes}
 use Rattle.nb_nodes.specs.declared.load.Load.{Load}
@@ -107,6 +107,7 @@ module _ (x y : ℕ) where
   conn_so : (v w : Dialogue) (e : NodeEntry Obj Load) → Converses conn_carrier v e w → EntrySo x y e
   conn_so _ _ _ (is_asked a m now fx tag asks effects) = λ _. says_so fx effects.no_make effects.below effects.above
   conn_so _ _ _ (takes_segment a start past slot m now fx s acts out from is lends effects took) = ((λ _. says_so fx effects.no_make effects.below effects.above), λ _ short. rest_none m true fx took short)
+  conn_so _ _ _ (hands_on a start past slot m now fx s acts from is alive ready lasts effects took) = ((λ _. says_so fx effects.no_make effects.below effects.above), λ _ short. rest_none m true fx took short)
   conn_so _ _ _ (takes_none a start past out slot m now fx isnt says closes took) = ((λ _. nothing_so fx says), λ _ short. rest_none m true fx took short)
   conn_so _ _ _ (takes_text a start past out m now fx acts tag effects) = λ _. says_so fx effects.no_make effects.below effects.above
   conn_so _ _ _ (takes_tick a start past out now fx acts effects) = λ _. says_so fx effects.no_make effects.below effects.above

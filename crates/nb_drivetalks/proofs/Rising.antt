@@ -14,8 +14,8 @@ use Rattle.std.proofs.lemmas.List.Concat.{flat_map-append}
 use Rattle.nb_tcp.specs.ConnHistory.{ConnEntry, closes_from_above, conn_entry, tcp_calls, tcp_calls_of}
 use Rattle.nb_conns.specs.declared.conn_ask.ConnAsk.{ConnAsk}
 use Rattle.nb_conns.specs.declared.conn_load.Lent.{Lent}
-use Rattle.nb_conns.specs.ConnEffects.{ConnEffects, GoesAbove, closes_for, downs_for, emit_says, emits_of, received_says, ups_for}
-use Rattle.nb_conns.specs.ConnLoads.{lent_bytes, windows_in}
+use Rattle.nb_conns.specs.ConnEffects.{ConnEffects, GoesAbove, closes_for, downs_for, emit_says, emits_of, received_says}
+use Rattle.nb_conns.specs.ConnLoads.{windows_in}
 use Rattle.nb_conns.specs.Dialogues.{Dialogue, closed_off, is_talking, talked_on}
 use Rattle.nb_disk.specs.DiskAnswers.{broken}
 use Rattle.nb_drivenodes.specs.DriveAsks.{DriveAskParts}
@@ -30,7 +30,8 @@ use Rattle.nb_sans.specs.SessionSteps.{AreAskedBy}
 use Rattle.nb_talks.specs.Talking.{text_calls}
 use Rattle.nb_webtalks.proofs.Lowers.{IsBegun, OwesTo, Regains, had, owes_nothing, regains_both, regains_none, said_same}
 use Rattle.nb_webtalks.proofs.Middle.{emits_stages, few_stages}
-use Rattle.nb_webtalks.proofs.Rising.{ClosingOf, few_loads, loads_in, none_up, told_a_close, told_none, up_bytes}
+use Rattle.nb_webtalks.proofs.Rising.{ClosingOf, few_loads, loads_in, none_up, told_a_close, told_none}
+use Rattle.nb_webtalks.proofs.Upward.{says_up, sent_bytes}
 use Rattle.nb_drivetalks.proofs.Cames.{Came, Reads, came_failed, came_off, came_on, texts_in}
 use Rattle.nb_drivetalks.proofs.Endings.{conn_ends}
 use Rattle.nb_drivetalks.proofs.Ends.{still_ends}
@@ -134,9 +135,9 @@ module _ (c : DriveCall) (n : ℕ) (gs : List (Stage Obj Load)) (a : DriveAskPar
       let y = conn_all_returns (in_list e.load) [] q (owes_nothing (in_list e.load ++ []) q (closed_off_then closing)) w in
       up_off x u r p y.0 net said told more (ap (λ z. session_end m.rec a.info z true tasks) (sym (append-nil (come ++ bytes))) ∙ still_ends m.rec a.info (come ++ bytes) tasks x [] true ends) s hands (closing_before closing y.1) y.3
 
-  pub ups_walk : (out : Option Lent) (ended : Bool) (es : List (Emit Load)) → AreAskedBy (come ++ up_bytes out) tasks → map (emit_says conn_carrier m) es ≡ ups_for m.rec out ended → AllByRecursion GoesAbove es → OwesTo (loads_in es) d
+  pub ups_walk : (sent : Option (List ℕ)) (ended : Bool) (es : List (Emit Load)) → AreAskedBy (come ++ sent_bytes sent) tasks → map (emit_says conn_carrier m) es ≡ says_up m.rec sent ended → AllByRecursion GoesAbove es → OwesTo (loads_in es) d
       → (u : UnitTalk) (r : SessionTalk) → Reads a tasks come u r
-      → Walk c n (view true true true true) (emits_stages c.conn m es ++ gs) u r d ms us None ds → Upped c n gs a m.rec tasks come (up_bytes out) ended d ms us ds []
+      → Walk c n (view true true true true) (emits_stages c.conn m es ++ gs) u r d ms us None ds → Upped c n gs a m.rec tasks come (sent_bytes sent) ended d ms us ds []
   ups_walk None false es later says above owes u r reads k =
       let none = none_up m es says in
       up_on u r d [] us refl (subst (λ z. Reads a tasks z u r) (sym (append-nil come)) reads) (ap (λ z. is_refused (cut z).rest) (append-nil come) ∙ whole) (speaks_none m.rec (regains_none d))
@@ -148,21 +149,21 @@ module _ (c : DriveCall) (n : ℕ) (gs : List (Stage Obj Load)) (a : DriveAskPar
       let others : map (emit_says conn_carrier m) es ≡ [] = let z = says in cc in
       let none = none_up m es others in
       end_up_by c n gs a tasks ds lun come d ms us m whole asked begun e above.0 one [] (subst (λ z. OwesTo (in_list e.load ++ loads_in z) d) none owes) u r reads (as_stages (emits_stages c.conn m (e ∷ []) ++ gs) (ap (λ (z : List (Emit Load)). emits_stages c.conn m (e ∷ z) ++ gs) none) k)
-  ups_walk (Some window) false [] later says above owes u r reads k = absurd (let z = says in cc)
-  ups_walk (Some window) false (e ∷ es) later says above owes u r reads k =
-      let one : emit_says conn_carrier m e ≡ received_says m.rec (lent_bytes window) = let z = says in cc in
+  ups_walk (Some bytes) false [] later says above owes u r reads k = absurd (let z = says in cc)
+  ups_walk (Some bytes) false (e ∷ es) later says above owes u r reads k =
+      let one : emit_says conn_carrier m e ≡ received_says m.rec bytes = let z = says in cc in
       let others : map (emit_says conn_carrier m) es ≡ [] = let z = says in cc in
       let none = none_up m es others in
-      received_up c n gs a tasks ds lun come d ms us m whole asked begun [] (lent_bytes window) e [] above.0 one (subst (λ z. OwesTo (in_list e.load ++ loads_in z) d) none owes) u r reads (as_stages (emits_stages c.conn m (e ∷ []) ++ gs) (ap (λ (z : List (Emit Load)). emits_stages c.conn m (e ∷ z) ++ gs) none) k)
-  ups_walk (Some window) true [] later says above owes u r reads k = absurd (let z = says in cc)
-  ups_walk (Some window) true (e ∷ []) later says above owes u r reads k = absurd (let z = says in cc)
-  ups_walk (Some window) true (e ∷ (f ∷ es)) later says above owes u r reads k =
-      let one : emit_says conn_carrier m e ≡ received_says m.rec (lent_bytes window) = let z = says in cc in
+      received_up c n gs a tasks ds lun come d ms us m whole asked begun [] bytes e [] above.0 one (subst (λ z. OwesTo (in_list e.load ++ loads_in z) d) none owes) u r reads (as_stages (emits_stages c.conn m (e ∷ []) ++ gs) (ap (λ (z : List (Emit Load)). emits_stages c.conn m (e ∷ z) ++ gs) none) k)
+  ups_walk (Some bytes) true [] later says above owes u r reads k = absurd (let z = says in cc)
+  ups_walk (Some bytes) true (e ∷ []) later says above owes u r reads k = absurd (let z = says in cc)
+  ups_walk (Some bytes) true (e ∷ (f ∷ es)) later says above owes u r reads k =
+      let one : emit_says conn_carrier m e ≡ received_says m.rec bytes = let z = says in cc in
       let two : emit_says conn_carrier m f ≡ record { tag = 8; rec = m.rec; a = 0; b = 0; bytes = [] } = let z = says in cc in
       let others : map (emit_says conn_carrier m) es ≡ [] = let z = says in cc in
       let none = none_up m es others in
-      then_end (lent_bytes window) f above.1.0 two
-      (received_up c n gs a tasks ds lun come d ms us m whole asked begun (in_list f.load ++ []) (lent_bytes window) e (f ∷ []) above.0 one (subst (λ z. OwesTo (in_list e.load ++ (in_list f.load ++ loads_in z)) d) none owes) u r reads
+      then_end bytes f above.1.0 two
+      (received_up c n gs a tasks ds lun come d ms us m whole asked begun (in_list f.load ++ []) bytes e (f ∷ []) above.0 one (subst (λ z. OwesTo (in_list e.load ++ (in_list f.load ++ loads_in z)) d) none owes) u r reads
       (as_stages (emits_stages c.conn m (e ∷ (f ∷ [])) ++ gs) (ap (λ (z : List (Emit Load)). emits_stages c.conn m (e ∷ (f ∷ z)) ++ gs) none) k)) later
 
 -- WHAT CAME OF A CALL
@@ -225,18 +226,19 @@ runs_both x m fx xs gs none closes =
 
 module _ (c : DriveCall) (n : ℕ) (ds : List (Deed Obj Load)) (a : DriveAskParts) (tasks : List (ReadTask × ℕ)) (lun : length a.info.lun ≡ 8) (come : List ℕ) (whole : is_refused (cut come).rest ≡ false) (asked : AreAskedBy come tasks)
     (b : ConnAsk) (start : ℕ) (u : UnitTalk) (r : SessionTalk) (reads : Reads a tasks come u r) where
-  -- its segments go down, what is lent goes up, and it ends or goes on
-  pub entry_by : (j : ℕ) (by : Way) → settles_by {N = Obj} {L = Load} by c.conn ≡ Settles c.conn ∷ [] → (m : Said) (more : List ConnEntry) (acts : Acts) (out : Option Lent) (ended : Bool) (fx : Fx Obj Load) → AreAskedBy (come ++ up_bytes out) tasks
-      → ConnEffects conn_carrier m acts (ups_for m.rec out ended) (closes_for acts.over) (in_list out) fx
+  -- its segments go down, what came goes up, and it ends or goes on
+  pub entry_by : (j : ℕ) (by : Way) → settles_by {N = Obj} {L = Load} by c.conn ≡ Settles c.conn ∷ [] → (m : Said) (more : List ConnEntry) (acts : Acts) (out : Option Lent) (sent : Option (List ℕ)) (ended : Bool) (fx : Fx Obj Load)
+      → AreAskedBy (come ++ sent_bytes sent) tasks
+      → ConnEffects conn_carrier m acts (says_up m.rec sent ended) (closes_for acts.over) (in_list out) fx
       → Walk c n (view true true true true) (runs_of obj_nature c.conn m true fx ++ Holds (port_at c.conn j) by None ∷ []) u r (talked_on b start more out acts.over) [] [] None ds
-      → CallDid c n ds (talked_on b start more out acts.over) acts.over (downs_for m.rec acts) [] a m.rec tasks come (up_bytes out) ended
-  entry_by j by settles m more acts out ended fx later effects k =
+      → CallDid c n ds (talked_on b start more out acts.over) acts.over (downs_for m.rec acts) [] a m.rec tasks come (sent_bytes sent) ended
+  entry_by j by settles m more acts out sent ended fx later effects k =
       let d : Dialogue = talked_on b start more out acts.over in
       let hs : List (Stage Obj Load) = closes_of c.conn (closes_for acts.over) ++ Holds (port_at c.conn j) by None ∷ [] in
       let one = few_below m (loads fx.ups) fx.downs effects.below (owes_out b start more out acts.over (loads fx.downs ++ loads fx.ups) effects.windows)
       (as_stages (few_of obj_nature c.conn m fx.downs ++ (emits_stages c.conn m (emits_of fx.ups) ++ hs)) (runs_both c.conn m fx (closes_for acts.over) (Holds (port_at c.conn j) by None ∷ []) effects.no_make effects.closes) k) in
-      let two = ups_walk c n hs a tasks ds lun come one.now_at _ [] m whole asked (one.regains.begun (begun_out b start more out acts.over)) out ended (emits_of fx.ups) later effects.ups effects.above (subst (λ z. OwesTo z one.now_at) (few_loads fx.ups) one.owes) u r reads one.walk in
-      subst (λ z. CallDid c n ds d acts.over z [] a m.rec tasks come (up_bytes out) ended) effects.downs (after_downs one.regains (after_ups c n ds j by settles acts.over two))
+      let two = ups_walk c n hs a tasks ds lun come one.now_at _ [] m whole asked (one.regains.begun (begun_out b start more out acts.over)) sent ended (emits_of fx.ups) later effects.ups effects.above (subst (λ z. OwesTo z one.now_at) (few_loads fx.ups) one.owes) u r reads one.walk in
+      subst (λ z. CallDid c n ds d acts.over z [] a m.rec tasks come (sent_bytes sent) ended) effects.downs (after_downs one.regains (after_ups c n ds j by settles acts.over two))
     where
       first : {d p : Dialogue} {texts : List _} {said : List Said} → Regains d p → {q : Dialogue} → Speaks m.rec texts p q said → Speaks m.rec texts d q said
       first r0 s = speaks_both m.rec (speaks_none m.rec r0) s

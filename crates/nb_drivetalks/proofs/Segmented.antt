@@ -1,6 +1,7 @@
 -- What an entry of a segment asks, and what it leaves of the stream, as nb_webtalks has it of a fetch's connection.
-use Rattle.std.proofs.Common.{◌≡◌, ℕ, ◌+◌, ◌==◌, Bool, true, false, not, List, [], ◌∷◌, ◌++◌, length, Option, Some, None, refl, sym, ap, ◌∙◌, subst, append_assoc, append-nil, length-append, arith}
+use Rattle.std.proofs.Common.{◌≡◌, ℕ, ◌+◌, ◌==◌, Bool, true, false, not, List, [], ◌∷◌, ◌++◌, length, refl, sym, ap, ◌∙◌, subst, append_assoc, append-nil, length-append, arith}
 use Rattle.std.proofs.lemmas.Bool.{eqb-true, false≢true}
+use Rattle.std.proofs.lemmas.List.Concat.{flat_map-append}
 use Rattle.nb_terms.specs.declared.acts.Acts.{Acts}
 use Rattle.nb_streams.specs.Endings.{segment_end}
 use Rattle.nb_streams.specs.Flows.{TcpCall, ConnPhase, after_tcp_call, conn_phase, held_after, held_in, segment_came}
@@ -8,19 +9,17 @@ use Rattle.nb_streams.specs.Segments.{Arrival}
 use Rattle.nb_streams.specs.Sending.{calls_for}
 use Rattle.nb_streams.specs.Streams.{front, grown, next}
 use Rattle.nb_streams.proofs.FlowLaws.{front_grows}
-use Rattle.nb_tcp.specs.ConnHistory.{ConnEntry, EachConnEntry, calls_in, conn_entry, delivered, tcp_calls}
+use Rattle.nb_tcp.specs.ConnHistory.{ConnEntry, EachConnEntry, calls_in, conn_entry, delivered, delivered_by, lends_out, tcp_calls, tcp_calls_of}
+use Rattle.nb_tcp.specs.Replies.{only_ready}
 use Rattle.nb_tcp.specs.ConnPromises.{AsksAsPromised, ConnKeeps, segment_asks}
 use Rattle.nb_tcp.proofs.ConnHistoryLemmas.{calls-append, delivered-append, phase-append}
 use Rattle.nb_conns.specs.declared.conn_ask.ConnAsk.{ConnAsk}
-use Rattle.nb_conns.specs.declared.conn_load.Lent.{Lent}
 use Rattle.nb_conns.specs.ConnAsks.{link_of}
 use Rattle.nb_conns.specs.ConnEffects.{downs_for, place_says}
-use Rattle.nb_conns.specs.ConnLoads.{lent_bytes}
-use Rattle.nb_conns.specs.Dialogues.{LendsSo, with_lending}
 use Rattle.nb_webtalks.specs.TalkStands.{stream_by}
 use Rattle.nb_webtalks.specs.Comings.{sends_say}
 use Rattle.nb_webtalks.proofs.Coming.{each_at}
-use Rattle.nb_webtalks.proofs.Rising.{up_bytes}
+use Rattle.nb_webtalks.proofs.Upward.{LetsUp, lets_all, lets_none}
 
 -- ALL THAT HAS COME
 
@@ -60,23 +59,25 @@ module _ (a : ConnAsk) (start : ℕ) (calls : List TcpCall) (entries : List Conn
     pub ends_so : acts.over ≡ segment_end a.isn phase m
     ends_so = ap (λ (z : Acts). z.over) asked
 
-    -- with what was lent all has gone up
-    pub comes_so : (out : Option Lent) (es more : List ConnEntry) → es ≡ with_lending (entries ++ entry ∷ []) out ++ more → ConnKeeps (link_of a) start es → LendsSo (entries ++ entry ∷ []) acts.ready out
-        → stream_by a calls ++ up_bytes out ≡ stream_by a (calls ++ segment_came m now ∷ [])
-    comes_so None es more is keeps lends =
+    -- with what went up then all has gone up
+    pub comes_so : (es behind more : List ConnEntry) (up : List ℕ) → LetsUp acts.ready behind up → es ≡ (entries ++ entry ∷ behind) ++ more → ConnKeeps (link_of a) start es
+        → stream_by a calls ++ up ≡ stream_by a (calls ++ segment_came m now ∷ [])
+    comes_so es _ more _ (lets_none none) is keeps =
         append-nil (stream_by a calls)
-        ∙ none_more a.isn calls (segment_came m now)
-        (ap (λ z. next (held_in phase) == next (held_in z)) (sym come_then) ∙ not_off _ (sym (ap (λ (z : Acts). z.ready) asked) ∙ waits acts.ready lends))
-      where
-        waits : (b : Bool) → LendsSo (entries ++ entry ∷ []) b None → b ≡ false
-        waits true l = absurd l
-        waits false l = refl
-    comes_so (Some l) es more is keeps lends =
-        ap (λ z. z ++ lent_bytes l) (sym gave ∙ sym (append-nil (delivered entries)) ∙ sym (delivered-append entries entry))
-        ∙ each_at (AsksAsPromised (link_of a) start) [] (entries ++ entry ∷ []) _ more (subst (EachConnEntry (AsksAsPromised (link_of a) start) []) (is ∙ append_assoc (entries ++ entry ∷ []) _ more) keeps.each)
+        ∙ none_more a.isn calls (segment_came m now) (ap (λ z. next (held_in phase) == next (held_in z)) (sym come_then) ∙ not_off _ (sym (ap (λ (z : Acts). z.ready) asked) ∙ none))
+    comes_so es _ more _ (lets_all bytes back silent nothing) is keeps =
+        let last : ConnEntry = conn_entry (lends_out bytes) (only_ready false) in
+        let parts : es ≡ (entries ++ entry ∷ []) ++ last ∷ (back ++ more) =
+        is ∙ ap (λ z. z ++ more) (sym (append_assoc entries (entry ∷ []) (last ∷ back))) ∙ append_assoc (entries ++ entry ∷ []) (last ∷ back) more in
+        ap (λ z. z ++ bytes) (sym gave ∙ sym (append-nil (delivered entries)) ∙ sym (delivered-append entries entry))
+        ∙ each_at (AsksAsPromised (link_of a) start) [] (entries ++ entry ∷ []) last (back ++ more) (subst (EachConnEntry (AsksAsPromised (link_of a) start) []) parts keeps.each)
         ∙ ap (stream_by a) (calls-append entries entry ∙ ap (λ z. z ++ segment_came m now ∷ []) called)
 
--- the bytes, with what was lent
-pub lent_bring : (calls : List ConnEntry) (out : Option Lent) → delivered (with_lending calls out) ≡ delivered calls ++ up_bytes out
-lent_bring calls None = sym (append-nil (delivered calls))
-lent_bring calls (Some l) = delivered-append calls _
+-- THE CALLS AND THE BYTES WITH AN ENTRY
+
+module _ (entries behind es : List ConnEntry) (call : TcpCall) (acts : Acts) (is : es ≡ entries ++ conn_entry (calls_in call) acts ∷ behind) where
+  pub calls_with : tcp_calls behind ≡ [] → tcp_calls es ≡ tcp_calls entries ++ call ∷ []
+  calls_with silent = ap tcp_calls is ∙ flat_map-append (λ (x : ConnEntry). tcp_calls_of x.call) entries (conn_entry (calls_in call) acts ∷ behind) ∙ ap (λ z. tcp_calls entries ++ call ∷ z) silent
+
+  pub gave_with : (up : List ℕ) → delivered behind ≡ up → delivered es ≡ delivered entries ++ up
+  gave_with up holds = ap delivered is ∙ flat_map-append (λ (x : ConnEntry). delivered_by x.call) entries (conn_entry (calls_in call) acts ∷ behind) ∙ ap (λ z. delivered entries ++ z) holds

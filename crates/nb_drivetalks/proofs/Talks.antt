@@ -11,7 +11,7 @@ use Rattle.nb_tcp.specs.ConnHistory.{ConnCall, ConnEntry, calls_in, closes_from_
 use Rattle.nb_conns.specs.declared.conn_ask.ConnAsk.{ConnAsk}
 use Rattle.nb_conns.specs.declared.conn_load.Lent.{Lent}
 use Rattle.nb_conns.specs.ConnEffects.{downs_for}
-use Rattle.nb_conns.specs.Dialogues.{Converses, ConversesTo, Dialogue, unopened, talking, closed_off, given_up, arriving, at_close, ends_short, has_back, is_asked, is_closed, rests_still, takes_none, takes_segment, takes_text, takes_tick, is_talking, with_lending}
+use Rattle.nb_conns.specs.Dialogues.{Converses, ConversesTo, Dialogue, unopened, talking, closed_off, given_up, arriving, at_close, ends_short, hands_on, has_back, is_asked, is_closed, rests_still, takes_none, takes_segment, takes_text, takes_tick, is_talking, with_lending}
 use Rattle.nb_nodes.specs.declared.load.Load.{Load}
 use Rattle.nb_nodes.specs.declared.obj.Obj.{Obj}
 use Rattle.nb_nodes.specs.Carriers.{conn_carrier}
@@ -56,6 +56,8 @@ grew_one _ _ _ b (takes_segment a start calls slot m now fx s acts out comes is 
     let e : ConnEntry = conn_entry (calls_in (segment_came (arriving m.rec s) now)) acts in
     let y = behind calls e out [] in
     grew_entry a start calls (with_lending (calls ++ e ∷ []) out) _ e y.0 (had_then a start (with_lending (calls ++ e ∷ []) out) out acts.over) (sym (append-nil (with_lending (calls ++ e ∷ []) out)) ∙ y.1) (asked_then a start (with_lending (calls ++ e ∷ []) out) out acts.over) None
+grew_one _ _ _ b (hands_on a start calls slot m now fx s acts comes is alive ready lasts effects all) =
+    record { begun = tt; asked = refl; rest = _; grows = append_assoc calls (conn_entry (calls_in (segment_came (arriving m.rec s) now)) acts ∷ []) _ }
 grew_one d _ _ b (takes_none a start calls out slot m now fx none says closes all) = grew_none d b
 grew_one _ _ _ b (takes_text a start calls out m now fx acts tag effects) =
     let es = calls ++ conn_entry (calls_in (text_came m.bytes now)) acts ∷ [] in
