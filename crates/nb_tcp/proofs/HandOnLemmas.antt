@@ -25,9 +25,9 @@ use Rattle.nb_tcp.specs.declared.variables.Verdict.{Verdict}
 use Rattle.nb_tcp.specs.declared.variables.Verdict.TheVariants as verdict
 use Rattle.nb_tcp.specs.InOrder.{ComesInOrder}
 use Rattle.nb_tcp.specs.Numbers.{flow_of, with_stop, with_next, piece_place}
-use Rattle.nb_tcp.specs.Receiving.{PutInto, PassesOver, IsBareAt, MovesOn}
+use Rattle.nb_tcp.specs.Receiving.{PutInto, PassesOver, IsBareAt, WindowMovesOn}
 use Rattle.nb_tcp.specs.Replies.{only_ready, has_finished, has_come_all}
-use Rattle.nb_tcp.specs.SegmentSteps.{HandsOn}
+use Rattle.nb_tcp.specs.SegmentSteps.{HandsBodyOn}
 use Rattle.nb_tcp.specs.ConnHistory.{ConnCall, calls_in, lends_out, comes_back, ConnEntry, conn_entry, tcp_calls_of, tcp_calls, delivered, is_lent_after, ends_by, has_ended_after}
 use Rattle.nb_tcp.specs.ConnPromises.{IsAskedSo, AsksAsPromised}
 use Rattle.nb_tcp.specs.ConnStanding.{WindowStands, waits_in, IsDelivered, HoldsRest, GoesUp, FlowsSo, StateStands, TimerStandsFor, ConnStands}
@@ -76,7 +76,7 @@ module _ (w : HeldWindow) (bytes : List ℕ) (is : HasRoom w bytes) where
   with_put : PutInto w w.next bytes (with_bytes w bytes)
   with_put = record { base = refl; size = refl; at = λ p. refl; least = with_least }
 
-  moves_over : (new : HeldWindow) → MovesOn w (length bytes) new → PassesOver (with_bytes w bytes) new
+  moves_over : (new : HeldWindow) → WindowMovesOn w (length bytes) new → PassesOver (with_bytes w bytes) new
   moves_over new m = record {
     base = omega (arith, m.base, is.front);
     next = m.next;
@@ -113,7 +113,7 @@ module _ (v : Variables) (h : HeldBytes) (s : Incoming) (w : HeldWindow) (is : H
   mid_stands : WindowStands (with_bytes w s.body) (held_then v h s)
   mid_stands = put_stands v h s w (with_bytes w s.body) puts
 
-  left_stands : (new : HeldWindow) → MovesOn w (length s.body) new → WindowStands new (held_then v h s)
+  left_stands : (new : HeldWindow) → WindowMovesOn w (length s.body) new → WindowStands new (held_then v h s)
   left_stands new m = passed_stands (with_bytes w s.body) new (held_then v h s) mid_stands (moves_over w s.body room new m)
 
   then_is : (with_next (with_stop v s) (v.next + length s.body)).next ≡ next (held_then v h s)
@@ -172,10 +172,10 @@ stands_on l start c h call was nothing asks going =
       timer = λ running. subst (λ cs. TimerStandsFor c.retry (timer_after l.isn start cs)) (sym calls) (was.timer running);
     }
 
-left_even : (w x : HeldWindow) (n : ℕ) → w.base ≡ w.next → MovesOn w n x → x.base ≡ x.next
+left_even : (w x : HeldWindow) (n : ℕ) → w.base ≡ w.next → WindowMovesOn w n x → x.base ≡ x.next
 left_even w x n e m = omega (arith, e, m.base, m.next)
 
-module _ (l : Link) (start : ℕ) (old new : Conn) (h : List ConnEntry) (m : Arrival) (now : ℕ) (acts : Acts) (was : ConnStands l start old h) (here : IsDelivered old.held) (short : length m.segment.body < 2 ^ 16) (k : HandsOn old m.segment now new acts) where
+module _ (l : Link) (start : ℕ) (old new : Conn) (h : List ConnEntry) (m : Arrival) (now : ℕ) (acts : Acts) (was : ConnStands l start old h) (here : IsDelivered old.held) (short : length m.segment.body < 2 ^ 16) (k : HandsBodyOn old m.segment now new acts) where
   abbrev first : List ConnEntry
   first = h ++ conn_entry (calls_in (segment_came m now)) acts ∷ []
 

@@ -39,7 +39,7 @@ pub record IsBareAt (w : HeldWindow) (place : ℕ) : Type 0 where
   pub none : (p : ℕ) → w.next ≤ p → w.at p ≡ None
 
 -- what a window that holds nothing is so many places on
-pub record MovesOn (old : HeldWindow) (count : ℕ) (new : HeldWindow) : Type 0 where
+pub record WindowMovesOn (old : HeldWindow) (count : ℕ) (new : HeldWindow) : Type 0 where
   pub base : new.base ≡ old.base + count
   pub next : new.next ≡ old.next + count
   pub size : new.size ≡ old.size

@@ -14,7 +14,7 @@ use Rattle.nb_tcp.specs.declared.variables.Verdict.{Verdict}
 use Rattle.nb_tcp.specs.declared.variables.Verdict.TheVariants as verdict
 use Rattle.nb_tcp.specs.InOrder.{is_next}
 use Rattle.nb_tcp.specs.Numbers.{with_ack, breached, judged}
-use Rattle.nb_tcp.specs.Receiving.{Receives, IsBareAt, MovesOn}
+use Rattle.nb_tcp.specs.Receiving.{Receives, IsBareAt, WindowMovesOn}
 use Rattle.nb_tcp.specs.Replies.{syn_answered, syn_answer_acts, syn_answer_state, syn_answer_retry, only_ready, also_sending, also_over, refused_in, ack_of_variables, ended_at, acknowledging, grown_acts, taken_acts, breach_state, breach_retry}
 
 -- a taken segment: its bytes are held, what it acknowledges is forgotten, and it is answered
@@ -43,7 +43,7 @@ FollowsState old (Established v) rec s now new acts = FollowsVerdict old v rec s
 FollowsState old (Ended at_end) rec s now new acts = (new ≡ old) × (acts ≡ only_ready false)
 
 -- a segment whose bytes come next, while nothing is held: it is taken, and the window moves on over its bytes
-pub record HandsOn (old : Conn) (s : Incoming) (now : ℕ) (new : Conn) (acts : Acts) : Type 0 where
+pub record HandsBodyOn (old : Conn) (s : Incoming) (now : ℕ) (new : Conn) (acts : Acts) : Type 0 where
   pub variables : Variables
   pub state_was : old.state ≡ Established variables
   pub next : is_next variables old.given s ≡ true
@@ -54,7 +54,7 @@ pub record HandsOn (old : Conn) (s : Incoming) (now : ℕ) (new : Conn) (acts : 
   pub bare : IsBareAt (window was) variables.next
   pub left : Held
   pub held : new.held ≡ Some left
-  pub moves : MovesOn (window was) (length s.body) (window left)
+  pub moves : WindowMovesOn (window was) (length s.body) (window left)
   pub state : new.state ≡ Established (record variables { next = variables.next + length s.body; room = s.window })
   pub unacked : new.unacked.items ≡ old.unacked.items
   pub acts_are : acts ≡ acknowledging old.link (record variables { next = variables.next + length s.body; room = s.window }) s (grown_acts variables.next (variables.next + length s.body))

@@ -9,7 +9,7 @@ ghost use Rattle.nb_tcp.specs.Arriving.{incoming};
 ghost use Rattle.nb_tcp.specs.InOrder.{is_next_of};
 ghost use Rattle.nb_tcp.specs.Numbers.{breached, judged, opened_variables};
 ghost use Rattle.nb_tcp.specs.Replies.{only_ready, also_sending, also_over, all_sending, first_tried, unacked_text, went_on, ongoing_acts, ongoing_retry, grown_acts, acknowledging, taken_acts, breach_state, breach_retry, syn_answered, syn_answer_acts, syn_answer_state, syn_answer_retry, established_acts, sent_again, has_come_all, given_acts, given_state, given_retry, has_finished};
-ghost use Rattle.nb_tcp.specs.SegmentSteps.{TakesSegment, FollowsVerdict, FollowsState, HandsOn};
+ghost use Rattle.nb_tcp.specs.SegmentSteps.{TakesSegment, FollowsVerdict, FollowsState, HandsBodyOn};
 ghost use Rattle.nb_tcp.specs.declared.conn.ConnState.TheVariants.{SynSent, Established, Ended};
 ghost use Rattle.nb_tcp.specs.declared.conn.SendError.TheVariants as SendError;
 ghost use Rattle.nb_tcp.specs.OtherSteps.{ticked_acts, ticked_conn, FollowsGiven, SameConn, closed_acts, closed_conn};
@@ -140,7 +140,7 @@ impl Conn {
     pub(crate) fn pass_on(&mut self, segment: &Segment<'_>, now: u64, acts: &mut Acts) -> bool
         requires delivered { HasDelivered self.old }
         requires body { length segment.now.body.now < 2 ^ 16 }
-        ensures { MatchBool result (HandsOn self.old (incoming segment.now) now self.new acts.new) (self.new ≡ self.old) }
+        ensures { MatchBool result (HandsBodyOn self.old (incoming segment.now) now self.new acts.new) (self.new ≡ self.old) }
     {
         let ConnState::Established(variables) = &mut self.state else {
             return false;
