@@ -23,7 +23,7 @@ use Rattle.nb_traced.specs.Entries.{came_to}
 use Rattle.nb_traced.specs.Outputs.{Arrived}
 use Rattle.nb_network.specs.Takes.{ArrivesAt, at_all, at_connection, at_echo, at_none, at_port, arrival, BeginsWithEntry}
 use Rattle.nb_client.specs.Progressing.{BringsTo, ShutsStanding, StandsFirst}
-use Rattle.nb_boot.specs.Entries.{way_of, segment_arrival, arrival_at}
+use Rattle.nb_boot.specs.Entries.{way_of_call, segment_arrival, arrival_at}
 use Rattle.nb_talks.specs.Talking.{by_time}
 use Rattle.nb_boot.specs.Stepped.{EntersWith, ShutsLive}
 use Rattle.nb_boot.proofs.EntryFrames.{StepComes, none_arrives, enters_none, frame_comes, lives_there, none_some, one_open}
@@ -55,18 +55,18 @@ no_segments : (e : Event) (t : ℕ) (os : List Opening) → flat_map (segment_ar
 no_segments e t [] = refl
 no_segments e t (o ∷ os) = no_segments e t os
 
-pub time_arrives : (k : ℕ) (es : List Event) (n ms : ℕ) → arrival_at k es (waits n ms) ≡ map (λ c. record { number = n; way = way_of c }) (call_at k es (waits n ms))
+pub time_arrives : (k : ℕ) (es : List Event) (n ms : ℕ) → arrival_at k es (waits n ms) ≡ map (λ c. record { number = n; way = way_of_call c }) (call_at k es (waits n ms))
 time_arrives k es n ms =
-    ap (λ z. map (λ c. record { number = n; way = way_of c }) (call_at k es (waits n ms)) ++ z) (no_segments (waits n ms) (time es + ms) (live k es)) ∙ append-nil (map (λ c. record { number = n; way = way_of c }) (call_at k es (waits n ms)))
+    ap (λ z. map (λ c. record { number = n; way = way_of_call c }) (call_at k es (waits n ms)) ++ z) (no_segments (waits n ms) (time es + ms) (live k es)) ∙ append-nil (map (λ c. record { number = n; way = way_of_call c }) (call_at k es (waits n ms)))
 
 time_counted : (es : List Event) (s : State) (n ms k : ℕ) → AgreesState es s → came_to k (map (λ l. arrival l.number way.Time n) s.live) ≡ arrival_at k es (waits n ms)
 time_counted es s n ms k a =
     times_to k n s.live a.apart
     ∙ either_way (lives_among k s.live)
     (λ some. let l = found (λ z. (o : Opening) × (live z es ≡ o ∷ [])) k s.live (all_live es s.live a.each) some in
-    ap (λ b. cond b (record { number = n; way = 3 } ∷ []) []) some ∙ sym (ap (λ cs. map (λ c. record { number = n; way = way_of c }) cs) (time_comes_to k es n ms l.0 l.1)))
+    ap (λ b. cond b (record { number = n; way = 3 } ∷ []) []) some ∙ sym (ap (λ cs. map (λ c. record { number = n; way = way_of_call c }) cs) (time_comes_to k es n ms l.0 l.1)))
     (λ away. ap (λ b. cond b (record { number = n; way = 3 } ∷ []) []) away
-    ∙ sym (ap (λ cs. map (λ c. record { number = n; way = way_of c }) cs) (no_call k es (waits n ms) tt (a.others k away)).0))
+    ∙ sym (ap (λ cs. map (λ c. record { number = n; way = way_of_call c }) cs) (no_call k es (waits n ms) tt (a.others k away)).0))
     ∙ sym (time_arrives k es n ms)
 
 -- where something comes, an open lives, and the step begins with its time
@@ -76,7 +76,7 @@ time_enters es n ms [] more h others first = enters_none way.Time (λ k. arrival
 time_enters es n ms (l ∷ ls) more h others first = record {
   enters = λ k c rest is. record { port = first.0; more = first.1; all = first.2 };
   still = λ none. absurd (none_some (record { number = n; way = 3 }) [] (arrival_at l.number es (waits n ms)) (none l.number)
-      (time_arrives l.number es n ms ∙ ap (λ cs. map (λ c. record { number = n; way = way_of c }) cs) (time_comes_to l.number es n ms (live_opening l) (lives_there es l h.0))));
+      (time_arrives l.number es n ms ∙ ap (λ cs. map (λ c. record { number = n; way = way_of_call c }) cs) (time_comes_to l.number es n ms (live_opening l) (lives_there es l h.0))));
 }
 
 time_comes : (es : List Event) (s : State) (n : ℕ) (r : In) (ms : ℕ) (came : List Arrived) (more : List Out) → tick ms ≡ r → AgreesState es s → ArrivesAt s n r came → BeginsWithEntry came more → StepComes es (waits n ms) came more

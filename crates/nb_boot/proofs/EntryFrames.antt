@@ -38,7 +38,7 @@ use Rattle.nb_webs.specs.Webs.{NoTask}
 use Rattle.nb_laws.specs.Webs.{came_at, comes_to_port, ComesToNone}
 use Rattle.nb_traced.specs.Outputs.{Arrived}
 use Rattle.nb_network.specs.Takes.{ArrivesAt, at_all, at_connection, at_echo, at_none, at_port, arrival, BeginsWithEntry}
-use Rattle.nb_boot.specs.Entries.{way_of, event_number, segment_arrival, arrival_at}
+use Rattle.nb_boot.specs.Entries.{way_of_call, event_number, segment_arrival, arrival_at}
 use Rattle.nb_boot.specs.Stepped.{EntersWith, StartsSo}
 use Rattle.nb_boot.proofs.EntryComings.{HaveNoGraph, no_graph_in}
 
@@ -58,10 +58,10 @@ one_open o os none one = let no : [] ≡ o ∷ [] = sym none ∙ one in absurd (
 
 -- what an event brings, by the calls and by the segments of it
 pub arrivals_are : (k : ℕ) (es : List Event) (e : Event) (calls : List Call) (segments : List (Came NoTask)) → call_at k es e ≡ calls → came_at k es e ≡ segments →
-    arrival_at k es e ≡ map (λ c. record { number = event_number e; way = way_of c }) calls ++ flat_map (segment_arrival e) segments
+    arrival_at k es e ≡ map (λ c. record { number = event_number e; way = way_of_call c }) calls ++ flat_map (segment_arrival e) segments
 arrivals_are k es e calls segments by_calls by_segments =
-    ap (λ cs. map (λ c. record { number = event_number e; way = way_of c }) cs ++ flat_map (segment_arrival e) (came_at k es e)) by_calls
-    ∙ ap (λ ss. map (λ c. record { number = event_number e; way = way_of c }) calls ++ flat_map (segment_arrival e) ss) by_segments
+    ap (λ cs. map (λ c. record { number = event_number e; way = way_of_call c }) cs ++ flat_map (segment_arrival e) (came_at k es e)) by_calls
+    ∙ ap (λ ss. map (λ c. record { number = event_number e; way = way_of_call c }) calls ++ flat_map (segment_arrival e) ss) by_segments
 
 pub none_arrives : (k : ℕ) (es : List Event) (e : Event) → BringsNone k es e → arrival_at k es e ≡ []
 none_arrives k es e none = arrivals_are k es e [] [] none.0 none.1

@@ -26,8 +26,8 @@ use Rattle.nb_openlaws.proofs.UsedEvents.{IsUsed}
 use Rattle.nb_traced.specs.Entries.{EntryArrival, RunsInEntry, IsOutside}
 use Rattle.nb_traced.specs.LowestObjects.{GraphSoFar}
 use Rattle.nb_traced.proofs.Seeing.{so_far_append}
-use Rattle.nb_traced.specs.Places.{IsWithinOpen, FrameStands, FramesStand, TriesStand, by_open, by_step}
-use Rattle.nb_boot.specs.Entries.{way_of, event_number, segment_arrival, arrival_at, FrameLeaves, by_entry, by_entry_beside, by_reply, plain, LeavesSo, IsUntried}
+use Rattle.nb_traced.specs.Places.{IsWithinOpen, FrameStands, FramesStand, TriesStandWithin, by_open, by_step}
+use Rattle.nb_boot.specs.Entries.{way_of_call, event_number, segment_arrival, arrival_at, FrameLeaves, by_entry, by_entry_beside, by_reply, plain, LeavesSo, IsUntried}
 use Rattle.nb_boot.proofs.EntryAlone.{Known, alone_then, one_is_drive}
 use Rattle.nb_boot.proofs.EntryMoves.{BeginsNoFrame}
 use Rattle.nb_boot.proofs.EntryComings.{HaveNoGraph}
@@ -78,9 +78,9 @@ pub record ArrivesSome (k : ℕ) (es : List Event) (e : Event) : Type 0 where
 
 by_a_call : (k : ℕ) (es : List Event) (e : Event) (call : Call) → call_at k es e ≡ call ∷ [] → ArrivesSome k es e
 by_a_call k es e call is = record {
-  arrives = record { number = event_number e; way = way_of call };
+  arrives = record { number = event_number e; way = way_of_call call };
   rest = flat_map (segment_arrival e) (came_at k es e);
-  at = ap (λ cs. map (λ c. record { number = event_number e; way = way_of c }) cs ++ flat_map (segment_arrival e) (came_at k es e)) is;
+  at = ap (λ cs. map (λ c. record { number = event_number e; way = way_of_call c }) cs ++ flat_map (segment_arrival e) (came_at k es e)) is;
 }
 
 starts_otherwise : (b : Bool) (m : Arrival) (t : ℕ) (others : List (Came NoTask)) (now : ℕ) (rest : List (Came NoTask)) → cond b (by_segment m t ∷ []) [] ++ others ≡ by_time now ∷ rest →
@@ -113,18 +113,18 @@ by_some_time : (k n ms : ℕ) (es : List Event) (os : List Opening) (c : Came No
 by_some_time k n ms es [] c lives one = absurd (let no : [] ≡ c ∷ [] = sym (ap (λ (z : List Opening). times_of (time es + ms) z) lives) ∙ one in cc)
 by_some_time k n ms es (o ∷ os) c lives one = record {
   arrives = record { number = n; way = 3 };
-  rest = map (λ x. record { number = n; way = way_of x }) (ticks_of (time es + ms) os) ++ flat_map (segment_arrival (waits n ms)) (came_at k es (waits n ms));
-  at = ap (λ (z : List Opening). map (λ x. record { number = n; way = way_of x }) (ticks_of (time es + ms) z) ++ flat_map (segment_arrival (waits n ms)) (came_at k es (waits n ms))) lives;
+  rest = map (λ x. record { number = n; way = way_of_call x }) (ticks_of (time es + ms) os) ++ flat_map (segment_arrival (waits n ms)) (came_at k es (waits n ms));
+  at = ap (λ (z : List Opening). map (λ x. record { number = n; way = way_of_call x }) (ticks_of (time es + ms) z) ++ flat_map (segment_arrival (waits n ms)) (came_at k es (waits n ms))) lives;
 }
 
 by_some_stream : (k : ℕ) (es : List Event) (e : Event) (c : Came NoTask) → came_at k es e ≡ c ∷ [] → ArrivesSome k es e
 by_some_stream k es e (by_task task now) is = absurd task
 by_some_stream k es e (by_segment m now) is =
-    let x = after_calls (λ c. record { number = event_number e; way = way_of c }) (call_at k es e) (record { number = event_number e; way = 0 }) [] in
+    let x = after_calls (λ c. record { number = event_number e; way = way_of_call c }) (call_at k es e) (record { number = event_number e; way = 0 }) [] in
     record {
       arrives = x.0;
       rest = x.1;
-      at = ap (λ ss. map (λ c. record { number = event_number e; way = way_of c }) (call_at k es e) ++ flat_map (segment_arrival e) ss) is ∙ x.2;
+      at = ap (λ ss. map (λ c. record { number = event_number e; way = way_of_call c }) (call_at k es e) ++ flat_map (segment_arrival e) ss) is ∙ x.2;
     }
 by_some_stream k es (starts n s) (by_time now) is = absurd (cc)
 by_some_stream k es (stops n) (by_time now) is = absurd (cc)
@@ -309,7 +309,7 @@ not_tried : (w : List Event) (o : Out) → ((k count : ℕ) → o ≡ tried k co
 not_tried w o other = λ before k count at. other k count (last_out (outputs w) before o (tried k count) (sym (outputs_append w (puts o ∷ [])) ∙ at))
 
 -- a whole output, of which each FRAME and each TRY has its place
-module _ (all : List Out) (framed : FramesStand all) (tried_so : TriesStand all) where
+module _ (all : List Out) (framed : FramesStand all) (tried_so : TriesStandWithin all) where
   leaves_so : (w : List Event) (o : Out) (more later : List Out) → all ≡ outputs w ++ (o ∷ (more ++ later)) → Known (plain w) (puts o) → Context w (o ∷ more) → LeavesSo w (puts o)
   leaves_so w (sent bytes) more later at known c = frame_leaves w bytes more c (framed (outputs w) (more ++ later) bytes at) known.written
   leaves_so w (tried k count) more later at known c = (tried_so (outputs w) (more ++ later) k count at).within

@@ -40,12 +40,12 @@ use Rattle.nb_traced.specs.Entries.{EntryArrival, came_to, IsOutside}
 use Rattle.nb_traced.specs.Holdings.{Holdings}
 use Rattle.nb_traced.specs.LowestObjects.{GraphSoFar}
 use Rattle.nb_traced.specs.Outputs.{Arrived, Traced}
-use Rattle.nb_traced.specs.Places.{FramesStand, TriesStand}
+use Rattle.nb_traced.specs.Places.{FramesStand, TriesStandWithin}
 use Rattle.nb_traced.proofs.Entering.{entered}
 use Rattle.nb_traced.proofs.Following.{frames_stand, lowest_are_own, tries_stand}
 use Rattle.nb_traced.proofs.Seeing.{so_far_append}
 use Rattle.nb_client.specs.Progressing.{BeginsStep, BringsTo, StandsFirst}
-use Rattle.nb_boot.specs.Entries.{way_of, arrivals, plain, LeavesSo, EntriesAgree}
+use Rattle.nb_boot.specs.Entries.{way_of_call, arrivals, plain, LeavesSo, EntriesAgree}
 use Rattle.nb_boot.specs.Stepped.{AreStepped, StartsSo}
 use Rattle.nb_boot.specs.Stepped as stepped
 use Rattle.nb_boot.specs.Following.{FollowsMachine, nothing, uses, goes_on}
@@ -195,7 +195,7 @@ none_shut es (starts n s) more bytes rest k o a steps used so is lives why =
 none_shut es (hears n b m) more bytes rest k o a steps used so is lives why = heard_none es n b m k a steps.1 why
 none_shut es (waits n ms) more bytes rest k o a steps used so is lives why =
     let before : live k es ≡ o ∷ [] = sym (live_then es (waits n ms) k refl refl) ∙ lives in
-    not_due es (waits n ms) more bytes rest k tt so is (record { arrives = record { number = n; way = 3 }; rest = []; at = time_arrives k es n ms ∙ ap (λ cs. map (λ c. record { number = n; way = way_of c }) cs) (time_comes_to k es n ms o before) })
+    not_due es (waits n ms) more bytes rest k tt so is (record { arrives = record { number = n; way = 3 }; rest = []; at = time_arrives k es n ms ∙ ap (λ cs. map (λ c. record { number = n; way = way_of_call c }) cs) (time_comes_to k es n ms o before) })
 none_shut es (stops n) more bytes rest k o a steps used so is lives why =
     let f = so k o (sym (live_then es (stops n) k refl refl) ∙ lives) in let no : sent bytes ∷ rest ≡ graph _ ∷ f.1 = sym is ∙ f.2 in cc no
 
@@ -226,7 +226,7 @@ silent_after es (hears n bytes m) came more outs used still c = elim (c.silent n
 still_then : (outs : List Out) (n : ℕ) → IsOutside outs → IsOutside (outs ++ step n ∷ [])
 still_then outs n still = ap (λ (g : GraphSoFar). g.running) (so_far_append outs (step n ∷ [])) ∙ still
 
-module _ (all : List Out) (framed : FramesStand all) (tried_so : TriesStand all) where
+module _ (all : List Out) (framed : FramesStand all) (tried_so : TriesStandWithin all) where
   -- one more record was used
   step_agreed : (ins : List In) (outs : List Out) (p : Progress) (so_far came : List Arrived) (r : In) (number : ℕ) (more later : List Out) (before es : List Event) → all ≡ (outs ++ (step number ∷ more)) ++ later →
       IsOutside outs → Course ins (without_graph outs) p → IsHistory ins (without_graph outs) before → EachEvent Known [] es → EachThen TriesSo [] es → (u : FirstUsed before es r number (without_graph more)) → StepComes before u.event came more →

@@ -20,9 +20,9 @@ use Rattle.nb_traced.specs.Entries.{EntryArrival, entries, RunsInEntry, IsOutsid
 
 -- WHAT ENTERS IT
 
-abbrev pub way_of : Call → ℕ
-way_of (came m now) = 0
-way_of (ticked now) = 3
+abbrev pub way_of_call : Call → ℕ
+way_of_call (came m now) = 0
+way_of_call (ticked now) = 3
 
 abbrev pub event_number : Event → ℕ
 event_number (starts n s) = n
@@ -38,7 +38,7 @@ segment_arrival e (by_time now) = []
 segment_arrival e (by_task task now) = []
 
 abbrev pub arrival_at : ℕ → List Event → Event → List EntryArrival
-arrival_at k before e = map (λ c. record { number = event_number e; way = way_of c }) (call_at k before e) ++ flat_map (segment_arrival e) (came_at k before e)
+arrival_at k before e = map (λ c. record { number = event_number e; way = way_of_call c }) (call_at k before e) ++ flat_map (segment_arrival e) (came_at k before e)
 
 -- the datagrams, echo replies, segments and times that came to open k while it lived, each in its step
 unfoldable pub arrivals : ℕ → List Event → List EntryArrival

@@ -20,7 +20,7 @@ use Rattle.nb_traced.specs.Holdings.{Holdings}
 use Rattle.nb_traced.specs.Outputs.{Arrived, Traced}
 use Rattle.nb_traced.specs.Runs.{HasLedTo}
 use Rattle.nb_traced.specs.Openings.{OpensHavePieces, NumbersRise, EndsAreTheirs, CommandsLeaveNone, LeavesTheirs}
-use Rattle.nb_traced.specs.Places.{LowestAreTheirs, LowestAreOwn, FramesStand, TriesStand, AdvancesStand, OthersStandOutside}
+use Rattle.nb_traced.specs.Places.{LowestAreTheirs, LowestAreOwn, FramesStand, TriesStandWithin, AdvancesStand, OthersStandOutside}
 use Rattle.nb_boot.specs.InTurn.{MayGoOn, AreInTurn}
 use Rattle.nb_boot.specs.Stepped.{AreStepped, ShutsLive}
 use Rattle.nb_boot.specs.Entries.{EntriesAgree}
@@ -114,7 +114,7 @@ pub record SaysOfGraph (outs : List Out) : Type 0 where
   pub lowest : LowestAreTheirs outs
   pub own : LowestAreOwn outs
   pub frames : FramesStand outs
-  pub tries : TriesStand outs
+  pub tries : TriesStandWithin outs
   pub advances : AdvancesStand outs
   pub others : OthersStandOutside outs
   pub holdings : Holdings

@@ -17,7 +17,7 @@ use Rattle.nb_laws.specs.Hookings.{OnlyDrivesLive}
 use Rattle.nb_laws.specs.Lists.{Opening, live}
 
 -- the first of these records says that an object is entered so
-pub record EntersFirst (by : Way) (outs : List Out) : Type 0 where
+pub record BeginsByEntry (by : Way) (outs : List Out) : Type 0 where
   pub port : Port
   pub more : List Out
   pub all : outs ≡ graph (flat (Entered port by)) ∷ more
@@ -25,7 +25,7 @@ pub record EntersFirst (by : Way) (outs : List Out) : Type 0 where
 -- Where this comes to an open, the records of a step begin with an entry by this way, whatever comes of it; and where nothing
 -- comes to any, none of them is the graph's.
 pub record EntersWith (by : Way) (comes : ℕ → List EntryArrival) (more : List Out) : Type 0 where
-  pub enters : (k : ℕ) (arrival : EntryArrival) (rest : List EntryArrival) → comes k ≡ arrival ∷ rest → EntersFirst by more
+  pub enters : (k : ℕ) (arrival : EntryArrival) (rest : List EntryArrival) → comes k ≡ arrival ∷ rest → BeginsByEntry by more
   pub still : ((k : ℕ) → comes k ≡ []) → without_graph more ≡ more
 
 -- where an open lives, these records begin with the first close of the graph's end

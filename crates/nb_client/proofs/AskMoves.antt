@@ -22,7 +22,7 @@ use Rattle.nb_client.specs.Asked.{awaited_asked, job_asked, live_asked}
 use Rattle.nb_client.specs.Openings.{AsksFor, IsNoDisk, IsOpenedIn, Opened, sets_out, turns_back}
 use Rattle.nb_client.specs.Progressing.{LeadsToSnapshot, TracesTo, most_moves}
 use Rattle.nb_client.specs.Snapshots.{Snapshot, snapshot, state_of_world}
-use Rattle.nb_client.specs.Turning.{MovesOn, found_by_script, left_by}
+use Rattle.nb_client.specs.Turning.{MovesOn, found_by_script, world_left_by}
 use Rattle.nb_client.specs.declared.asked.Asked.{Asked}
 use Rattle.nb_client.specs.declared.asked.Asked.TheVariants.{File, Query as Exchange, Disk, Block}
 use Rattle.nb_runner.specs.declared.query.Query.TheVariants as query
@@ -37,7 +37,7 @@ opens_in w live a = opens (state_of_world w live) (live_asked (state_of_world w 
 doing_asked : (w now : World) (live : List Live) (a : Asked) (s : Running) (ws : List (List ℕ)) (x : AsksFor w a s ws now) → doing (state_of_world w live) s (x.name ∷ x.args) ≡ opens_in now live a
 doing_asked w now live (File wanted) s ws x =
     let vs = x.name ∷ x.args in
-    let stays : left_by w vs ≡ w = world_stays w _ _ x.was_linked (keeps_table_in (found_by_script w s) (asks (wanted_of wanted)) vs x.asks_so) (keeps_up_in (found_by_script w s) (asks (wanted_of wanted)) w.state.up vs x.asks_so) in
+    let stays : world_left_by w vs ≡ w = world_stays w _ _ x.was_linked (keeps_table_in (found_by_script w s) (asks (wanted_of wanted)) vs x.asks_so) (keeps_up_in (found_by_script w s) (asks (wanted_of wanted)) w.state.up vs x.asks_so) in
     ap (doing_by (state_of_world w live) (table_after w.state.table vs) (up_after w.state.table w.state.up vs)) x.asks_so ∙ ap (λ v. opens_in v live (File wanted)) (sym (x.world_is ∙ stays))
 doing_asked w now live (Exchange q) s ws x =
     let vs = x.name ∷ x.args in

@@ -15,7 +15,7 @@ use Rattle.nb_traced.specs.Outputs.{Arrived, Traced, apart}
 use Rattle.nb_stack.specs.Client.{Client}
 use Rattle.nb_drivecmd.specs.declared.drive.Drive.{Drive}
 use Rattle.nb_machine.specs.Courses.{ReadsBlock, block_lost, block_standing, running, stands, waiting}
-use Rattle.nb_machine.specs.Drives.{first_block}
+use Rattle.nb_machine.specs.Drives.{first_block_read}
 use Rattle.nb_machine.specs.Kinds.{read_last}
 use Rattle.nb_machine.specs.Lives.{Live, continued, exchange, task}
 use Rattle.nb_machine.specs.Running.{Running, with_result}
@@ -30,9 +30,9 @@ use Rattle.nb_network.specs.Takes.{AnswersBy, awaited_over, still_awaited}
 use Rattle.nb_network.specs.declared.over.HasEnded.{HasEnded}
 use Rattle.nb_network.specs.declared.living.Living.{Living as TheOpen}
 use Rattle.nb_network.proofs.Lists.{all_append, all_back, all_front}
-use Rattle.nb_client.specs.Booting.{AsksAt, AsksFirst, block_pending}
+use Rattle.nb_client.specs.Booting.{AsksFirstBlock, AsksFirst, block_pending}
 use Rattle.nb_client.specs.Snapshots.{Snapshot, StandsForProgress, at_running, at_waiting, snapshot, state_of_world, waiting_for}
-use Rattle.nb_client.specs.Soundness.{AreHooked, HasRoomIf, IsDriveAt, IsDriveKind, IsSound, IsUnasked, IsUnaskedBut, has_its_open, kept_drives}
+use Rattle.nb_client.specs.Soundness.{AreHooked, HasRoomIf, IsDriveAt, IsDriveKind, IsSound, IsAskedNoTask, IsUnaskedBut, has_its_open, kept_drives}
 use Rattle.nb_client.specs.declared.pending.Expected.TheVariants.{Open}
 use Rattle.nb_client.specs.declared.site.Site.{Site}
 use Rattle.nb_client.specs.declared.stage.Stage.TheVariants as stage
@@ -46,18 +46,18 @@ use Rattle.nb_client.proofs.Unasked.{unread, unread_first}
 use Rattle.nb_client.proofs.Waits.{none_found, some_found}
 
 -- of one open that took something, that lives on where it hasn't ended
-one_lives : {devices : List Client} {put : List Out} {after : List Live} {over : List Over} {now : ℕ} (k : ℕ) (l : Live) → l.number ≡ k → AllTake devices (task first_block now) (l ∷ []) put after over → find (is_number k) over ≡ None → over ≡ []
+one_lives : {devices : List Client} {put : List Out} {after : List Live} {over : List Over} {now : ℕ} (k : ℕ) (l : Live) → l.number ≡ k → AllTake devices (task first_block_read now) (l ∷ []) put after over → find (is_number k) over ≡ None → over ≡ []
 one_lives k l is (lives_on _ _ _ link put more _ dev keeps none all_have) e = refl
 one_lives {devices} {put} {after} {over} {now} k l is (is_over _ _ _ link x more _ cause dev keeps ends all_have) e =
-    absurd (let found : Some (record { live = continued l (exchange (task first_block now) link x); cause = cause }) ≡ None = sym (ap (λ b. cond b (Some (record { live = continued l (exchange (task first_block now) link x); cause = cause })) None) (eq-eqb l.number k is)) ∙ e in cc)
+    absurd (let found : Some (record { live = continued l (exchange (task first_block_read now) link x); cause = cause }) ≡ None = sym (ap (λ b. cond b (Some (record { live = continued l (exchange (task first_block_read now) link x); cause = cause })) None) (eq-eqb l.number k is)) ∙ e in cc)
 
-one_ended : {devices : List Client} {put : List Out} {after : List Live} {over : List Over} {now : ℕ} (k : ℕ) (l : Live) (o : Over) → AllTake devices (task first_block now) (l ∷ []) put after over → find (is_number k) over ≡ Some o → over ≡ o ∷ []
+one_ended : {devices : List Client} {put : List Out} {after : List Live} {over : List Over} {now : ℕ} (k : ℕ) (l : Live) (o : Over) → AllTake devices (task first_block_read now) (l ∷ []) put after over → find (is_number k) over ≡ Some o → over ≡ o ∷ []
 one_ended k l o (lives_on _ _ _ link put more _ dev keeps none all_have) e = absurd (let no : None ≡ Some o = e in cc)
 one_ended {devices} {put} {after} {over} {now} k l o (is_over _ _ _ link x more _ cause dev keeps ends all_have) e =
     by (l.number == k) e
   where
-    by : (b : Bool) → cond b (Some (record { live = continued l (exchange (task first_block now) link x); cause = cause })) None ≡ Some o → record { live = continued l (exchange (task first_block now) link x); cause = cause } ∷ [] ≡ o ∷ []
-    by true same = ap (λ (z : Over). z ∷ []) (let one : record { live = continued l (exchange (task first_block now) link x); cause = cause } ≡ o = cc in one)
+    by : (b : Bool) → cond b (Some (record { live = continued l (exchange (task first_block_read now) link x); cause = cause })) None ≡ Some o → record { live = continued l (exchange (task first_block_read now) link x); cause = cause } ∷ [] ≡ o ∷ []
+    by true same = ap (λ (z : Over). z ∷ []) (let one : record { live = continued l (exchange (task first_block_read now) link x); cause = cause } ≡ o = cc in one)
     by false same = absurd (let no : None ≡ Some o = same in cc)
 
 -- none is tied, but for one
@@ -65,7 +65,7 @@ untied_weaker : (k : ℕ) (os : List TheOpen) → AllByRecursion IsUntied os →
 untied_weaker k os h = all_weaker IsUntied (IsUntiedBut k) (λ o u other. u) os h
 
 module _ (s : Running) (number : ℕ) (d : Option Drive) (before after : Site) (net : Client) (m : Many) (answer : Option HasEnded) (l0 l1 : Logged)
-    (asks : (live : List Live) → AreOpensOf before.opens.graph before.opens.list live → AsksOne first_block number before.opens before.world.net before.world.time before.world.opens (Some number) answer m net l0 l1 (state_of_world before.world live))
+    (asks : (live : List Live) → AreOpensOf before.opens.graph before.opens.list live → AsksOne first_block_read number before.opens before.world.net before.world.time before.world.opens (Some number) answer m net l0 l1 (state_of_world before.world live))
     (sound : IsSound before.used before.world before.opens (stage.Running s)) (goes_on : AreSound before.world.w before.world.opens net m) (linked : IsLinkOfState (with_net before.world net))
     (used : after.used ≡ before.used) (opens : after.opens ≡ m) (world : after.world ≡ world_with_drives (with_net before.world net) (kept_drives m.list before.world.state.drives)) where
   abbrev w : World
@@ -82,7 +82,7 @@ module _ (s : Running) (number : ℕ) (d : Option Drive) (before after : Site) (
     abbrev t : State
     t = state_of_world w live
 
-    x : AsksOne first_block number before.opens w.net w.time w.opens (Some number) answer m net l0 l1 t
+    x : AsksOne first_block_read number before.opens w.net w.time w.opens (Some number) answer m net l0 l1 t
     x = asks live are
 
     abbrev left : List Live
@@ -112,7 +112,7 @@ module _ (s : Running) (number : ℕ) (d : Option Drive) (before after : Site) (
         (on.after, subst (λ y. Traced (outs ++ x.records) on.after y) (append-nil so_far) on.traced, on.fits)
 
     -- the command waits
-    waits_at : answer ≡ None → AsksAt s number d before (snapshot before.used w' m (stage.Waiting s (Open (block_pending number d)))) l0 l1 live
+    waits_at : answer ≡ None → AsksFirstBlock s number d before (snapshot before.used w' m (stage.Waiting s (Open (block_pending number d)))) l0 l1 live
     waits_at none =
         let over : x.does.over ≡ [] = one_lives number x.does.own x.does.number_is x.does.takes (none_found number x.does.over (subst (λ a. AnswersBy a (awaited_over (Some number) x.does.over)) none x.answers)) in
         let after_it = snapshot before.used w' m (stage.Waiting s (Open (block_pending number d))) in
@@ -131,7 +131,7 @@ module _ (s : Running) (number : ℕ) (d : Option Drive) (before after : Site) (
         }
 
     -- or it has ended
-    ends_at : (e : HasEnded) (new : Logged) → answer ≡ Some e → Puts l1 new (out_texts (result e.cause ∷ [])) → AsksAt s number d before (snapshot before.used w' m (stage.Running (with_result s e.cause))) l0 new live
+    ends_at : (e : HasEnded) (new : Logged) → answer ≡ Some e → Puts l1 new (out_texts (result e.cause ∷ [])) → AsksFirstBlock s number d before (snapshot before.used w' m (stage.Running (with_result s e.cause))) l0 new live
     ends_at e new some puts =
         let f = some_found number x.does.over e (subst (λ a. AnswersBy a (awaited_over (Some number) x.does.over)) some x.answers) in
         let over : x.does.over ≡ f.0 ∷ [] = one_ended number x.does.own f.0 x.does.takes f.1 in
@@ -160,23 +160,23 @@ module _ (s : Running) (number : ℕ) (d : Option Drive) (before after : Site) (
   abbrev known : AreHooked None before.opens ds
   known = sound.hooked
 
-  abbrev y : AsksOne first_block number before.opens w.net w.time w.opens (Some number) answer m net l0 l1 (state_of_world w known.live)
+  abbrev y : AsksOne first_block_read number before.opens w.net w.time w.opens (Some number) answer m net l0 l1 (state_of_world w known.live)
   y = x known.live known.are
 
-  around : AllByRecursion IsUnasked (y.does.front ++ (y.does.own ∷ y.does.back))
-  around = subst (AllByRecursion IsUnasked) y.does.all known.unasked
+  around : AllByRecursion IsAskedNoTask (y.does.front ++ (y.does.own ∷ y.does.back))
+  around = subst (AllByRecursion IsAskedNoTask) y.does.all known.unasked
 
-  front_unasked : AllByRecursion IsUnasked y.does.front
-  front_unasked = all_front IsUnasked y.does.front (y.does.own ∷ y.does.back) around
+  front_unasked : AllByRecursion IsAskedNoTask y.does.front
+  front_unasked = all_front IsAskedNoTask y.does.front (y.does.own ∷ y.does.back) around
 
-  back_unasked : AllByRecursion IsUnasked (y.does.own ∷ y.does.back)
-  back_unasked = all_back IsUnasked y.does.front (y.does.own ∷ y.does.back) around
+  back_unasked : AllByRecursion IsAskedNoTask (y.does.own ∷ y.does.back)
+  back_unasked = all_back IsAskedNoTask y.does.front (y.does.own ∷ y.does.back) around
 
   kinds_left : AllByRecursion (λ (z : Drive). IsDriveAt z.open_number (left known.live known.are)) (kept_drives m.list ds)
   kinds_left = all_filter (λ (z : Drive). IsDriveAt z.open_number (left known.live known.are)) (has_its_open m.list) ds
       (kinds_all known.live (left known.live known.are)
       (λ k h. subst (IsDriveAt k) (append_assoc y.does.front y.does.after y.does.back)
-      (among (λ l. l.number ≡ k → IsDriveKind l.kind) y.does.front y.does.back y.does.after y.does.own (kind_stays k (task first_block w.time)) y.does.all y.does.takes h)) ds known.kinds)
+      (among (λ l. l.number ≡ k → IsDriveKind l.kind) y.does.front y.does.back y.does.after y.does.own (kind_stays k (task first_block_read w.time)) y.does.all y.does.takes h)) ds known.kinds)
 
   hooked_left : (asked : Option ℕ) → AllByRecursion (IsUnaskedBut asked) (left known.live known.are) → AreHooked asked m (kept_drives m.list ds)
   hooked_left asked unasked = record {
@@ -213,8 +213,8 @@ module _ (s : Running) (number : ℕ) (d : Option Drive) (before after : Site) (
     same_script = λ at_work. absurd at_work;
   })
     where
-      unread_all : (ls : List Live) → AllByRecursion IsUnasked ls → AllByRecursion (λ l. read_last l ≡ None) ls
-      unread_all ls h = all_weaker IsUnasked (λ l. read_last l ≡ None) unread ls h
+      unread_all : (ls : List Live) → AllByRecursion IsAskedNoTask ls → AllByRecursion (λ l. read_last l ≡ None) ls
+      unread_all ls h = all_weaker IsAskedNoTask (λ l. read_last l ≡ None) unread ls h
 
       unread_left : AllByRecursion (λ l. read_last l ≡ None) (left known.live known.are)
       unread_left = all_append (λ l. read_last l ≡ None) y.does.front (y.does.after ++ y.does.back) (unread_all y.does.front front_unasked)
@@ -224,9 +224,9 @@ module _ (s : Running) (number : ℕ) (d : Option Drive) (before after : Site) (
       numbered = all_take (λ (l : Live). l.number ≡ number) (λ l link put h. h) y.does.takes (y.does.number_is, tt)
 
       unasked_left : AllByRecursion (IsUnaskedBut (Some number)) (left known.live known.are)
-      unasked_left = all_append (IsUnaskedBut (Some number)) y.does.front (y.does.after ++ y.does.back) (all_weaker IsUnasked (IsUnaskedBut (Some number)) (λ l u other. u) y.does.front front_unasked)
+      unasked_left = all_append (IsUnaskedBut (Some number)) y.does.front (y.does.after ++ y.does.back) (all_weaker IsAskedNoTask (IsUnaskedBut (Some number)) (λ l u other. u) y.does.front front_unasked)
           (all_append (IsUnaskedBut (Some number)) y.does.after y.does.back (all_weaker (λ (l : Live). l.number ≡ number) (IsUnaskedBut (Some number)) (λ l same other. absurd (other same)) y.does.after numbered)
-          (all_weaker IsUnasked (IsUnaskedBut (Some number)) (λ l u other. u) y.does.back back_unasked.1))
+          (all_weaker IsAskedNoTask (IsUnaskedBut (Some number)) (λ l u other. u) y.does.back back_unasked.1))
 
   -- it has ended
   pub ends_first : (e : HasEnded) (new : Logged) → answer ≡ Some e → Puts l1 new (out_texts (result e.cause ∷ [])) → AsksFirst s number d before (snapshot after.used after.world after.opens (stage.Running (with_result s e.cause))) l0 new
@@ -241,7 +241,7 @@ module _ (s : Running) (number : ℕ) (d : Option Drive) (before after : Site) (
       short = sound.short;
       named = sound.named;
       linked = record { address = linked.address; up = linked.up };
-      hooked = hooked_left None (subst (λ z. AllByRecursion IsUnasked (y.does.front ++ (z ++ y.does.back))) (sym none_left) (all_append IsUnasked y.does.front y.does.back front_unasked back_unasked.1));
+      hooked = hooked_left None (subst (λ z. AllByRecursion IsAskedNoTask (y.does.front ++ (z ++ y.does.back))) (sym none_left) (all_append IsAskedNoTask y.does.front y.does.back front_unasked back_unasked.1));
     };
     under_way = tt;
     same_script = λ at_work. (e.cause, refl, refl);

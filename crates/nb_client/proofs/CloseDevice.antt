@@ -24,7 +24,7 @@ use Rattle.nb_client.specs.Closings.{ClosesDown}
 use Rattle.nb_client.specs.Progressing.{ProceedsTo, TracesTo}
 use Rattle.nb_client.specs.Snapshots.{at_running, snapshot, state_of_world}
 use Rattle.nb_client.specs.Soundness.{IsSound}
-use Rattle.nb_client.specs.Turning.{IsCarriedOutBy, MovesOn, left_by}
+use Rattle.nb_client.specs.Turning.{IsCarriedOutBy, MovesOn, world_left_by}
 use Rattle.nb_client.specs.declared.site.Site.{Site}
 use Rattle.nb_client.specs.declared.stage.Stage.TheVariants as stage
 use Rattle.nb_client.proofs.CloseGoes.{closed_sound}
@@ -71,11 +71,11 @@ down_move : {before after : Site} {l0 l1 : Logged} (n : ℕ) (w : World) (s : Ru
 down_move {before} {after} n w s ws live k early d are =
     let words = d.name ∷ d.args in
     let from : State = state_of_world w live in
-    let down : State = state_of_world (left_by w words) live in
+    let down : State = state_of_world (world_left_by w words) live in
     let all = subst (λ (v : World). (overs : List Over) × AllTake (bare v.net ∷ []) (close down_cause) (drives_first v.state.drives live) (without_graph k.records) [] overs) d.world_is
     (k.closes (state_of_world before.world live) (state_is before.world before.opens live are)) in
     let to : stands n (running (with_live down []) (further s ok) w.outer) ≡ stands n (running (state_of_world after.world []) (further s ok) after.world.outer) =
-    ap (λ (ds : List Drive). stands n (running (record (state_of_world (left_by w words) []) { drives = ds }) (further s ok) w.outer)) (none_hooked w.state.drives)
+    ap (λ (ds : List Drive). stands n (running (record (state_of_world (world_left_by w words) []) { drives = ds }) (further s ok) w.outer)) (none_hooked w.state.drives)
     ∙ ap (λ (v : World). stands n (running (record (state_of_world v []) { drives = [] }) (further s ok) v.outer)) (sym d.world_is)
     ∙ ap (λ (v : World). stands n (running (state_of_world v []) (further s ok) v.outer)) (sym k.world) in
     subst (λ p. Proceeds (stands n (running from s w.outer)) (down_records s ws (without_graph k.records)) p) to

@@ -23,7 +23,7 @@ use Rattle.nb_runner.specs.declared.command.Deed.{Deed}
 use Rattle.nb_runner.specs.declared.command.Deed.TheVariants as deed
 use Rattle.nb_machine.specs.Running.{Running}
 use Rattle.nb_runner.specs.NextCommand.{HasCommand, HasRefused}
-use Rattle.nb_client.specs.Turning.{ComesToEnd, IsCarriedOutBy, found_by_script, left_by}
+use Rattle.nb_client.specs.Turning.{ComesToEnd, IsCarriedOutBy, found_by_script, world_left_by}
 use Rattle.nb_client.specs.Leading.{ConcludesNow}
 use Rattle.nb_client.specs.Openings.{Intends}
 use Rattle.nb_machine.proofs.Words.{effect_in_of, effect_in_of_plan, effect_of_words, table_of_words, up_of_words, shown_of_words, effect_of_refused, table_of_refused, up_of_refused, shown_of_refused, effect_of_plan, table_of_plan, up_of_plan}
@@ -104,7 +104,7 @@ intends_planned s w ws p i now linked h is e world = record {
 }
 
 -- a command on images leaves the settings and the device
-images_stay : (s : Running) (w : World) (ws : List (List ℕ)) (command : ImageCommand) (h : HasCommand s w.state.table ws) → IsLinkOfState w → planned ws ≡ Ok (plan.Images command) → left_by w (h.name ∷ h.args) ≡ w
+images_stay : (s : Running) (w : World) (ws : List (List ℕ)) (command : ImageCommand) (h : HasCommand s w.state.table ws) → IsLinkOfState w → planned ws ≡ Ok (plan.Images command) → world_left_by w (h.name ∷ h.args) ≡ w
 images_stay s w ws command h linked is = world_stays w _ _ linked (table_of_words w.state.table (h.name ∷ h.args) ws h.expands ∙ table_of_plan w.state.table ws (Ok (plan.Images command)) is)
     (up_of_words w.state.table w.state.up (h.name ∷ h.args) ws h.expands ∙ up_of_plan w.state.up ws (Ok (plan.Images command)) is)
 
@@ -135,7 +135,7 @@ concludes_images s w ws command c now h is e world well = record {
 }
 
 -- a drive command leaves the settings and the device
-drives_stay : (s : Running) (w : World) (ws : List (List ℕ)) (command : DriveCommand) (h : HasCommand s w.state.table ws) → IsLinkOfState w → planned ws ≡ Ok (plan.Drives command) → left_by w (h.name ∷ h.args) ≡ w
+drives_stay : (s : Running) (w : World) (ws : List (List ℕ)) (command : DriveCommand) (h : HasCommand s w.state.table ws) → IsLinkOfState w → planned ws ≡ Ok (plan.Drives command) → world_left_by w (h.name ∷ h.args) ≡ w
 drives_stay s w ws command h linked is = world_stays w _ _ linked (table_of_words w.state.table (h.name ∷ h.args) ws h.expands ∙ table_of_plan w.state.table ws (Ok (plan.Drives command)) is)
     (up_of_words w.state.table w.state.up (h.name ∷ h.args) ws h.expands ∙ up_of_plan w.state.up ws (Ok (plan.Drives command)) is)
 

@@ -27,9 +27,9 @@ use Rattle.nb_traced.specs.Holdings.{Holdings}
 use Rattle.nb_traced.specs.Outputs.{Arrived, Traced, apart}
 use Rattle.nb_client.specs.Asked.{job_asked, pieces_beside}
 use Rattle.nb_client.specs.Booting.{AsksFirst}
-use Rattle.nb_client.specs.Drives.{drive_by}
+use Rattle.nb_client.specs.Drives.{drive_hooked_by}
 use Rattle.nb_client.specs.Progressing.{TracesTo}
-use Rattle.nb_client.specs.Serving.{ComesIn, Concludes, ConcludesEnd, FitsAnswer, IsAnswerOf, answer_over, disk_over, drive_failure}
+use Rattle.nb_client.specs.Serving.{ComesIn, Concludes, ConcludesEnd, FitsAnswer, IsAnswerOf, answer_over, disk_over, hook_failure}
 use Rattle.nb_client.specs.Snapshots.{Snapshot, at_running, snapshot, state_of_world}
 use Rattle.nb_client.specs.Soundness.{IsDriveAt, IsSound, IsSoundBut, kept_drives, snapshot_at}
 use Rattle.nb_client.specs.declared.asked.Asked.{Asked}
@@ -47,7 +47,7 @@ use Rattle.nb_client.proofs.DriveWaits.{find_passes}
 use Rattle.nb_client.proofs.HookedDrives.{one_hooked}
 
 -- a disk that isn't hooked has ended, for the command too
-failed_end : (after : AfterHook) (e : HasEnded) (o : Over) (cause : Cause) → IsEndOf e o → drive_failure after (End e) ≡ Some cause → (disk_over after o ≡ by_end o) × (cause ≡ e.cause)
+failed_end : (after : AfterHook) (e : HasEnded) (o : Over) (cause : Cause) → IsEndOf e o → hook_failure after (End e) ≡ Some cause → (disk_over after o ≡ by_end o) × (cause ≡ e.cause)
 failed_end after_hook.Keep e o cause is why = by e.answered refl why
   where
     by : (b : Bool) → e.answered ≡ b → cond b None (Some e.cause) ≡ Some cause → (answer_of_over o ≡ by_end o) × (cause ≡ e.cause)
@@ -56,7 +56,7 @@ failed_end after_hook.Keep e o cause is why = by e.answered refl why
 failed_end (after_hook.Boot keep) e o cause is why = (refl, sym (let one : e.cause ≡ cause = cc in one))
 
 -- one that is has answered, and is to be kept
-hooked_end : (after : AfterHook) (e : HasEnded) (o : Over) → IsEndOf e o → drive_failure after (End e) ≡ None → disk_over after o ≡ by_drive o.live
+hooked_end : (after : AfterHook) (e : HasEnded) (o : Over) → IsEndOf e o → hook_failure after (End e) ≡ None → disk_over after o ≡ by_drive o.live
 hooked_end after_hook.Keep e o is fine = by e.answered refl fine
   where
     by : (b : Bool) → e.answered ≡ b → cond b None (Some e.cause) ≡ None → answer_of_over o ≡ by_drive o.live
@@ -132,7 +132,7 @@ module _ (before : Site) (s : Running) (d : AskedDisk) (p : Pending) (asks : p.a
   w = before.world
 
   -- why it isn't hooked
-  pub fails_for : {old new : Logged} (answer : TheAnswer) (cause : Cause) → drive_failure d.hooking.after answer ≡ Some cause → Puts old new (out_texts (result cause ∷ [])) →
+  pub fails_for : {old new : Logged} (answer : TheAnswer) (cause : Cause) → hook_failure d.hooking.after answer ≡ Some cause → Puts old new (out_texts (result cause ∷ [])) →
       Concludes p answer s before (snapshot_at before (stage.Running (with_result s cause))) old new
   fails_for Lives cause why puts = absurd (let bad : None ≡ Some cause = why in cc)
   fails_for {old} {new} (End e) cause why puts = fails_concludes before s p none (but_running sound) e cause
@@ -140,25 +140,25 @@ module _ (before : Site) (s : Running) (d : AskedDisk) (p : Pending) (asks : p.a
       (λ t o. ap (λ (a : Asked). concluded_by t s.depth (job_asked a) (by_end o)) asks) puts
 
   -- by which drive it has answered
-  answered_by : (answer : TheAnswer) (live : List Live) (x : Answer) → drive_failure d.hooking.after answer ≡ None → IsAnswerOf answer p.asked p.number live x → (l : Live) × (l.number ≡ p.number) × (x ≡ by_drive l)
+  answered_by : (answer : TheAnswer) (live : List Live) (x : Answer) → hook_failure d.hooking.after answer ≡ None → IsAnswerOf answer p.asked p.number live x → (l : Live) × (l.number ≡ p.number) × (x ≡ by_drive l)
   answered_by answer live x fine is = by answer fine (subst (λ (a : Asked). IsAnswerOf answer a p.number live x) asks is)
     where
-      by : (a : TheAnswer) → drive_failure d.hooking.after a ≡ None → IsAnswerOf a (Disk d) p.number live x → (l : Live) × (l.number ≡ p.number) × (x ≡ by_drive l)
+      by : (a : TheAnswer) → hook_failure d.hooking.after a ≡ None → IsAnswerOf a (Disk d) p.number live x → (l : Live) × (l.number ≡ p.number) × (x ≡ by_drive l)
       by Lives fine at = (at.0, eqb-true at.0.number p.number (find_passes (has_number p.number) live at.0 at.1), at.2)
       by (End e) fine at = (at.0.live, at.2, at.3 ∙ hooked_end d.hooking.after e at.0 at.1 fine)
 
   -- the world in which it is hooked
   abbrev hooked_world : World
-  hooked_world = world_with_drives w (kept_drives before.opens.list (with_hooked (drive_by d.hooking p.number) w.state.drives))
+  hooked_world = world_with_drives w (kept_drives before.opens.list (with_hooked (drive_hooked_by d.hooking p.number) w.state.drives))
 
   hooked_comes : (live : List Live) → AreOpensOf before.opens.graph before.opens.list live → (l : Live) → l.number ≡ p.number → d.hooking.after ≡ after_hook.Keep →
       ComesIn (state_of_world w live) s w.outer (hooks d.hooking) (by_drive l) (result ok ∷ []) before.used (snapshot before.used hooked_world before.opens (stage.Running (with_result s ok)))
   hooked_comes live are l number keeps =
       let t = state_of_world w live in
-      let one : hooked_drive d.hooking l ≡ drive_by d.hooking p.number = ap (drive_by d.hooking) number in
+      let one : hooked_drive d.hooking l ≡ drive_hooked_by d.hooking p.number = ap (drive_hooked_by d.hooking) number in
       let same : state_of_world hooked_world live ≡ with_drive t (hooked_drive d.hooking l) =
       ap (λ (xs : List Drive). record t { drives = xs })
-      (kept_same before.opens.graph before.opens.list live are (with_hooked (drive_by d.hooking p.number) w.state.drives) ∙ ap (λ (x : Drive). still_hooked live (with_hooked x w.state.drives)) (sym one)) in
+      (kept_same before.opens.graph before.opens.list live are (with_hooked (drive_hooked_by d.hooking p.number) w.state.drives) ∙ ap (λ (x : Drive). still_hooked live (with_hooked x w.state.drives)) (sym one)) in
       let upshot : upshot_hooked d.hooking.after (hooked_drive d.hooking l) ≡ hooks_drive (hooked_drive d.hooking l) = ap (λ (a : AfterHook). upshot_hooked a (hooked_drive d.hooking l)) keeps in
       let to = running (with_drive t (hooked_drive d.hooking l)) (with_result s ok) w.outer in
       record {
@@ -175,7 +175,7 @@ module _ (before : Site) (s : Running) (d : AskedDisk) (p : Pending) (asks : p.a
   kind_at (End e) live are fits = none_kind p.number live (sym (none_has before.opens.graph before.opens.list live p.number are) ∙ fits.1)
 
   -- it has answered, and is kept
-  pub hooks_concludes : {old new : Logged} (answer : TheAnswer) (after : Site) → drive_failure d.hooking.after answer ≡ None → FitsAnswer answer (Disk d) p.number before.opens → d.hooking.after ≡ after_hook.Keep →
+  pub hooks_concludes : {old new : Logged} (answer : TheAnswer) (after : Site) → hook_failure d.hooking.after answer ≡ None → FitsAnswer answer (Disk d) p.number before.opens → d.hooking.after ≡ after_hook.Keep →
       after.used ≡ before.used → after.opens ≡ before.opens → after.world ≡ hooked_world → Puts old new (out_texts (result ok ∷ [])) →
       Concludes p answer s before (snapshot_at after (stage.Running (with_result s ok))) old new
   hooks_concludes answer after well fits keeps used opens world puts = rw (used, opens, world) (record {
@@ -187,12 +187,12 @@ module _ (before : Site) (s : Running) (d : AskedDisk) (p : Pending) (asks : p.a
           rw (asks, a.2) (hooked_comes live are a.0 a.1 keeps);
       traces = traces_result before s p none (but_running sound) ok hooked_world refl;
     };
-    sound = record { time = sound.time; opens = sound.opens; serials = sound.serials; tied = sound.tied; well = tt; short = sound.short; named = sound.named; linked = record { address = sound.linked.address; up = sound.linked.up }; hooked = one_hooked None before.opens (drive_by d.hooking p.number) w.state.drives sound.hooked (kind_at answer sound.hooked.live sound.hooked.are fits) };
+    sound = record { time = sound.time; opens = sound.opens; serials = sound.serials; tied = sound.tied; well = tt; short = sound.short; named = sound.named; linked = record { address = sound.linked.address; up = sound.linked.up }; hooked = one_hooked None before.opens (drive_hooked_by d.hooking p.number) w.state.drives sound.hooked (kind_at answer sound.hooked.live sound.hooked.are fits) };
     under_way = tt;
   })
 
   -- it has answered, and its drive was asked for its first block
-  pub asks_concludes : {old new : Logged} (answer : TheAnswer) (after : Snapshot) (keep : Bool) → drive_failure d.hooking.after answer ≡ None → d.hooking.after ≡ after_hook.Boot keep → AsksFirst s p.number (Some (drive_by d.hooking p.number)) before after old new →
+  pub asks_concludes : {old new : Logged} (answer : TheAnswer) (after : Snapshot) (keep : Bool) → hook_failure d.hooking.after answer ≡ None → d.hooking.after ≡ after_hook.Boot keep → AsksFirst s p.number (Some (drive_hooked_by d.hooking p.number)) before after old new →
       Concludes p answer s before after old new
   asks_concludes answer after keep well boots k = record {
     ends = λ live are.
@@ -208,7 +208,7 @@ module _ (before : Site) (s : Running) (d : AskedDisk) (p : Pending) (asks : p.a
               let l = a.0 in
               let drive = hooked_drive d.hooking l in
               let upshot : upshot_hooked d.hooking.after drive ≡ reads_drive drive = ap (λ (z : AfterHook). upshot_hooked z drive) boots in
-              let reads : ReadsBlock t s w.outer l.number (Some drive) rest r.to = subst (λ (n : ℕ). ReadsBlock t s w.outer n (Some (drive_by d.hooking n)) rest r.to) (sym a.1) r.reads in
+              let reads : ReadsBlock t s w.outer l.number (Some drive) rest r.to = subst (λ (n : ℕ). ReadsBlock t s w.outer n (Some (drive_hooked_by d.hooking n)) rest r.to) (sym a.1) r.reads in
               rw (asks, a.2) (record {
                 more = rest;
                 to = r.to;
@@ -223,9 +223,9 @@ module _ (before : Site) (s : Running) (d : AskedDisk) (p : Pending) (asks : p.a
   }
 
   -- one that is to be booted lives on
-  pub lives_to_boot : (answer : TheAnswer) (keep : Bool) → drive_failure d.hooking.after answer ≡ None → d.hooking.after ≡ after_hook.Boot keep → FitsAnswer answer (Disk d) p.number before.opens → HasDrive p.number before.opens.list
-  lives_to_boot answer keep well boots fits = by answer (subst (λ (a : AfterHook). drive_failure a answer ≡ None) boots well) fits
+  pub lives_to_boot : (answer : TheAnswer) (keep : Bool) → hook_failure d.hooking.after answer ≡ None → d.hooking.after ≡ after_hook.Boot keep → FitsAnswer answer (Disk d) p.number before.opens → HasDrive p.number before.opens.list
+  lives_to_boot answer keep well boots fits = by answer (subst (λ (a : AfterHook). hook_failure a answer ≡ None) boots well) fits
     where
-      by : (a : TheAnswer) → drive_failure (after_hook.Boot keep) a ≡ None → FitsAnswer a (Disk d) p.number before.opens → HasDrive p.number before.opens.list
+      by : (a : TheAnswer) → hook_failure (after_hook.Boot keep) a ≡ None → FitsAnswer a (Disk d) p.number before.opens → HasDrive p.number before.opens.list
       by Lives fine at = at
       by (End e) fine at = absurd (let bad : Some e.cause ≡ None = fine in cc)

@@ -9,7 +9,7 @@ use Rattle.nb_record.specs.Logged.{Logged}
 use Rattle.nb_runner.proofs.Puts.{Puts-nothing}
 use Rattle.nb_stack.specs.Client.{Client}
 use Rattle.nb_drivecmd.specs.declared.drive.Drive.{Drive}
-use Rattle.nb_drivecmd.specs.HookedDrives.{AreRising as DrivesRise, drive_numbered, is_drive}
+use Rattle.nb_drivecmd.specs.HookedDrives.{AreRisingDrives as DrivesRise, drive_numbered, is_drive}
 use Rattle.nb_machine.specs.CommandRecords.{stopped_cause}
 use Rattle.nb_machine.specs.Courses.{is_drives_own}
 use Rattle.nb_machine.specs.Lives.{Live, close}

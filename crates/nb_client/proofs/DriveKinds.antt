@@ -23,7 +23,7 @@ use Rattle.nb_network.specs.Many.{AreOpensOf, AreRising}
 use Rattle.nb_network.specs.Ones.{HasDrive}
 use Rattle.nb_network.specs.declared.living.Living.{Living as Open}
 use Rattle.nb_network.proofs.Lists.{all_append, all_back, all_front}
-use Rattle.nb_client.specs.Soundness.{IsDriveAt, IsDriveKind, IsNoTask, IsUnasked, IsUnaskedBut}
+use Rattle.nb_client.specs.Soundness.{IsDriveAt, IsDriveKind, AsksNoTask, IsAskedNoTask, IsUnaskedBut}
 use Rattle.nb_client.proofs.DriveFirsts.{RisingLives, lives_rise, none_above, none_left, one_of}
 use Rattle.nb_client.proofs.DriveLists.{all_weaker, has_open_at}
 
@@ -47,7 +47,7 @@ among P before behind after l f parted take h =
     all_append P (before ++ after) behind (all_append P before after (all_front P before (l ∷ behind) all) (all_take P f take (back.0, tt))) back.1
 
 -- so a record keeps what no segment, message or time takes away
-pub network_all : (P : Live → Type 0) (s : State) (n : ℕ) (r : In) (put : List Out) (s' : State) (over : List Over) → ((came : OpenInput) → IsNoTask came → StaysBy P came) → Network s n r put s' over → AllByRecursion P s.live → AllByRecursion P s'.live
+pub network_all : (P : Live → Type 0) (s : State) (n : ℕ) (r : In) (put : List Out) (s' : State) (over : List Over) → ((came : OpenInput) → AsksNoTask came → StaysBy P came) → Network s n r put s' over → AllByRecursion P s.live → AllByRecursion P s'.live
 network_all P s n r put s' over f (passes_by _ device bytes link m on get brought none) h = h
 network_all P s n r put s' over f (brings _ device bytes link p d before behind after l _ _ on get brought live is front back take) h = among P before behind after l (f _ tt) live take h
 network_all P s n r put s' over f (brings_reply _ device bytes link p e before behind after l _ _ on get brought live is front back take) h = among P before behind after l (f _ tt) live take h
@@ -59,17 +59,17 @@ network_all P s n r put s' over f (passes_time ms after _ _ take) h = all_take P
 pub kind_stays : (k : ℕ) (came : OpenInput) → StaysBy (λ l. l.number ≡ k → IsDriveKind l.kind) came
 kind_stays k came l link put h = h
 
-unasked_one : (came : OpenInput) → IsNoTask came → StaysBy IsUnasked came
-unasked_one came is l link put h = all_append (λ (x : Exchange). IsNoTask x.came) l.exchanges (exchange came link put ∷ []) h (is, tt)
+unasked_one : (came : OpenInput) → AsksNoTask came → StaysBy IsAskedNoTask came
+unasked_one came is l link put h = all_append (λ (x : Exchange). AsksNoTask x.came) l.exchanges (exchange came link put ∷ []) h (is, tt)
 
-pub unasked_stays : (asked : Option ℕ) (came : OpenInput) → IsNoTask came → StaysBy (IsUnaskedBut asked) came
+pub unasked_stays : (asked : Option ℕ) (came : OpenInput) → AsksNoTask came → StaysBy (IsUnaskedBut asked) came
 unasked_stays None came is l link put h = unasked_one came is l link put h
 unasked_stays (Some k) came is l link put h = λ other. unasked_one came is l link put (h other)
 
 pub unasked_weaker : (asked : Option ℕ) (ls : List Live) → AllByRecursion (IsUnaskedBut None) ls → AllByRecursion (IsUnaskedBut asked) ls
 unasked_weaker asked ls h = all_weaker (IsUnaskedBut None) (IsUnaskedBut asked) (weaker asked) ls h
   where
-    weaker : (a : Option ℕ) (l : Live) → IsUnasked l → IsUnaskedBut a l
+    weaker : (a : Option ℕ) (l : Live) → IsAskedNoTask l → IsUnaskedBut a l
     weaker None l u = u
     weaker (Some k) l u = λ other. u
 

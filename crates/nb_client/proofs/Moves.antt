@@ -30,7 +30,7 @@ use Rattle.nb_settings.specs.Tables.{TableLists}
 use Rattle.nb_client.specs.Progressing.{IsAtWork, ProceedsTo, most_moves, no_further, one_further}
 use Rattle.nb_client.specs.Snapshots.{StandsForProgress, at_running, at_waiting, at_yielded, at_left, at_returning, pieces_waiting, snapshot, state_of_world, waiting_for}
 use Rattle.nb_client.specs.Soundness.{IsSound, WasStarted, snapshot_at}
-use Rattle.nb_client.specs.Turning.{ComesToEnd, GoesOnBy, IsSettledAt, LeftTo, MovesOn, found_by_script, left_by}
+use Rattle.nb_client.specs.Turning.{ComesToEnd, GoesOnBy, IsSettledAt, LeftTo, MovesOn, found_by_script, world_left_by}
 use Rattle.nb_client.specs.declared.pending.Expected.TheVariants.{Open, Moment}
 use Rattle.nb_client.specs.declared.site.Site.{Site}
 use Rattle.nb_client.specs.declared.stage.Stage.{Stage}
@@ -251,8 +251,8 @@ goes_further {old} {new} n w w' m s shown o sound early e stays puts =
     λ live are. (
       stands n (running (state_of_world w' live) t w'.outer),
       subst (λ v. ProceedsTo (stands n (running (state_of_world w live) s w.outer)) (command_record s shown ∷ rest) (stands n (running (state_of_world v live) t v.outer))) e.leaves
-          (subst (λ x. ProceedsTo (stands n (running (state_of_world w live) s w.outer)) (command_record s x ∷ rest) (stands n (running (state_of_world (left_by w ws) live) t w.outer))) e.shows
-          (one_move _ _ (command_record s (shown_words w.state.table ws) ∷ rest) (does n (state_of_world w live) (state_of_world (left_by w ws) live) s w.outer e.name e.args o e.comes early
+          (subst (λ x. ProceedsTo (stands n (running (state_of_world w live) s w.outer)) (command_record s x ∷ rest) (stands n (running (state_of_world (world_left_by w ws) live) t w.outer))) e.shows
+          (one_move _ _ (command_record s (shown_words w.state.table ws) ∷ rest) (does n (state_of_world w live) (state_of_world (world_left_by w ws) live) s w.outer e.name e.args o e.comes early
           (ap (doing_by (state_of_world w live) _ _) e.ends) stays))),
       at_running n w' m t live are,
     ) in
@@ -276,8 +276,8 @@ goes_out {old} {new} n w w' now m s st shown o sound early e leaves_it to puts =
     λ live are. (
       stands n (left (state_of_world w' live) (counting_on (entered s) w'.outer) o.cause),
       subst (λ v. ProceedsTo (stands n (running (state_of_world w live) s w.outer)) (command_record s shown ∷ rest) (stands n (left (state_of_world v live) (counting_on (entered s) v.outer) o.cause))) e.leaves
-          (subst (λ x. ProceedsTo (stands n (running (state_of_world w live) s w.outer)) (command_record s x ∷ rest) (stands n (left (state_of_world (left_by w ws) live) (counting_on (entered s) w.outer) o.cause))) e.shows
-          (one_move _ _ (command_record s (shown_words w.state.table ws) ∷ rest) (leaves n (state_of_world w live) (state_of_world (left_by w ws) live) s w.outer e.name e.args o e.comes early
+          (subst (λ x. ProceedsTo (stands n (running (state_of_world w live) s w.outer)) (command_record s x ∷ rest) (stands n (left (state_of_world (world_left_by w ws) live) (counting_on (entered s) w.outer) o.cause))) e.shows
+          (one_move _ _ (command_record s (shown_words w.state.table ws) ∷ rest) (leaves n (state_of_world w live) (state_of_world (world_left_by w ws) live) s w.outer e.name e.args o e.comes early
           (ap (doing_by (state_of_world w live) _ _) e.ends) leaves_it))),
       left_stands n w' now m (entered s) o.cause st live w'.outer are to,
     ) in

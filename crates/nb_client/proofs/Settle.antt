@@ -30,7 +30,7 @@ use Rattle.nb_runner.specs.Intents.{query_of}
 use Rattle.nb_runner.specs.declared.errand.Errand.{Errand as Named}
 use Rattle.nb_runner.specs.declared.query.Query.TheVariants as asked
 use Rattle.nb_network.specs.declared.over.HasEnded.{HasEnded}
-use Rattle.nb_client.specs.Concluding.{FindsServer, IsHostOf, found_by, next_found, settled_so}
+use Rattle.nb_client.specs.Concluding.{FindsServer, IsHostOf, onward_found_by, next_found, settled_so}
 
 -- the server of a look-up that has ended well
 pub finds_server : (errand : Named) (name : Text) (by : Ip4) (e : HasEnded) → is_ok_cause e.cause ≡ true → FindsServer e.address e (query_of (asked.Host errand name by))
@@ -89,7 +89,7 @@ settled_same change change' e cause table same changes = by (is_ok_cause e.cause
     by false bad = rw (same, bad) refl
 
 -- where no server is next, the command is settled with what its open has found
-pub settles_so : (q : Query) (depth : ℕ) (e : HasEnded) (o : Over) (s : State) → IsEndOf e o → found_by e q ≡ None → concluded_by s depth (job_for q) (by_end o) ≡ settles (settled_so e q s.table)
+pub settles_so : (q : Query) (depth : ℕ) (e : HasEnded) (o : Over) (s : State) → IsEndOf e o → onward_found_by e q ≡ None → concluded_by s depth (job_for q) (by_end o) ≡ settles (settled_so e q s.table)
 settles_so for_lease depth e o s is none = ap settles (settled_same _ _ e o.cause s.table is.cause (λ fine. ap (λ b. option_map_or (lease_change s.table) b (Ok s.table)) (is.bytes fine)))
 settles_so (for_echo server) depth e o s is none = ap settles (settled_same (Ok s.table) (Ok s.table) e o.cause s.table is.cause (λ fine. refl))
 settles_so (for_host errand name by) depth e o s is none =

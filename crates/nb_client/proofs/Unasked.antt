@@ -9,27 +9,27 @@ use Rattle.nb_stack.specs.Client.{Client}
 use Rattle.nb_streams.specs.Streams.{front}
 use Rattle.nb_streams.specs.Flows.{held_after, conn_phase}
 use Rattle.nb_talks.specs.Talking.{begun_talk, talk_held, text_to_send}
-use Rattle.nb_machine.specs.Drives.{first_block, last_read, session_answer}
+use Rattle.nb_machine.specs.Drives.{first_block_read, last_read, session_answer}
 use Rattle.nb_machine.specs.Kinds.{answered, answered_by, read_last}
 use Rattle.nb_machine.specs.Lives.{OpenInput, message, tcp_segment, time, task, close, OpenKind, tftp, http, iscsi, dns, dhcp, ping, Exchange, Live, continued}
 use Rattle.nb_machine.specs.Takings.{AllTake, Over, all_have, is_over, lives_on}
 use Rattle.nb_openlaws.specs.Sessions.{is_task}
 use Rattle.nb_openlaws.proofs.SessionAnswers.{unread_asked, unread_unasked}
-use Rattle.nb_client.specs.Soundness.{IsNoTask, IsUnasked}
+use Rattle.nb_client.specs.Soundness.{AsksNoTask, IsAskedNoTask}
 
 -- no task is among its exchanges
-no_task : (came : OpenInput) → IsNoTask came → is_task came ≡ false
+no_task : (came : OpenInput) → AsksNoTask came → is_task came ≡ false
 no_task (message rec port body now) is = refl
 no_task (tcp_segment rec g now) is = refl
 no_task (time now) is = refl
 no_task (task t now) is = absurd is
 no_task (close cause) is = refl
 
-no_tasks : (xs : List Exchange) → AllByRecursion (λ (x : Exchange). IsNoTask x.came) xs → list_any (λ (x : Exchange). is_task x.came) xs ≡ false
+no_tasks : (xs : List Exchange) → AllByRecursion (λ (x : Exchange). AsksNoTask x.came) xs → list_any (λ (x : Exchange). is_task x.came) xs ≡ false
 no_tasks [] h = refl
 no_tasks (x ∷ xs) h = ap (λ b. b || list_any (λ (y : Exchange). is_task y.came) xs) (no_task x.came h.0) ∙ no_tasks xs h.1
 
-unread_by : (k : OpenKind) (l : Live) → l.kind ≡ k → IsUnasked l → read_last l ≡ None
+unread_by : (k : OpenKind) (l : Live) → l.kind ≡ k → IsAskedNoTask l → read_last l ≡ None
 unread_by tftp l is h = ap (λ k. option_and_then last_read (answered_by k l)) is
 unread_by (http isn) l is h = ap (λ k. option_and_then last_read (answered_by k l)) is
 unread_by (iscsi isn i) l is h = unread_unasked l isn i is (no_tasks l.exchanges h)
@@ -37,12 +37,12 @@ unread_by (dns id) l is h = ap (λ k. option_and_then last_read (answered_by k l
 unread_by (dhcp a) l is h = ap (λ k. option_and_then last_read (answered_by k l)) is
 unread_by ping l is h = ap (λ k. option_and_then last_read (answered_by k l)) is
 
-pub unread : (l : Live) → IsUnasked l → read_last l ≡ None
+pub unread : (l : Live) → IsAskedNoTask l → read_last l ≡ None
 unread l h = unread_by l.kind l refl h
 
 -- AS IT IS ASKED
 
-first_by : (k : OpenKind) (l : Live) (x : Exchange) (now : ℕ) → l.kind ≡ k → IsUnasked l → x.came ≡ task first_block now → read_last (continued l x) ≡ None
+first_by : (k : OpenKind) (l : Live) (x : Exchange) (now : ℕ) → l.kind ≡ k → IsAskedNoTask l → x.came ≡ task first_block_read now → read_last (continued l x) ≡ None
 first_by tftp l x now is h came = ap (λ k. option_and_then last_read (answered_by k (continued l x))) is
 first_by (http isn) l x now is h came = ap (λ k. option_and_then last_read (answered_by k (continued l x))) is
 first_by (iscsi isn i) l x now is h came = unread_asked l isn i x now is (no_tasks l.exchanges h) came
@@ -50,7 +50,7 @@ first_by (dns id) l x now is h came = ap (λ k. option_and_then last_read (answe
 first_by (dhcp a) l x now is h came = ap (λ k. option_and_then last_read (answered_by k (continued l x))) is
 first_by ping l x now is h came = ap (λ k. option_and_then last_read (answered_by k (continued l x))) is
 
-pub unread_first : {devices : List Client} {put : List Out} {after : List Live} {over : List Over} {now : ℕ} (l : Live) → IsUnasked l → AllTake devices (task first_block now) (l ∷ []) put after over → AllByRecursion (λ m. read_last m ≡ None) after
+pub unread_first : {devices : List Client} {put : List Out} {after : List Live} {over : List Over} {now : ℕ} (l : Live) → IsAskedNoTask l → AllTake devices (task first_block_read now) (l ∷ []) put after over → AllByRecursion (λ m. read_last m ≡ None) after
 unread_first {now = now} l h (lives_on _ _ _ link put more _ dev keeps none all_have) = (first_by l.kind l _ now refl h refl, tt)
 unread_first l h (is_over _ _ _ link put more _ cause dev keeps ends all_have) = tt
 

@@ -43,7 +43,7 @@ pub record ReadsThere (s : State) (inner : Running) (outer : List Running) (numb
   pub stands_so : StandsForProgress after (stands n to)
 
 -- The drive of the open of this number was asked for its first block, among these opens.
-pub record AsksAt (inner : Running) (number : ℕ) (d : Option Drive) (before : Site) (after : Snapshot) (old new : Logged) (live : List Live) : Type 0 where
+pub record AsksFirstBlock (inner : Running) (number : ℕ) (d : Option Drive) (before : Site) (after : Snapshot) (old new : Logged) (live : List Live) : Type 0 where
   pub rest : List Out
   pub puts : Puts old new (out_texts rest)
   pub there : ReadsThere (state_of_world before.world live) inner before.world.outer number d (without_graph rest) before.used after
@@ -52,7 +52,7 @@ pub record AsksAt (inner : Running) (number : ℕ) (d : Option Drive) (before : 
 
 -- So it is whatever state these opens are: the script's command waits for the block, or the open has ended.
 pub record AsksFirst (inner : Running) (number : ℕ) (d : Option Drive) (before : Site) (after : Snapshot) (old new : Logged) : Type 0 where
-  pub asks : (live : List Live) → AreOpensOf before.opens.graph before.opens.list live → AsksAt inner number d before after old new live
+  pub asks : (live : List Live) → AreOpensOf before.opens.graph before.opens.list live → AsksFirstBlock inner number d before after old new live
   pub sound : IsSound after.used after.world after.many after.stage
   pub under_way : WasStarted after.stage
   pub same_script : IsAtWork after.stage → (cause : Cause) × (after.stage ≡ stage.Running (with_result inner cause)) × (after.world.outer ≡ before.world.outer)

@@ -59,11 +59,11 @@ moved_place e = if is_ok_cause e.cause then e.moved else None
 abbrev pub next_found : Errand → HasEnded → Option Onward
 next_found errand e = if is_ok_cause e.cause then option_map (λ address. onward errand address.0) e.address else None
 
-abbrev pub found_by : HasEnded → Query → Option Onward
-found_by e for_lease = None
-found_by e (for_echo server) = None
-found_by e (for_host errand name by) = next_found errand e
-found_by e (for_address setting name by) = None
+abbrev pub onward_found_by : HasEnded → Query → Option Onward
+onward_found_by e for_lease = None
+onward_found_by e (for_echo server) = None
+onward_found_by e (for_host errand name by) = next_found errand e
+onward_found_by e (for_address setting name by) = None
 
 -- the query is the look-up of a server's name for this
 abbrev pub IsHostOf : Query → Errand → Type 0
@@ -74,8 +74,8 @@ IsHostOf (for_address setting name by) other = ⊥
 
 -- the server's address was found, or there is none to ask
 abbrev pub FindsServer : Option Ip4 → HasEnded → Query → Type 0
-FindsServer None e q = found_by e q ≡ None
-FindsServer (Some server) e q = (errand : Errand) × IsHostOf q errand × (found_by e q ≡ Some (onward errand server.0))
+FindsServer None e q = onward_found_by e q ≡ None
+FindsServer (Some server) e q = (errand : Errand) × IsHostOf q errand × (onward_found_by e q ≡ Some (onward errand server.0))
 
 -- the settings with what an open has found
 abbrev pub change_by : Query → HasEnded → TableLists → Change

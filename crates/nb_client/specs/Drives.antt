@@ -66,8 +66,8 @@ pub record BeginsDrop (s : Running) (ws : List (List ℕ)) (number : ℕ) (befor
   pub script : begun ≡ entered s
 
 -- a disk that has answered, as a drive
-abbrev pub drive_by : Hooking → ℕ → Drive
-drive_by hooking number = record { number = hooking.number; described = hooking.described; open_number = number }
+abbrev pub drive_hooked_by : Hooking → ℕ → Drive
+drive_hooked_by hooking number = record { number = hooking.number; described = hooking.described; open_number = number }
 
 -- without the drives whose open is that of the drive at this place, unless it lives
 abbrev pub forgotten_by : Option Drive → List Open → List Drive → List Drive

@@ -28,7 +28,7 @@ use Rattle.nb_client.specs.Beginnings.{DropsWaiting}
 use Rattle.nb_client.specs.Progressing.{IsAtWork, TracesTo}
 use Rattle.nb_client.specs.Snapshots.{Snapshot, StandsForProgress, state_of_world}
 use Rattle.nb_client.specs.Soundness.{IsSound, WasStarted, snapshot_at}
-use Rattle.nb_client.specs.Turning.{found_by_script, left_by}
+use Rattle.nb_client.specs.Turning.{found_by_script, world_left_by}
 use Rattle.nb_client.specs.declared.asked.Asked.{Asked}
 use Rattle.nb_client.specs.declared.asked.Asked.TheVariants.{File, Query as Exchange, Disk, Block}
 use Rattle.nb_client.specs.declared.pending.Next.{Next}
@@ -36,11 +36,11 @@ use Rattle.nb_client.specs.declared.site.Site.{Site}
 use Rattle.nb_client.specs.declared.stage.Stage.TheVariants as stage
 
 -- what a command comes to that asks for this; no command asks for a block alone, so no matter what
-abbrev pub asked_effect : Asked → Effect
-asked_effect (File w) = asks (wanted_of w)
-asked_effect (Exchange q) = inquires (query_of q)
-asked_effect (Disk disk) = hooks_disk disk.hooking
-asked_effect (Block d) = boots_drive 0
+abbrev pub effect_of_asked : Asked → Effect
+effect_of_asked (File w) = asks (wanted_of w)
+effect_of_asked (Exchange q) = inquires (query_of q)
+effect_of_asked (Disk disk) = hooks_disk disk.hooking
+effect_of_asked (Block d) = boots_drive 0
 
 -- what is asked for is no disk, nor a block of one: the drive of a disk's number is closed before its open
 abbrev pub IsNoDisk : Asked → Type 0
@@ -54,10 +54,10 @@ pub record AsksFor (w : World) (a : Asked) (s : Running) (ws : List (List ℕ)) 
   pub name : List ℕ
   pub args : List (List ℕ)
   pub comes : coming s ≡ beginning name args
-  pub asks_so : effect_in (found_by_script w s) (name ∷ args) ≡ asked_effect a
+  pub asks_so : effect_in (found_by_script w s) (name ∷ args) ≡ effect_of_asked a
   pub no_disk : IsNoDisk a
   pub shows : shown_words w.state.table (name ∷ args) ≡ shown_as true ws
-  pub world_is : now ≡ left_by w (name ∷ args)
+  pub world_is : now ≡ world_left_by w (name ∷ args)
   pub was_linked : IsLinkOfState w
 
 -- the script once COMMAND is put, where it is put, and that record
@@ -108,5 +108,5 @@ pub record Intends (w : World) (i : Intent) (s : Running) (ws : List (List ℕ))
   pub comes : coming s ≡ beginning name args
   pub intends_so : effect_in (found_by_script w s) (name ∷ args) ≡ intent_effect i
   pub shows : shown_words w.state.table (name ∷ args) ≡ shown_as true ws
-  pub world_is : now ≡ left_by w (name ∷ args)
+  pub world_is : now ≡ world_left_by w (name ∷ args)
   pub was_linked : IsLinkOfState w

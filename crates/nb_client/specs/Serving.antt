@@ -125,7 +125,7 @@ FitsAnswer Lives (File w) number m = ⊥
 FitsAnswer Lives (Exchange q) number m = ⊥
 
 -- what a command has asked for and got fits
-pub record IsAnsweredWell (answer : TheAnswer) (p : Pending) (c : Site) : Type 0 where
+pub record IsFittingAnswer (answer : TheAnswer) (p : Pending) (c : Site) : Type 0 where
   pub asked : IsPendingWell p None c.opens
   pub room : HasRoomFor p.asked c.world.state.drives
   pub fits : FitsAnswer answer p.asked p.number c.opens
@@ -138,7 +138,7 @@ asks_still Lives asked number = asks_block asked number
 -- it is sound, where a command waits on, or where it got what it waited for
 abbrev pub IsSoundAfter : Option TheAnswer → Site → Running → Pending → Type 0
 IsSoundAfter None c s p = IsSound c.used c.world c.opens (stage.Waiting s (Open p))
-IsSoundAfter (Some x) c s p = IsSoundBut (asks_still x p.asked p.number) c.used c.world c.opens × IsAnsweredWell x p c
+IsSoundAfter (Some x) c s p = IsSoundBut (asks_still x p.asked p.number) c.used c.world c.opens × IsFittingAnswer x p c
 
 -- the command waits on, and nothing more is put, or it got what it waited for
 abbrev pub WaitsOrEnds : Option TheAnswer → Pending → Running → Site → Snapshot → Logged → Logged → Type 0
@@ -163,10 +163,10 @@ IsWaitingFor (stage.Waiting s (Open p)) = Unit {0}
 IsWaitingFor _ = ⊥
 
 -- why a disk isn't hooked that has answered so; where it is, nothing
-abbrev pub drive_failure : AfterHook → TheAnswer → Option Cause
-drive_failure after Lives = None
-drive_failure after_hook.Keep (End e) = if e.answered then None else Some e.cause
-drive_failure (after_hook.Boot keep) (End e) = Some e.cause
+abbrev pub hook_failure : AfterHook → TheAnswer → Option Cause
+hook_failure after Lives = None
+hook_failure after_hook.Keep (End e) = if e.answered then None else Some e.cause
+hook_failure (after_hook.Boot keep) (End e) = Some e.cause
 
 -- where a run stands after a step in which its command has waited on
 abbrev pub rested : Stage → Stage

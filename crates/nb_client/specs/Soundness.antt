@@ -151,19 +151,19 @@ IsDriveAnswered (File w) number m is = is ≡ false
 IsDriveAnswered (Exchange q) number m is = is ≡ false
 
 -- no task was asked of the open, nor of any but the one of this number
-abbrev pub IsNoTask : OpenInput → Type 0
-IsNoTask (message rec port body now) = Unit {0}
-IsNoTask (tcp_segment rec g now) = Unit {0}
-IsNoTask (time_comes now) = Unit {0}
-IsNoTask (task t now) = ⊥
-IsNoTask (close cause) = Unit {0}
+abbrev pub AsksNoTask : OpenInput → Type 0
+AsksNoTask (message rec port body now) = Unit {0}
+AsksNoTask (tcp_segment rec g now) = Unit {0}
+AsksNoTask (time_comes now) = Unit {0}
+AsksNoTask (task t now) = ⊥
+AsksNoTask (close cause) = Unit {0}
 
-abbrev pub IsUnasked : Live → Type 0
-IsUnasked l = AllByRecursion (λ (x : Came). IsNoTask x.came) l.exchanges
+abbrev pub IsAskedNoTask : Live → Type 0
+IsAskedNoTask l = AllByRecursion (λ (x : Came). AsksNoTask x.came) l.exchanges
 
 abbrev pub IsUnaskedBut : Option ℕ → Live → Type 0
-IsUnaskedBut None l = IsUnasked l
-IsUnaskedBut (Some k) l = (l.number ≡ k → ⊥) → IsUnasked l
+IsUnaskedBut None l = IsAskedNoTask l
+IsUnaskedBut (Some k) l = (l.number ≡ k → ⊥) → IsAskedNoTask l
 
 -- the open of this number is a drive's, if it lives
 abbrev pub IsDriveKind : OpenKind → Type 0

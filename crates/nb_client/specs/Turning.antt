@@ -8,7 +8,7 @@ use Rattle.nb_machine.specs.Effects.{ShownWords, Surroundings, effect_in, says, 
 use Rattle.nb_machine.specs.Running.{Running, coming, beginning}
 use Rattle.nb_runner.specs.CommandWords.{deed_effect}
 use Rattle.nb_runner.specs.Steps.{Does, GoesToLabel}
-use Rattle.nb_runner.specs.World.{IsLinkOfState, surroundings_in, world_with, world_within}
+use Rattle.nb_runner.specs.World.{IsLinkOfState, surroundings_in_world, world_with, world_within}
 use Rattle.nb_runner.specs.declared.command.Deed.{Deed}
 use Rattle.nb_runner.specs.declared.world.World.{World}
 use Rattle.nb_client.specs.Progressing.{Advances, CommandRests, IsAtWork, IsFinal, RunEndsWith, ScriptRests, most_moves}
@@ -46,12 +46,12 @@ IsServed (tick ms) = Unit {0}
 IsServed off = ⊥
 
 -- the world that a command of these words leaves
-abbrev pub left_by : World → List (List ℕ) → World
-left_by w words = world_with w (table_after w.state.table words) (up_after w.state.table w.state.up words)
+abbrev pub world_left_by : World → List (List ℕ) → World
+world_left_by w words = world_with w (table_after w.state.table words) (up_after w.state.table w.state.up words)
 
 -- what a command of this script finds
 abbrev pub found_by_script : World → Running → Surroundings
-found_by_script w s = surroundings_in w s.base s.depth
+found_by_script w s = surroundings_in_world w s.base s.depth
 
 -- A command ends so at once, in this world: its words are shown so, and it leaves this world.
 pub record ComesToEnd (s : Running) (w : World) (shown : ShownWords) (o : CommandOutcome) (after : World) : Type 0 where
@@ -60,7 +60,7 @@ pub record ComesToEnd (s : Running) (w : World) (shown : ShownWords) (o : Comman
   pub comes : coming s ≡ beginning name args
   pub ends : effect_in (found_by_script w s) (name ∷ args) ≡ says o
   pub shows : shown_words w.state.table (name ∷ args) ≡ shown
-  pub leaves : left_by w (name ∷ args) ≡ after
+  pub leaves : world_left_by w (name ∷ args) ≡ after
 
 -- A command whose words are expanded was carried out in this world, left that one, and came to this.
 pub record IsCarriedOutBy (w : World) (d : Deed) (s : Running) (ws : List (List ℕ)) (now : World) : Type 0 where
@@ -69,7 +69,7 @@ pub record IsCarriedOutBy (w : World) (d : Deed) (s : Running) (ws : List (List 
   pub comes : coming s ≡ beginning name args
   pub deed_is : effect_in (found_by_script w s) (name ∷ args) ≡ deed_effect d
   pub shows : shown_words w.state.table (name ∷ args) ≡ shown_as true ws
-  pub world_is : now ≡ left_by w (name ∷ args)
+  pub world_is : now ≡ world_left_by w (name ∷ args)
   pub was_linked : IsLinkOfState w
 
 -- where a run stands once a script was left with this cause, in which so many commands began: the innermost of those outside

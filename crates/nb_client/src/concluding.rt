@@ -15,8 +15,8 @@ ghost use Rattle.nb_runner.specs.ImageDeeds.{IsConcludedWell, MayFollow, conclus
 ghost use Rattle.nb_client.specs.Closings.{ShutsAll};
 ghost use Rattle.nb_client.specs.Concluding.{ArrivesWell, IsBootTable, handing_of, moved_place};
 ghost use Rattle.nb_client.specs.Leading.{LeadsOnBy};
-ghost use Rattle.nb_client.specs.Drives.{drive_by};
-ghost use Rattle.nb_client.specs.Serving.{Concludes, ConcludesEnd, FitsAnswer, IsAnsweredWell, asks_still, drive_failure};
+ghost use Rattle.nb_client.specs.Drives.{drive_hooked_by};
+ghost use Rattle.nb_client.specs.Serving.{Concludes, ConcludesEnd, FitsAnswer, IsFittingAnswer, asks_still, hook_failure};
 ghost use Rattle.nb_client.specs.Soundness.{IsSound, IsSoundBut, snapshot_at};
 ghost use Rattle.nb_client.specs.declared.pending.Pending.{Pending as ThePending};
 ghost use Rattle.nb_client.specs.declared.asked.Asked.TheVariants as asked;
@@ -99,7 +99,7 @@ fn moved_place(ended: &HasEnded) -> Option<&Text>
 
 /// Why a disk isn't hooked that has answered so; where it is, None. One that is to be booted has to live on.
 fn failure_of(answer: Answer, after: AfterHook) -> Option<Cause>
-    ensures { result ≡ drive_failure after answer }
+    ensures { result ≡ hook_failure after answer }
 {
     match answer {
         Answer::Drive => None,
@@ -115,7 +115,7 @@ fn failure_of(answer: Answer, after: AfterHook) -> Option<Cause>
 
 /// The drive as which a disk is hooked by this open.
 fn drive_by(hooking: &Hooking, open_number: u16) -> Drive
-    ensures { result ≡ drive_by hooking.now open_number }
+    ensures { result ≡ drive_hooked_by hooking.now open_number }
 {
     Drive {
         number: hooking.number,
@@ -156,7 +156,7 @@ impl Site {
         out: &mut Log,
     ) -> Result<Stage, NoMemory>
         requires sound { IsSoundBut (asks_still answer pending.asked pending.number) self.old.used self.old.world self.old.opens }
-        requires well { IsAnsweredWell answer pending self.old }
+        requires well { IsFittingAnswer answer pending self.old }
         ensures { IfOk result (λ st. Concludes pending answer script self.old (snapshot_at self.new st) out.old out.new) }
     {
         let Pending {

@@ -10,7 +10,7 @@ use Rattle.nb_graph.specs.Whole.{IsLinked, port_at}
 use Rattle.nb_frames.specs.Frames.{is_one_of}
 use Rattle.nb_frames.specs.Within.{AreLinkedWithin, LeadsWithin}
 use Rattle.nb_closings.specs.Chained.{HaveNoOthers, IsOpenThrough, IsPluggedDown}
-use Rattle.nb_closings.specs.Passing.{has_ended}
+use Rattle.nb_closings.specs.Passing.{object_has_ended}
 use Rattle.nb_closings.proofs.Joining.{IsInner, IsOuter, Joins, first_in, joins_back, joins_inner, last_after, later_in}
 use Rattle.nb_closings.proofs.Keeping.{AllFit, IsClosedAt, Kept, Traces}
 use Rattle.nb_closings.proofs.PlanLemmas.{AnyPlan, Plan, WillClose}
@@ -108,7 +108,7 @@ module _ (f : ℕ → ℕ → PortState) where
 
 -- where they are, nothing is to be done, and none of them has ended
 pub kept_at_first : (x : ℕ) (xs : List ℕ) (Exempt : ℕ → Type 0) (Aim : Port → Type 0) (s : Scene) (r : ℕ → ℕ) (tr : Traces) (vs : List Plan) → IsOpenThrough s.port (x ∷ xs) → HaveNoOthers s.port (x ∷ xs) → IsLinked s.port r → AreLinkedWithin (is_one_of (x ∷ xs)) s.port
-    → ((y : ℕ) → is_one_of (x ∷ xs) y ≡ true → has_ended (tr y) ≡ false) → AllFit (x ∷ xs) Exempt Aim s tr [] vs → ((p : Port) → Aim p → AnyPlan (WillClose p) vs) → Kept (x ∷ xs) Exempt Aim s tr vs
+    → ((y : ℕ) → is_one_of (x ∷ xs) y ≡ true → object_has_ended (tr y) ≡ false) → AllFit (x ∷ xs) Exempt Aim s tr [] vs → ((p : Port) → Aim p → AnyPlan (WillClose p) vs) → Kept (x ∷ xs) Exempt Aim s tr vs
 kept_at_first x xs Exempt Aim s r tr vs through others links inside going fits aims = record {
   fits = fits;
   joined = λ p q j. inl (joined_linked s.port x xs through p q j);

@@ -16,7 +16,7 @@ use Rattle.nb_nodes.specs.declared.stage.Stage.{Stage}
 use Rattle.nb_nodes.specs.Carried.{end_closes}
 use Rattle.nb_nodes.specs.Conversations.{Conversation, unbegun, under_way, over, cancelled, talk_has_ended, talk_went_on, is_under_way, is_unbegun, is_datagram, is_begin, Continues, begins, receives, ticks, ends, rests, RunsTo, TftpStands}
 use Rattle.nb_nodes.specs.Exchanges.{Service, AskerState, not_begun, asking, finished, called_off, exchange_has_ended, after_calls, is_asking, is_not_begun, begins_service, AskerTakes, is_begun, takes_message, takes_time, is_ended, stays_idle, AskerLeadsTo, StandsBy}
-use Rattle.nb_closings.specs.Passing.{ends_object, has_ended, ClosesBothOrNone, PassesEndOn}
+use Rattle.nb_closings.specs.Passing.{ends_object, object_has_ended, ClosesBothOrNone, PassesEndOn}
 use Rattle.nb_closings.proofs.TraceLemmas.{none_ended}
 
 -- the closes at an end, or none
@@ -96,11 +96,11 @@ tftp_step _ _ _ (rests v (closed slot c now fx) idle asks) live =
 tftp_step _ _ _ (rests v (time now done fx) idle asks) live = record { passes = λ d. inl asks.1; goes_on = λ h. live }
 tftp_step _ _ _ (rests v (regain l) idle asks) live = record { passes = tt; goes_on = λ h. live }
 
-tftp_last : (t : List (NodeEntry Obj Load)) (e : NodeEntry Obj Load) (v w : Conversation) → RunsTo v (t ++ e ∷ []) w → talk_has_ended v ≡ false → has_ended t ≡ false → PassesEndOn e
+tftp_last : (t : List (NodeEntry Obj Load)) (e : NodeEntry Obj Load) (v w : Conversation) → RunsTo v (t ++ e ∷ []) w → talk_has_ended v ≡ false → object_has_ended t ≡ false → PassesEndOn e
 tftp_last [] e v w (u, goes, run) live h = (tftp_step v u e goes live).passes
 tftp_last (d ∷ t) e v w (u, goes, run) live h = let z = none_ended d t h in tftp_last t e u w run ((tftp_step v u d goes live).goes_on z.0) z.1
 
-pub tftp_passes : (p : Tftp) (t : List (NodeEntry Obj Load)) (e : NodeEntry Obj Load) → TftpStands p (t ++ e ∷ []) → has_ended t ≡ false → PassesEndOn e
+pub tftp_passes : (p : Tftp) (t : List (NodeEntry Obj Load)) (e : NodeEntry Obj Load) → TftpStands p (t ++ e ∷ []) → object_has_ended t ≡ false → PassesEndOn e
 tftp_passes p t e s h = tftp_last t e unbegun s.conversation s.run refl h
 
 -- OF ONE THAT ASKS AND IS ANSWERED
@@ -129,9 +129,9 @@ module _ {S B C : Type 0} (s : Service S B C) (opens : (b : B) → (s.opening b)
   asker_step _ _ _ (stays_idle v (time now done fx) idle asks) live = record { passes = λ d. inl asks.1; goes_on = λ h. live }
   asker_step _ _ _ (stays_idle v (regain l) idle asks) live = record { passes = tt; goes_on = λ h. live }
 
-  asker_last : (t : List (NodeEntry Obj Load)) (e : NodeEntry Obj Load) (v w : AskerState B C) → AskerLeadsTo s v (t ++ e ∷ []) w → exchange_has_ended v ≡ false → has_ended t ≡ false → PassesEndOn e
+  asker_last : (t : List (NodeEntry Obj Load)) (e : NodeEntry Obj Load) (v w : AskerState B C) → AskerLeadsTo s v (t ++ e ∷ []) w → exchange_has_ended v ≡ false → object_has_ended t ≡ false → PassesEndOn e
   asker_last [] e v w (u, goes, run) live h = (asker_step v u e goes live).passes
   asker_last (d ∷ t) e v w (u, goes, run) live h = let z = none_ended d t h in asker_last t e u w run ((asker_step v u d goes live).goes_on z.0) z.1
 
-  pub asker_passes : (stage : Stage S) (t : List (NodeEntry Obj Load)) (e : NodeEntry Obj Load) → StandsBy s stage (t ++ e ∷ []) → has_ended t ≡ false → PassesEndOn e
+  pub asker_passes : (stage : Stage S) (t : List (NodeEntry Obj Load)) (e : NodeEntry Obj Load) → StandsBy s stage (t ++ e ∷ []) → object_has_ended t ≡ false → PassesEndOn e
   asker_passes stage t e k h = asker_last t e not_begun k.exchange k.run refl h

@@ -20,7 +20,7 @@ use Rattle.nb_drivenodes.specs.declared.logical_unit.LogicalUnit.{LogicalUnit}
 use Rattle.nb_drivenodes.specs.DriveEffects.{TextCarrier}
 use Rattle.nb_drivenodes.specs.SessionTalks.{SessionTalk, session_unasked, session_lives, SessionTalks, SessionTalksTo, answered_to, reply_to, login_leads, login_fault, IscsiStands, login_begins, login_refused, login_waits, login_answers, login_breaks, login_lacks, session_waits, session_gives, session_breaks, session_lacks, session_sends, session_ends, session_rests}
 use Rattle.nb_drivenodes.specs.UnitTalks.{UnitTalk, unit_unasked, unit_lives, UnitTalks, UnitTalksTo, worked_on, UnitStands, unit_begins, unit_starts, unit_takes, unit_lacks, unit_reads, unit_ends, unit_rests}
-use Rattle.nb_closings.specs.Passing.{ends_object, has_ended, PassesEndOn}
+use Rattle.nb_closings.specs.Passing.{ends_object, object_has_ended, PassesEndOn}
 use Rattle.nb_closings.proofs.TraceLemmas.{none_ended}
 use Rattle.nb_closings.proofs.CorePassing.{and_right, false_not, not_and, not_both, not_done, passes_close, rests_closed}
 use Rattle.nb_closings.proofs.StreamPassing.{at_end, not_over}
@@ -63,11 +63,11 @@ unit_step k _ _ _ (unit_rests v (closed slot c now fx) quiet asks) live =
 unit_step k _ _ _ (unit_rests v (time now done fx) quiet asks) live = record { passes = λ d. inl asks.1; goes_on = λ h. live }
 unit_step k _ _ _ (unit_rests v (regain l) quiet asks) live = record { passes = tt; goes_on = λ h. live }
 
-unit_last : {N L : Type 0} (k : TextCarrier L) (t : List (NodeEntry N L)) (e : NodeEntry N L) (v w : UnitTalk) → UnitTalksTo k v (t ++ e ∷ []) w → unit_lives v ≡ true → has_ended t ≡ false → PassesEndOn e
+unit_last : {N L : Type 0} (k : TextCarrier L) (t : List (NodeEntry N L)) (e : NodeEntry N L) (v w : UnitTalk) → UnitTalksTo k v (t ++ e ∷ []) w → unit_lives v ≡ true → object_has_ended t ≡ false → PassesEndOn e
 unit_last k [] e v w (u, goes, run) live h = (unit_step k v u e goes live).passes
 unit_last k (d ∷ t) e v w (u, goes, run) live h = let z = none_ended d t h in unit_last k t e u w run ((unit_step k v u d goes live).goes_on z.0) z.1
 
-pub unit_passes : {N L : Type 0} (k : TextCarrier L) (p : LogicalUnit) (t : List (NodeEntry N L)) (e : NodeEntry N L) → UnitStands k p (t ++ e ∷ []) → has_ended t ≡ false → PassesEndOn e
+pub unit_passes : {N L : Type 0} (k : TextCarrier L) (p : LogicalUnit) (t : List (NodeEntry N L)) (e : NodeEntry N L) → UnitStands k p (t ++ e ∷ []) → object_has_ended t ≡ false → PassesEndOn e
 unit_passes k p t e s h = unit_last k t e unit_unasked s.talk s.run refl h
 
 -- OF A SESSION
@@ -129,9 +129,9 @@ session_step k _ _ _ (session_rests v (closed slot c now fx) quiet asks) live =
 session_step k _ _ _ (session_rests v (time now done fx) quiet asks) live = record { passes = λ d. inl asks.1; goes_on = λ h. live }
 session_step k _ _ _ (session_rests v (regain l) quiet asks) live = record { passes = tt; goes_on = λ h. live }
 
-session_last : {N L : Type 0} (k : TextCarrier L) (t : List (NodeEntry N L)) (e : NodeEntry N L) (v w : SessionTalk) → SessionTalksTo k v (t ++ e ∷ []) w → session_lives v ≡ true → has_ended t ≡ false → PassesEndOn e
+session_last : {N L : Type 0} (k : TextCarrier L) (t : List (NodeEntry N L)) (e : NodeEntry N L) (v w : SessionTalk) → SessionTalksTo k v (t ++ e ∷ []) w → session_lives v ≡ true → object_has_ended t ≡ false → PassesEndOn e
 session_last k [] e v w (u, goes, run) live h = (session_step k v u e goes live).passes
 session_last k (d ∷ t) e v w (u, goes, run) live h = let z = none_ended d t h in session_last k t e u w run ((session_step k v u d goes live).goes_on z.0) z.1
 
-pub session_passes : {N L : Type 0} (k : TextCarrier L) (p : Iscsi) (t : List (NodeEntry N L)) (e : NodeEntry N L) → IscsiStands k p (t ++ e ∷ []) → has_ended t ≡ false → PassesEndOn e
+pub session_passes : {N L : Type 0} (k : TextCarrier L) (p : Iscsi) (t : List (NodeEntry N L)) (e : NodeEntry N L) → IscsiStands k p (t ++ e ∷ []) → object_has_ended t ≡ false → PassesEndOn e
 session_passes k p t e s h = session_last k t e session_unasked s.talk s.run refl h

@@ -8,7 +8,7 @@ use Rattle.nb_graph.specs.Scene.{Scene, state_at}
 use Rattle.nb_graph.specs.Whole.{port_at}
 use Rattle.nb_frames.specs.Frames.{is_one_of}
 use Rattle.nb_closings.specs.Chained.{IsOpenThrough, IsPluggedDown, IsShutThrough}
-use Rattle.nb_closings.specs.Passing.{has_ended}
+use Rattle.nb_closings.specs.Passing.{object_has_ended}
 use Rattle.nb_closings.proofs.Joining.{IsInner, Joins, first_in, last_after, later_in}
 use Rattle.nb_closings.proofs.Keeping.{IsClosedAt, Kept, Traces}
 use Rattle.nb_closings.proofs.PlanLemmas.{AnyPlan, Plan, WillClose}
@@ -39,7 +39,7 @@ module _ (ids : List ℕ) (Exempt : ℕ → Type 0) (Aim : Port → Type 0) (t :
   inner : (y slot : ℕ) → is_one_of ids y ≡ true → slot < 2 → IsInner ids (port_at y slot)
   inner y slot own low = record { own = own; low = low }
 
-  over_now : (y slot : ℕ) → is_one_of ids y ≡ true → slot < 2 → has_ended (tr y) ≡ true → IsClosedAt t (port_at y slot)
+  over_now : (y slot : ℕ) → is_one_of ids y ≡ true → slot < 2 → object_has_ended (tr y) ≡ true → IsClosedAt t (port_at y slot)
   over_now y slot own low h = no_plan (IsClosedAt t (port_at y slot)) (WillClose (port_at y slot)) (k.over (port_at y slot) (inner y slot own low) h)
 
   both_now : (p q : Port) → Joins ids p q → IsClosedAt t p → IsClosedAt t q
@@ -73,18 +73,18 @@ module _ (ids : List ℕ) (Exempt : ℕ → Type 0) (Aim : Port → Type 0) (t :
   -- where one hasn't ended, none below has, and all are open
   pub record GoesDown (y : ℕ) (ys : List ℕ) : Type 0 where
     pub plugged : IsPluggedDown t.port y ys
-    pub going : (z : ℕ) → is_one_of (y ∷ ys) z ≡ true → has_ended (tr z) ≡ false
+    pub going : (z : ℕ) → is_one_of (y ∷ ys) z ≡ true → object_has_ended (tr z) ≡ false
 
   module _ (exempt : (z : ℕ) → Exempt z → ⊥) where
-    still_open : (y slot : ℕ) → is_one_of ids y ≡ true → slot < 2 → has_ended (tr y) ≡ false → IsClosedAt t (port_at y slot) → ⊥
-    still_open y slot own low going h = elim (k.told (port_at y slot) (inner y slot own low) h) [ inl e ↦ not_both (has_ended (tr y)) e going | inr w ↦ elim w [ inl z ↦ z | inr x ↦ exempt y x ] ]
+    still_open : (y slot : ℕ) → is_one_of ids y ≡ true → slot < 2 → object_has_ended (tr y) ≡ false → IsClosedAt t (port_at y slot) → ⊥
+    still_open y slot own low going h = elim (k.told (port_at y slot) (inner y slot own low) h) [ inl e ↦ not_both (object_has_ended (tr y)) e going | inr w ↦ elim w [ inl z ↦ z | inr x ↦ exempt y x ] ]
 
-    pub go_down : (y : ℕ) (ys : List ℕ) → AreSome y ys → ((state_at t (port_at (last_after y ys) 1) ≡ port.Open) ⊎ IsClosedAt t (port_at (last_after y ys) 1)) → has_ended (tr y) ≡ false → GoesDown y ys
+    pub go_down : (y : ℕ) (ys : List ℕ) → AreSome y ys → ((state_at t (port_at (last_after y ys) 1) ≡ port.Open) ⊎ IsClosedAt t (port_at (last_after y ys) 1)) → object_has_ended (tr y) ≡ false → GoesDown y ys
     go_down y [] a last going =
         let own = a.owns y (first_in y []) in
         record {
           plugged = elim last [ inl e ↦ e | inr h ↦ absurd (still_open y 1 own (omega arith) going h) ];
-          going = λ z o. elim (one_first y [] z o) [ inl e ↦ ap (λ w. has_ended (tr w)) e ∙ going | inr w ↦ absurd (let v = w in cc) ];
+          going = λ z o. elim (one_first y [] z o) [ inl e ↦ ap (λ w. object_has_ended (tr w)) e ∙ going | inr w ↦ absurd (let v = w in cc) ];
         }
     go_down y (z ∷ zs) a last going =
         let own = a.owns y (first_in y (z ∷ zs)) in
@@ -93,7 +93,7 @@ module _ (ids : List ℕ) (Exempt : ℕ → Type 0) (Aim : Port → Type 0) (t :
         let up = a.joins (port_at z 0) (port_at y 1) (inr (inl (refl, refl))) in
         let is_open : IsClosedAt t (port_at y 1) → ⊥ = still_open y 1 own (omega arith) going in
         let next_open : IsClosedAt t (port_at z 0) → ⊥ = λ h. is_open (both_now (port_at z 0) (port_at y 1) up h) in
-        let next_going : has_ended (tr z) ≡ false = elim (either (has_ended (tr z))) [ inl e ↦ absurd (next_open (over_now z 0 own_z (omega arith) e)) | inr e ↦ e ] in
+        let next_going : object_has_ended (tr z) ≡ false = elim (either (object_has_ended (tr z))) [ inl e ↦ absurd (next_open (over_now z 0 own_z (omega arith) e)) | inr e ↦ e ] in
         let rest = go_down z zs (next_some y z zs a) last next_going in
         record {
           plugged = (
@@ -101,7 +101,7 @@ module _ (ids : List ℕ) (Exempt : ℕ → Type 0) (Aim : Port → Type 0) (t :
             elim (k.joined (port_at z 0) (port_at y 1) up) [ inl e ↦ e | inr h ↦ absurd (next_open h) ],
             rest.plugged,
           );
-          going = λ w o. elim (one_first y (z ∷ zs) w o) [ inl e ↦ ap (λ v. has_ended (tr v)) e ∙ going | inr i ↦ rest.going w i ];
+          going = λ w o. elim (one_first y (z ∷ zs) w o) [ inl e ↦ ap (λ v. object_has_ended (tr v)) e ∙ going | inr i ↦ rest.going w i ];
         }
 
   pub all_some : (x : ℕ) (xs : List ℕ) → ids ≡ x ∷ xs → AreSome x xs

@@ -15,7 +15,7 @@ use Rattle.nb_graph.specs.Whole.{port_at}
 use Rattle.nb_nodes.specs.declared.load.Load.{Load}
 use Rattle.nb_nodes.specs.declared.obj.Obj.{Obj}
 use Rattle.nb_nodes.specs.Objects.{obj_nature}
-use Rattle.nb_closings.specs.Passing.{ends_object, has_ended, ClosesBothOrNone, PassesEndOn}
+use Rattle.nb_closings.specs.Passing.{ends_object, object_has_ended, ClosesBothOrNone, PassesEndOn}
 use Rattle.nb_closings.proofs.TraceLemmas.{ended_more}
 use Rattle.nb_closings.proofs.Joining.{IsInner}
 use Rattle.nb_closings.proofs.PlanLemmas.{AnyPlan, Plan, WillClose, WillTell, WillUnplug, nothing, tell_it, plans, each_append, runs_any, runs_idle, asked_close, failed_close}
@@ -52,26 +52,26 @@ module _ (tr : Traces) (y : ℕ) (e : Entry) where
   pub entry_there : with_entry tr y e y ≡ tr y ++ e ∷ []
   entry_there = rw (eq-eqb y y refl) refl
 
-  pub entry_ended : has_ended (with_entry tr y e y) ≡ (has_ended (tr y) || ends_object e)
-  entry_ended = ap has_ended entry_there ∙ ended_more (tr y) e
+  pub entry_ended : object_has_ended (with_entry tr y e y) ≡ (object_has_ended (tr y) || ends_object e)
+  entry_ended = ap object_has_ended entry_there ∙ ended_more (tr y) e
 
   entry_else : (x : ℕ) → (x ≡ y → ⊥) → with_entry tr y e x ≡ tr x
   entry_else x n = rw (ne_eqb x y n) refl
 
-  pub ended_still : (x : ℕ) → has_ended (tr x) ≡ true → has_ended (with_entry tr y e x) ≡ true
+  pub ended_still : (x : ℕ) → object_has_ended (tr x) ≡ true → object_has_ended (with_entry tr y e x) ≡ true
   ended_still x h = elim (cases_eq x y) [
-    | inl i ↦ ap (λ z. has_ended (with_entry tr y e z)) i ∙ (entry_ended ∙ or_first (has_ended (tr y)) (ends_object e) (ap (λ z. has_ended (tr z)) (sym i) ∙ h))
-    | inr n ↦ ap has_ended (entry_else x n) ∙ h
+    | inl i ↦ ap (λ z. object_has_ended (with_entry tr y e z)) i ∙ (entry_ended ∙ or_first (object_has_ended (tr y)) (ends_object e) (ap (λ z. object_has_ended (tr z)) (sym i) ∙ h))
+    | inr n ↦ ap object_has_ended (entry_else x n) ∙ h
   ]
 
   -- one that has ended then had before, or is y and ends by this
-  pub ended_by : (x : ℕ) → has_ended (with_entry tr y e x) ≡ true → (has_ended (tr x) ≡ true) ⊎ ((x ≡ y) × (has_ended (tr y) ≡ false) × (ends_object e ≡ true))
+  pub ended_by : (x : ℕ) → object_has_ended (with_entry tr y e x) ≡ true → (object_has_ended (tr x) ≡ true) ⊎ ((x ≡ y) × (object_has_ended (tr y) ≡ false) × (ends_object e ≡ true))
   ended_by x h = elim (cases_eq x y) [
-    | inl i ↦ elim (either (has_ended (tr y))) [
-      | inl t ↦ inl (ap (λ z. has_ended (tr z)) i ∙ t)
-      | inr f ↦ inr (i, f, or_other (has_ended (tr y)) (ends_object e) (sym entry_ended ∙ (ap (λ z. has_ended (with_entry tr y e z)) (sym i) ∙ h)) f)
+    | inl i ↦ elim (either (object_has_ended (tr y))) [
+      | inl t ↦ inl (ap (λ z. object_has_ended (tr z)) i ∙ t)
+      | inr f ↦ inr (i, f, or_other (object_has_ended (tr y)) (ends_object e) (sym entry_ended ∙ (ap (λ z. object_has_ended (with_entry tr y e z)) (sym i) ∙ h)) f)
     ]
-    | inr n ↦ inl (sym (ap has_ended (entry_else x n)) ∙ h)
+    | inr n ↦ inl (sym (ap object_has_ended (entry_else x n)) ∙ h)
   ]
 
 slot_of : (y : ℕ) (p : Port) → p.obj.0 ≡ y → port_at y p.slot ≡ p
@@ -80,15 +80,15 @@ slot_of y p e = ap (λ z. port_at z p.slot) (sym e)
 module _ (ids : List ℕ) (Exempt : ℕ → Type 0) (Aim : Port → Type 0) (s : Scene) (tr : Traces) (y : ℕ) (e : Entry) where
   -- both ports of y are closed, or will be, where it ends by this entry
   abbrev pub EndsBoth : List Plan → Type 0
-  EndsBoth more = has_ended (tr y) ≡ false → ends_object e ≡ true → (k : ℕ) → k < 2 → IsClosedAt s (port_at y k) ⊎ AnyPlan (WillClose (port_at y k)) more
+  EndsBoth more = object_has_ended (tr y) ≡ false → ends_object e ≡ true → (k : ℕ) → k < 2 → IsClosedAt s (port_at y k) ⊎ AnyPlan (WillClose (port_at y k)) more
 
-  entered_over : (more : List Plan) → EndsBoth more → (p : Port) → IsInner ids p → has_ended (with_entry tr y e p.obj.0) ≡ true → (has_ended (tr p.obj.0) ≡ true) ⊎ (IsClosedAt s p ⊎ AnyPlan (WillClose p) more)
+  entered_over : (more : List Plan) → EndsBoth more → (p : Port) → IsInner ids p → object_has_ended (with_entry tr y e p.obj.0) ≡ true → (object_has_ended (tr p.obj.0) ≡ true) ⊎ (IsClosedAt s p ⊎ AnyPlan (WillClose p) more)
   entered_over more both p i h = elim (ended_by tr y e p.obj.0 h) [
     | inl w ↦ inl w
     | inr w ↦ inr (subst (λ (q : Port). IsClosedAt s q ⊎ AnyPlan (WillClose q) more) (slot_of y p w.0) (both w.1 w.2 p.slot i.low))
   ]
 
-  entry_moves : (v : Plan) (more vs : List Plan) → shut_by v [] ≡ [] → ((p : Port) → WillClose p v → ⊥) → ((p : Port) → WillUnplug p v → ⊥) → ((x : ℕ) → WillTell x v → has_ended (with_entry tr y e x) ≡ true)
+  entry_moves : (v : Plan) (more vs : List Plan) → shut_by v [] ≡ [] → ((p : Port) → WillClose p v → ⊥) → ((p : Port) → WillUnplug p v → ⊥) → ((x : ℕ) → WillTell x v → object_has_ended (with_entry tr y e x) ≡ true)
       → AllByRecursion (IsPlainPlan (with_entry tr y e)) more → EndsBoth more → Kept ids Exempt Aim s tr (v ∷ vs) → Kept ids Exempt Aim s (with_entry tr y e) (more ++ vs)
   entry_moves v more vs free closes unplugs tells plain both k =
       let ur = with_entry tr y e in
@@ -115,7 +115,7 @@ module _ (ids : List ℕ) (Exempt : ℕ → Type 0) (Aim : Port → Type 0) (s :
       → Kept ids Exempt Aim s (with_entry tr y e) (more ++ vs)
   heard_entry p more vs at ends plain both k =
       entry_moves (tell_it p) more vs refl (λ q h. h) (λ q h. h)
-      (λ x h. ap (λ z. has_ended (with_entry tr y e z)) (sym h.0 ∙ at) ∙ (entry_ended tr y e ∙ or_right (has_ended (tr y)) (ends_object e) (ends h.1))) plain both k
+      (λ x h. ap (λ z. object_has_ended (with_entry tr y e z)) (sym h.0 ∙ at) ∙ (entry_ended tr y e ∙ or_right (object_has_ended (tr y)) (ends_object e) (ends h.1))) plain both k
 
 -- WHAT IT ASKS FOR
 
@@ -146,8 +146,8 @@ module _ (tr : Traces) (y : ℕ) (e : Entry) (m : Said) (p : Port) (by : Way) (o
   by_done false fx h = absurd (let z = h.0 in cc)
 
   -- where y has ended then, it may close its ports; else it closes none
-  pub plain_runs : (done : Bool) (fx : Fx Obj Load) → (has_ended (with_entry tr y e y) ≡ false → (done ≡ true) × (fx.closes.items ≡ [])) → AllByRecursion Plain (plans (Runs done fx))
-  plain_runs done fx idle = elim (either (has_ended (with_entry tr y e y))) [
+  pub plain_runs : (done : Bool) (fx : Fx Obj Load) → (object_has_ended (with_entry tr y e y) ≡ false → (done ≡ true) × (fx.closes.items ≡ [])) → AllByRecursion Plain (plans (Runs done fx))
+  plain_runs done fx idle = elim (either (object_has_ended (with_entry tr y e y))) [
     | inl h ↦ held_plain done fx (runs_any obj_nature Plain tt y m done fx (λ k. h))
     | inr h ↦ held_plain done fx (by_done done fx (idle h))
   ]

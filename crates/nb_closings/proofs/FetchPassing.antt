@@ -13,7 +13,7 @@ use Rattle.nb_nodes.specs.declared.obj.Obj.{Obj}
 use Rattle.nb_nodes.specs.Carried.{CarriesNothing, both_closes}
 use Rattle.nb_nodes.specs.Fetches.{body_too_large, brings_move, ends_fetch, first_end, gathers, taken_below, passed_close, closes_below, up_closes, AsksUp, AsksMove, AsksOfUp, AsksOfFetch, EachOf, FetchStands}
 use Rattle.nb_nodes.specs.declared.fetch.Fetch.{Fetch}
-use Rattle.nb_closings.specs.Passing.{ends_object, has_ended, ClosesBothOrNone, PassesEndOn}
+use Rattle.nb_closings.specs.Passing.{ends_object, object_has_ended, ClosesBothOrNone, PassesEndOn}
 use Rattle.nb_closings.proofs.TraceLemmas.{none_ended}
 
 -- the last entry of a trace, with those before it
@@ -35,11 +35,11 @@ none_found : (b : Bool) (e : NodeEntry Obj Load) (o : Option (NodeEntry Obj Load
 none_found true e o h k = absurd (let z = h in cc)
 none_found false e o h k = k
 
-no_end : (t : List (NodeEntry Obj Load)) → has_ended t ≡ false → first_end t ≡ None
+no_end : (t : List (NodeEntry Obj Load)) → object_has_ended t ≡ false → first_end t ≡ None
 no_end [] h = refl
 no_end (e ∷ t) h = let z = none_ended e t h in none_found (ends_fetch e) e (first_end t) (no_fetch_end e z.0) (no_end t z.1)
 
-still_gathers : (t : List (NodeEntry Obj Load)) → has_ended t ≡ false → gathers t ≡ true
+still_gathers : (t : List (NodeEntry Obj Load)) → object_has_ended t ≡ false → gathers t ≡ true
 still_gathers t h = ap is_none (no_end t h)
 
 -- what a message from below makes it close
@@ -61,5 +61,5 @@ passes t (closed slot c now fx) g h =
 passes t (time now done fx) g h = λ d. inl h.1
 passes t (regain l) g h = tt
 
-pub fetch_passes : (f : Fetch) (t : List (NodeEntry Obj Load)) (e : NodeEntry Obj Load) → FetchStands f (t ++ e ∷ []) → has_ended t ≡ false → PassesEndOn e
+pub fetch_passes : (f : Fetch) (t : List (NodeEntry Obj Load)) (e : NodeEntry Obj Load) → FetchStands f (t ++ e ∷ []) → object_has_ended t ≡ false → PassesEndOn e
 fetch_passes f t e s h = passes t e (still_gathers t h) (last_asks [] t e s.asks)

@@ -13,7 +13,7 @@ use Rattle.nb_graph.specs.Whole.{port_at}
 use Rattle.nb_nodes.specs.declared.load.Load.{Load}
 use Rattle.nb_nodes.specs.declared.obj.Obj.{Obj}
 use Rattle.nb_frames.specs.Frames.{is_one_of}
-use Rattle.nb_closings.specs.Passing.{has_ended}
+use Rattle.nb_closings.specs.Passing.{object_has_ended}
 use Rattle.nb_closings.proofs.Joining.{Joins, IsOuter, IsInner, joins_inner, joins_back}
 use Rattle.nb_closings.proofs.PlanLemmas.{AnyPlan, any_first, any_later, Plan, WillClose, WillTell, WillUnplug, close_it, shut_it, unplug_them, tell_it, nothing}
 
@@ -49,7 +49,7 @@ Traces = ℕ → List (NodeEntry Obj Load)
 
 -- closes that an object asks for which has ended, and nothing else
 abbrev pub IsPlainPlan : Traces → Plan → Type 0
-IsPlainPlan tr (close_it p) = has_ended (tr p.obj.0) ≡ true
+IsPlainPlan tr (close_it p) = object_has_ended (tr p.obj.0) ≡ true
 IsPlainPlan tr (shut_it p) = ⊥
 IsPlainPlan tr (unplug_them p q) = ⊥
 IsPlainPlan tr (tell_it p) = ⊥
@@ -60,7 +60,7 @@ IsPlainPlan tr nothing = Unit {0}
 module _ (ids : List ℕ) (Exempt : ℕ → Type 0) (Aim : Port → Type 0) where
   -- what is true of what is to be done next, where these are to be closed before it, and this is to be done after it
   abbrev pub Fits : Scene → Traces → List Port → List Plan → Plan → Type 0
-  Fits s tr by later (close_it p) = (has_ended (tr p.obj.0) ≡ true) ⊎ (Exempt p.obj.0 × (p.slot < 2))
+  Fits s tr by later (close_it p) = (object_has_ended (tr p.obj.0) ≡ true) ⊎ (Exempt p.obj.0 × (p.slot < 2))
   Fits s tr by later (shut_it q) = (p : Port) × Joins ids p q × IsGone s by p × AnyPlan (WillUnplug q) later
   Fits s tr by later (unplug_them p q) = IsGone s by p × IsGone s by q
   Fits s tr by later (tell_it p) = IsGone s by p
@@ -70,7 +70,7 @@ module _ (ids : List ℕ) (Exempt : ℕ → Type 0) (Aim : Port → Type 0) wher
   AllFit s tr by [] = Unit {0}
   AllFit s tr by (v ∷ vs) = Fits s tr by vs v × AllFit s tr (shut_by v by) vs
 
-  fits_on : (s t : Scene) (tr ur : Traces) (a b : List Port) (vs : List Plan) → ((p : Port) → IsGone s a p → IsGone t b p) → ((x : ℕ) → has_ended (tr x) ≡ true → has_ended (ur x) ≡ true)
+  fits_on : (s t : Scene) (tr ur : Traces) (a b : List Port) (vs : List Plan) → ((p : Port) → IsGone s a p → IsGone t b p) → ((x : ℕ) → object_has_ended (tr x) ≡ true → object_has_ended (ur x) ≡ true)
       → (v : Plan) → Fits s tr a vs v → Fits t ur b vs v
   fits_on s t tr ur a b vs f g (close_it p) (inl h) = inl (g p.obj.0 h)
   fits_on s t tr ur a b vs f g (close_it p) (inr h) = inr h
@@ -79,7 +79,7 @@ module _ (ids : List ℕ) (Exempt : ℕ → Type 0) (Aim : Port → Type 0) wher
   fits_on s t tr ur a b vs f g (tell_it p) h = f p h
   fits_on s t tr ur a b vs f g nothing h = tt
 
-  pub all_fit_on : (s t : Scene) (tr ur : Traces) (a b : List Port) (vs : List Plan) → ((p : Port) → IsGone s a p → IsGone t b p) → ((x : ℕ) → has_ended (tr x) ≡ true → has_ended (ur x) ≡ true) → AllFit s tr a vs → AllFit t ur b vs
+  pub all_fit_on : (s t : Scene) (tr ur : Traces) (a b : List Port) (vs : List Plan) → ((p : Port) → IsGone s a p → IsGone t b p) → ((x : ℕ) → object_has_ended (tr x) ≡ true → object_has_ended (ur x) ≡ true) → AllFit s tr a vs → AllFit t ur b vs
   all_fit_on s t tr ur a b [] f g h = tt
   all_fit_on s t tr ur a b (v ∷ vs) f g h = (fits_on s t tr ur a b vs f g v h.0, all_fit_on s t tr ur (shut_by v a) (shut_by v b) vs (gone_on s t a b f v) g h.1)
 
@@ -101,8 +101,8 @@ module _ (ids : List ℕ) (Exempt : ℕ → Type 0) (Aim : Port → Type 0) wher
     pub leaving : (p q : Port) → IsInner ids p → state_at s p ≡ port.Leaving q → AnyPlan (WillUnplug p) vs
     -- where one end of a link is closed, the other one is, or will be
     pub both : (p q : Port) → Joins ids p q → IsClosedAt s p → IsClosedAt s q ⊎ AnyPlan (WillClose q) vs
-    pub over : (p : Port) → IsInner ids p → has_ended (tr p.obj.0) ≡ true → IsClosedAt s p ⊎ AnyPlan (WillClose p) vs
-    pub told : (p : Port) → IsInner ids p → IsClosedAt s p → (has_ended (tr p.obj.0) ≡ true) ⊎ (AnyPlan (WillTell p.obj.0) vs ⊎ Exempt p.obj.0)
+    pub over : (p : Port) → IsInner ids p → object_has_ended (tr p.obj.0) ≡ true → IsClosedAt s p ⊎ AnyPlan (WillClose p) vs
+    pub told : (p : Port) → IsInner ids p → IsClosedAt s p → (object_has_ended (tr p.obj.0) ≡ true) ⊎ (AnyPlan (WillTell p.obj.0) vs ⊎ Exempt p.obj.0)
     pub aims : (p : Port) → Aim p → IsClosedAt s p ⊎ AnyPlan (WillClose p) vs
 
   -- From there to here: the first thing that was to be done is done, and this is to be done in its place.
@@ -111,13 +111,13 @@ module _ (ids : List ℕ) (Exempt : ℕ → Type 0) (Aim : Port → Type 0) wher
     pub shut : (p : Port) → IsClosedAt s p → IsClosedAt t p
     pub same : (p : Port) → (state_at t p ≡ state_at s p) ⊎ IsClosedAt t p
     pub loose : (p : Port) → link_count (state_at s p) ≡ 0 → link_count (state_at t p) ≡ 0
-    pub ended : (x : ℕ) → has_ended (tr x) ≡ true → has_ended (ur x) ≡ true
+    pub ended : (x : ℕ) → object_has_ended (tr x) ≡ true → object_has_ended (ur x) ≡ true
     pub leaving : (p q : Port) → IsInner ids p → state_at t p ≡ port.Leaving q → ((state_at s p ≡ port.Leaving q) × (WillUnplug p v → ⊥)) ⊎ AnyPlan (WillUnplug p) (more ++ vs)
     pub closed : (p : Port) → WillClose p v → IsClosedAt t p
-    pub heard : (x : ℕ) → WillTell x v → (has_ended (ur x) ≡ true) ⊎ AnyPlan (WillTell x) more
+    pub heard : (x : ℕ) → WillTell x v → (object_has_ended (ur x) ≡ true) ⊎ AnyPlan (WillTell x) more
     pub both : (p q : Port) → Joins ids p q → IsClosedAt t p → IsClosedAt s p ⊎ (IsClosedAt t q ⊎ AnyPlan (WillClose q) more)
-    pub told : (p : Port) → IsInner ids p → IsClosedAt t p → IsClosedAt s p ⊎ ((has_ended (ur p.obj.0) ≡ true) ⊎ (AnyPlan (WillTell p.obj.0) more ⊎ Exempt p.obj.0))
-    pub over : (p : Port) → IsInner ids p → has_ended (ur p.obj.0) ≡ true → (has_ended (tr p.obj.0) ≡ true) ⊎ (IsClosedAt t p ⊎ AnyPlan (WillClose p) more)
+    pub told : (p : Port) → IsInner ids p → IsClosedAt t p → IsClosedAt s p ⊎ ((object_has_ended (ur p.obj.0) ≡ true) ⊎ (AnyPlan (WillTell p.obj.0) more ⊎ Exempt p.obj.0))
+    pub over : (p : Port) → IsInner ids p → object_has_ended (ur p.obj.0) ≡ true → (object_has_ended (tr p.obj.0) ≡ true) ⊎ (IsClosedAt t p ⊎ AnyPlan (WillClose p) more)
 
   linked_open : (s : Scene) (p q : Port) → state_at s p ≡ port.Linked q → IsClosedAt s p → ⊥
   linked_open s p q e h = let z = sym (ap open_count e) ∙ h in cc
@@ -135,16 +135,16 @@ module _ (ids : List ℕ) (Exempt : ℕ → Type 0) (Aim : Port → Type 0) wher
     or_first p (inl h) = inl h
     or_first p (inr h) = inr (any_first (WillClose p) more vs h)
 
-    will_tell : (x : ℕ) → AnyPlan (WillTell x) (v ∷ vs) → (has_ended (ur x) ≡ true) ⊎ (AnyPlan (WillTell x) (more ++ vs) ⊎ Exempt x)
+    will_tell : (x : ℕ) → AnyPlan (WillTell x) (v ∷ vs) → (object_has_ended (ur x) ≡ true) ⊎ (AnyPlan (WillTell x) (more ++ vs) ⊎ Exempt x)
     will_tell x (inl h) = elim (m.heard x h) [ inl i ↦ inl i | inr i ↦ inr (inl (any_first (WillTell x) more vs i)) ]
     will_tell x (inr h) = inr (inl (any_later (WillTell x) more vs h))
 
-    was_told : (x : ℕ) → (has_ended (tr x) ≡ true) ⊎ (AnyPlan (WillTell x) (v ∷ vs) ⊎ Exempt x) → (has_ended (ur x) ≡ true) ⊎ (AnyPlan (WillTell x) (more ++ vs) ⊎ Exempt x)
+    was_told : (x : ℕ) → (object_has_ended (tr x) ≡ true) ⊎ (AnyPlan (WillTell x) (v ∷ vs) ⊎ Exempt x) → (object_has_ended (ur x) ≡ true) ⊎ (AnyPlan (WillTell x) (more ++ vs) ⊎ Exempt x)
     was_told x (inl h) = inl (m.ended x h)
     was_told x (inr (inl h)) = will_tell x h
     was_told x (inr (inr h)) = inr (inr h)
 
-    is_told : (x : ℕ) → (has_ended (ur x) ≡ true) ⊎ (AnyPlan (WillTell x) more ⊎ Exempt x) → (has_ended (ur x) ≡ true) ⊎ (AnyPlan (WillTell x) (more ++ vs) ⊎ Exempt x)
+    is_told : (x : ℕ) → (object_has_ended (ur x) ≡ true) ⊎ (AnyPlan (WillTell x) more ⊎ Exempt x) → (object_has_ended (ur x) ≡ true) ⊎ (AnyPlan (WillTell x) (more ++ vs) ⊎ Exempt x)
     is_told x (inl h) = inl h
     is_told x (inr (inl h)) = inr (inl (any_first (WillTell x) more vs h))
     is_told x (inr (inr h)) = inr (inr h)

@@ -8,7 +8,7 @@ use Rattle.nb_nodes.specs.EchoExchanges.{ping_service}
 use Rattle.nb_nodes.specs.LeaseExchanges.{lease_service}
 use Rattle.nb_nodes.specs.LookupExchanges.{lookup_service}
 use Rattle.nb_nodes.specs.Standing.{ObjStands}
-use Rattle.nb_closings.specs.Passing.{has_ended, ObjectsPassOn, PassesEndOn}
+use Rattle.nb_closings.specs.Passing.{object_has_ended, ObjectsPassOn, PassesEndOn}
 use Rattle.nb_closings.proofs.FetchPassing.{fetch_passes}
 use Rattle.nb_closings.proofs.CorePassing.{asker_passes, tftp_passes}
 use Rattle.nb_closings.proofs.DrivePassing.{session_passes, unit_passes}

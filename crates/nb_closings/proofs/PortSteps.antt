@@ -11,7 +11,7 @@ use Rattle.nb_ledger.specs.Ledger.{open_count}
 use Rattle.nb_graph.specs.Scene.{Scene, shut_of, state_at, after_noted}
 use Rattle.nb_graph.specs.Trace.{NodeEntry}
 use Rattle.nb_frames.specs.Frames.{is_one_of}
-use Rattle.nb_closings.specs.Passing.{has_ended}
+use Rattle.nb_closings.specs.Passing.{object_has_ended}
 use Rattle.nb_closings.proofs.Joining.{Joins, IsInner, joins_back, joins_inner}
 use Rattle.nb_closings.proofs.PlanLemmas.{AnyPlan, IsBut, at_it, elsewhere, is_but, but_there, Plan, WillClose, WillTell, WillUnplug, close_it, shut_it, unplug_them, tell_it, nothing}
 use Rattle.nb_closings.proofs.Keeping.{AllFit, Fits, IsClosedAt, IsGone, IsOn, Kept, Moves, Traces, all_fit_on, moves}
@@ -70,13 +70,13 @@ linked_not_shut v q e h = let z = sym (ap open_count e) ∙ h in cc
 
 module _ (ids : List ℕ) (Exempt : ℕ → Type 0) (Aim : Port → Type 0) (s : Scene) (tr : Traces) (vs : List Plan) where
   -- an object whose port is closed as it asked to has ended, or it needn't hear of that
-  ended_or_exempt : (p : Port) → Fits ids Exempt Aim s tr [] vs (close_it p) → (has_ended (tr p.obj.0) ≡ true) ⊎ (AnyPlan (WillTell p.obj.0) [] ⊎ Exempt p.obj.0)
+  ended_or_exempt : (p : Port) → Fits ids Exempt Aim s tr [] vs (close_it p) → (object_has_ended (tr p.obj.0) ≡ true) ⊎ (AnyPlan (WillTell p.obj.0) [] ⊎ Exempt p.obj.0)
   ended_or_exempt p (inl h) = inl h
   ended_or_exempt p (inr h) = inr (inr h.0)
 
   -- the same of another port that is this one, with more that is to be done
-  told_as : (p a : Port) (Q : Type 0) → a ≡ p → (has_ended (tr p.obj.0) ≡ true) ⊎ (AnyPlan (WillTell p.obj.0) [] ⊎ Exempt p.obj.0) → (has_ended (tr a.obj.0) ≡ true) ⊎ (Q ⊎ Exempt a.obj.0)
-  told_as p a Q e (inl h) = inl (ap (λ (x : Port). has_ended (tr x.obj.0)) e ∙ h)
+  told_as : (p a : Port) (Q : Type 0) → a ≡ p → (object_has_ended (tr p.obj.0) ≡ true) ⊎ (AnyPlan (WillTell p.obj.0) [] ⊎ Exempt p.obj.0) → (object_has_ended (tr a.obj.0) ≡ true) ⊎ (Q ⊎ Exempt a.obj.0)
+  told_as p a Q e (inl h) = inl (ap (λ (x : Port). object_has_ended (tr x.obj.0)) e ∙ h)
   told_as p a Q e (inr (inl h)) = absurd h
   told_as p a Q e (inr (inr h)) = inr (inr (subst (λ (x : Port). Exempt x.obj.0) (sym e) h))
 

@@ -24,7 +24,7 @@ use Rattle.nb_nodes.specs.declared.load.Load.{Load}
 use Rattle.nb_nodes.specs.declared.obj.Obj.{Obj}
 use Rattle.nb_nodes.specs.Objects.{obj_nature}
 use Rattle.nb_closings.specs.Chained.{have_closing, is_closing}
-use Rattle.nb_closings.specs.Passing.{ends_object, has_ended, ClosesBothOrNone, PassesEndOn}
+use Rattle.nb_closings.specs.Passing.{ends_object, object_has_ended, ClosesBothOrNone, PassesEndOn}
 use Rattle.nb_closings.proofs.Joining.{IsInner, joins_back, joins_inner}
 use Rattle.nb_closings.proofs.PlanLemmas.{AnyPlan, Plan, WillClose, close_it, shut_it, unplug_them, tell_it, nothing, plan_of, plans, plans_append}
 use Rattle.nb_closings.proofs.Keeping.{IsClosedAt, IsPlainPlan, Kept, Moves, Traces, moves}
@@ -36,7 +36,7 @@ abbrev pub AllPass : ℕ → List (NodeEntry Obj Load) → List (Deed Obj Load) 
 AllPass x t [] = Unit {0}
 AllPass x t (writes e ∷ ds) = AllPass x t ds
 AllPass x t (begins y n ∷ ds) = AllPass x (trace_after x t (begins y n ∷ [])) ds
-AllPass x t (calls y e ∷ ds) = (x ≡ y → has_ended t ≡ false → PassesEndOn e) × AllPass x (trace_after x t (calls y e ∷ [])) ds
+AllPass x t (calls y e ∷ ds) = (x ≡ y → object_has_ended t ≡ false → PassesEndOn e) × AllPass x (trace_after x t (calls y e ∷ [])) ds
 AllPass x t (turns u ∷ ds) = AllPass x t ds
 
 abbrev pub after_traces : Deed Obj Load → Traces → Traces
@@ -79,7 +79,7 @@ have_closing_first (turns u) ds = refl
 abbrev pub DeedPasses : Traces → (ℕ → Bool) → Deed Obj Load → Type 0
 DeedPasses tr own (writes e) = Unit {0}
 DeedPasses tr own (begins x n) = Unit {0}
-DeedPasses tr own (calls x e) = own x ≡ true → has_ended (tr x) ≡ false → PassesEndOn e
+DeedPasses tr own (calls x e) = own x ≡ true → object_has_ended (tr x) ≡ false → PassesEndOn e
 DeedPasses tr own (turns u) = Unit {0}
 
 deed_passes : (tr : Traces) (own : ℕ → Bool) (d : Deed Obj Load) (ds : List (Deed Obj Load)) → ((x : ℕ) → own x ≡ true → AllPass x (tr x) (d ∷ ds)) → DeedPasses tr own d
@@ -97,7 +97,7 @@ later_pass tr own (turns u) ds h x o = h x o
 module _ (ids : List ℕ) (Exempt : ℕ → Type 0) (Aim : Port → Type 0) where
   -- a port of theirs is closed, or one of them has ended
   abbrev pub Ruined : Scene → Traces → Type 0
-  Ruined s tr = (p : Port) × IsInner ids p × (IsClosedAt s p ⊎ (has_ended (tr p.obj.0) ≡ true))
+  Ruined s tr = (p : Port) × IsInner ids p × (IsClosedAt s p ⊎ (object_has_ended (tr p.obj.0) ≡ true))
 
   pub record Stepped (s : Scene) (tr : Traces) (d : Deed Obj Load) (more gs : List (Stage Obj Load)) : Type 0 where
     pub kept : Kept ids Exempt Aim (after_deed d s) (after_traces d tr) (plans (more ++ gs))
@@ -105,7 +105,7 @@ module _ (ids : List ℕ) (Exempt : ℕ → Type 0) (Aim : Port → Type 0) wher
     pub ruins : closing_deed d ≡ true → Ruined (after_deed d s) (after_traces d tr)
     pub still : closing_deed d ≡ false → (p : Port) → IsClosedAt (after_deed d s) p → IsClosedAt s p
     pub shut : (p : Port) → IsClosedAt s p → IsClosedAt (after_deed d s) p
-    pub ended : (x : ℕ) → has_ended (tr x) ≡ true → has_ended (after_traces d tr x) ≡ true
+    pub ended : (x : ℕ) → object_has_ended (tr x) ≡ true → object_has_ended (after_traces d tr x) ≡ true
 
   module _ (s : Scene) (tr : Traces) (gs : List (Stage Obj Load)) where
     -- what is done first is nothing with a port
@@ -186,21 +186,21 @@ module _ (ids : List ℕ) (Exempt : ℕ → Type 0) (Aim : Port → Type 0) wher
     EntryEnds e done fx = ends_object e ≡ (not done || nat_lt 0 (length fx.closes.items))
 
     called : (y : ℕ) (e : NodeEntry Obj Load) (m : Said) (done : Bool) (fx : Fx Obj Load) (p : Port) (by : Way) (o : Option Said) → EntryEnds e done fx → (done ≡ true → fx.makes ≡ None)
-        → (has_ended (tr y) ≡ false → done ≡ true → ClosesBothOrNone fx.closes.items) → Kept ids Exempt Aim s tr (nothing ∷ plans gs) → Stepped s tr (calls y e) (runs_of obj_nature y m done fx ++ Holds p by o ∷ []) gs
+        → (object_has_ended (tr y) ≡ false → done ≡ true → ClosesBothOrNone fx.closes.items) → Kept ids Exempt Aim s tr (nothing ∷ plans gs) → Stepped s tr (calls y e) (runs_of obj_nature y m done fx ++ Holds p by o ∷ []) gs
     called y e m done fx p by o is none pass k =
         calls_rest y e (runs_of obj_nature y m done fx ++ Holds p by o ∷ []) (plain_stages y m done fx p by o none)
         (own_entry ids Exempt Aim s tr y e (plans (runs_of obj_nature y m done fx ++ Holds p by o ∷ [])) (plans gs)
-        (plain_runs tr y e m p by o done fx (λ h. goes_idle (has_ended (tr y)) done fx.closes.items (sym (entry_ended tr y e ∙ ap (λ z. has_ended (tr y) || z) is) ∙ h)))
+        (plain_runs tr y e m p by o done fx (λ h. goes_idle (object_has_ended (tr y)) done fx.closes.items (sym (entry_ended tr y e ∙ ap (λ z. object_has_ended (tr y) || z) is) ∙ h)))
         (λ f t slot low. inr (any_held (WillClose (port_at y slot)) y m done fx (Holds p by o) (close_ended y slot m done fx low (pass f) (sym is ∙ t)))) k)
 
     -- and by a close
-    hears : (y slot : ℕ) (c : Cause) (now : ℕ) (fx : Fx Obj Load) → fx.makes ≡ None → (has_ended (tr y) ≡ false → PassesEndOn (closed slot c now fx)) → Kept ids Exempt Aim s tr (tell_it (port_at y slot) ∷ plans gs)
+    hears : (y slot : ℕ) (c : Cause) (now : ℕ) (fx : Fx Obj Load) → fx.makes ≡ None → (object_has_ended (tr y) ≡ false → PassesEndOn (closed slot c now fx)) → Kept ids Exempt Aim s tr (tell_it (port_at y slot) ∷ plans gs)
         → Stepped s tr (calls y (closed slot c now fx)) (runs_of obj_nature y silence true fx ++ Holds (port_at y slot) way.Close None ∷ []) gs
     hears y slot c now fx none pass k =
         let e : NodeEntry Obj Load = closed slot c now fx in
         calls_rest y e (runs_of obj_nature y silence true fx ++ Holds (port_at y slot) way.Close None ∷ []) (plain_stages y silence true fx (port_at y slot) way.Close None (λ _. none))
         (heard_entry ids Exempt Aim s tr y e (port_at y slot) (plans (runs_of obj_nature y silence true fx ++ Holds (port_at y slot) way.Close None ∷ [])) (plans gs) refl (λ low. lt-ltb slot 2 low)
-        (plain_runs tr y e silence (port_at y slot) way.Close None true fx (λ h. let z = or_off (has_ended (tr y)) (nat_lt slot 2) (sym (entry_ended tr y e) ∙ h) in (refl, (pass z.0).1 (two_up slot z.1))))
+        (plain_runs tr y e silence (port_at y slot) way.Close None true fx (λ h. let z = or_off (object_has_ended (tr y)) (nat_lt slot 2) (sym (entry_ended tr y e) ∙ h) in (refl, (pass z.0).1 (two_up slot z.1))))
         (λ f t k' low. held_too y k' fx (Holds (port_at y slot) way.Close None) (close_passed s y slot k' fx t low (is_gone ids Exempt Aim s tr (plans gs) (port_at y slot) k.fits.0) (pass f).0)) k)
 
   close_ruins : (s : Scene) (tr : Traces) (gs : List (Stage Obj Load)) (p : Port) (c : Cause) → is_one_of ids p.obj.0 ≡ true → Kept ids Exempt Aim s tr (close_it p ∷ plans gs) → Ruined (after_noted (Closed p c) s) tr

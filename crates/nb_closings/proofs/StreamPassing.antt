@@ -9,11 +9,11 @@ use Rattle.nb_conns.specs.declared.tcp.Tcp.{Tcp}
 use Rattle.nb_conns.specs.Dialogues.{AsksIdly, Converses, ConversesTo, Dialogue, unopened, talking, closed_off, given_up, is_live, is_talking, talked_on, is_asked, takes_segment, hands_on, takes_none, takes_text, takes_tick, has_back, is_closed, ends_short, rests_still, TcpStands}
 use Rattle.nb_responses.specs.Chunks.{Verdict, more, open_body, body, moved, status, broken, large, long, many}
 use Rattle.nb_readings.specs.Ends.{verdict_end, is_decided}
-use Rattle.nb_http.specs.Standing.{Core, HasRead, is_over}
+use Rattle.nb_http.specs.Standing.{Core, HasReadStream, is_over}
 use Rattle.nb_webnodes.specs.declared.web.Web.{Web}
 use Rattle.nb_webnodes.specs.WebEffects.{WebCarrier}
 use Rattle.nb_webnodes.specs.WebTalks.{Fetched, FetchedTo, WebTalk, web_unasked, fetching, web_decided, cut_short, is_open_web, fetched_on, is_begun, takes_part, takes_end, ends_early, stays_idle, WebStands}
-use Rattle.nb_closings.specs.Passing.{ends_object, has_ended, ClosesBothOrNone, PassesEndOn}
+use Rattle.nb_closings.specs.Passing.{ends_object, object_has_ended, ClosesBothOrNone, PassesEndOn}
 use Rattle.nb_closings.proofs.TraceLemmas.{none_ended}
 use Rattle.nb_closings.proofs.CorePassing.{and_right, false_not, is_not, not_and, not_both, not_done, passes_close, rests_closed}
 
@@ -42,7 +42,7 @@ undecided rec many h = absurd (let z = h in cc)
 -- it goes on: what its core has read isn't decided
 abbrev WebGoesOn : WebTalk → Type 0
 WebGoesOn web_unasked = Unit {0}
-WebGoesOn (fetching a c stream given) = HasRead c stream given × (is_over c.state ≡ false)
+WebGoesOn (fetching a c stream given) = HasReadStream c stream given × (is_over c.state ≡ false)
 WebGoesOn (web_decided a c stream given over) = ⊥
 WebGoesOn cut_short = ⊥
 
@@ -56,7 +56,7 @@ record WebStep {N L : Type 0} (e : NodeEntry N L) (w : WebTalk) : Type 0 where
   pub passes : PassesEndOn e
   pub goes_on : ends_object e ≡ false → WebGoesOn w
 
-fetched_further : (a : _) (c : Core) (stream given : List ℕ) (over : Option Cause) → is_some over ≡ false → HasRead c stream given → is_over c.state ≡ false → WebGoesOn (fetched_on a c stream given over)
+fetched_further : (a : _) (c : Core) (stream given : List ℕ) (over : Option Cause) → is_some over ≡ false → HasReadStream c stream given → is_over c.state ≡ false → WebGoesOn (fetched_on a c stream given over)
 fetched_further a c stream given over h read goes = subst (λ (z : Bool). WebGoesOn (if z then web_decided a c stream given over else fetching a c stream given)) (sym h) (read, goes)
 
 web_step : {N L : Type 0} (k : WebCarrier L) (v w : WebTalk) (e : NodeEntry N L) → Fetched k v e w → WebGoesOn v → WebStep e w
@@ -89,11 +89,11 @@ web_step k _ _ _ (stays_idle v (closed slot c now fx) quiet asks) live =
 web_step k _ _ _ (stays_idle v (time now done fx) quiet asks) live = record { passes = λ d. inl asks.1; goes_on = λ h. live }
 web_step k _ _ _ (stays_idle v (regain l) quiet asks) live = record { passes = tt; goes_on = λ h. live }
 
-web_last : {N L : Type 0} (k : WebCarrier L) (t : List (NodeEntry N L)) (e : NodeEntry N L) (v w : WebTalk) → FetchedTo k v (t ++ e ∷ []) w → WebGoesOn v → has_ended t ≡ false → PassesEndOn e
+web_last : {N L : Type 0} (k : WebCarrier L) (t : List (NodeEntry N L)) (e : NodeEntry N L) (v w : WebTalk) → FetchedTo k v (t ++ e ∷ []) w → WebGoesOn v → object_has_ended t ≡ false → PassesEndOn e
 web_last k [] e v w (u, goes, run) live h = (web_step k v u e goes live).passes
 web_last k (d ∷ t) e v w (u, goes, run) live h = let z = none_ended d t h in web_last k t e u w run ((web_step k v u d goes live).goes_on z.0) z.1
 
-pub web_passes : {N L : Type 0} (k : WebCarrier L) (p : Web) (t : List (NodeEntry N L)) (e : NodeEntry N L) → WebStands k p (t ++ e ∷ []) → has_ended t ≡ false → PassesEndOn e
+pub web_passes : {N L : Type 0} (k : WebCarrier L) (p : Web) (t : List (NodeEntry N L)) (e : NodeEntry N L) → WebStands k p (t ++ e ∷ []) → object_has_ended t ≡ false → PassesEndOn e
 web_passes k p t e s h = web_last k t e web_unasked s.talk s.run tt h
 
 -- OF A CONNECTION
@@ -135,9 +135,9 @@ conn_step k _ _ _ (rests_still v (closed slot c now fx) quiet asks) live =
 conn_step k _ _ _ (rests_still v (time now done fx) quiet asks) live = record { passes = λ d. inl asks.1; goes_on = λ h. live }
 conn_step k _ _ _ (rests_still v (regain l) quiet asks) live = record { passes = tt; goes_on = λ h. live }
 
-conn_last : {N L : Type 0} (k : Carrier L) (t : List (NodeEntry N L)) (e : NodeEntry N L) (v w : Dialogue) → ConversesTo k v (t ++ e ∷ []) w → is_live v ≡ true → has_ended t ≡ false → PassesEndOn e
+conn_last : {N L : Type 0} (k : Carrier L) (t : List (NodeEntry N L)) (e : NodeEntry N L) (v w : Dialogue) → ConversesTo k v (t ++ e ∷ []) w → is_live v ≡ true → object_has_ended t ≡ false → PassesEndOn e
 conn_last k [] e v w (u, goes, run) live h = (conn_step k v u e goes live).passes
 conn_last k (d ∷ t) e v w (u, goes, run) live h = let z = none_ended d t h in conn_last k t e u w run ((conn_step k v u d goes live).goes_on z.0) z.1
 
-pub conn_passes : {N L : Type 0} (k : Carrier L) (p : Tcp) (t : List (NodeEntry N L)) (e : NodeEntry N L) → TcpStands k p (t ++ e ∷ []) → has_ended t ≡ false → PassesEndOn e
+pub conn_passes : {N L : Type 0} (k : Carrier L) (p : Tcp) (t : List (NodeEntry N L)) (e : NodeEntry N L) → TcpStands k p (t ++ e ∷ []) → object_has_ended t ≡ false → PassesEndOn e
 conn_passes k p t e s h = conn_last k t e unopened s.dialogue s.run refl h

@@ -25,7 +25,7 @@ use Rattle.nb_nodes.specs.declared.obj.Obj.{Obj}
 use Rattle.nb_nodes.specs.Objects.{obj_nature}
 use Rattle.nb_nodes.specs.Standing.{ObjStands}
 use Rattle.nb_closings.specs.Chained.{AreShutThrough, AreThrough, ChainsAreShut, ChainsEndWhole, ComesOfAll, GoesOnStill, HaveNoOthers, IsArrival, IsOpenThrough, goes_through, have_closing, offers_it, shuts_through, ticks_it}
-use Rattle.nb_closings.specs.Passing.{has_ended}
+use Rattle.nb_closings.specs.Passing.{object_has_ended}
 use Rattle.nb_closings.proofs.Beginning.{kept_at_first, not_closed}
 use Rattle.nb_closings.proofs.Ending.{all_some, go_down, shut_down}
 use Rattle.nb_closings.proofs.Joining.{IsInner, first_in, last_after}
@@ -59,7 +59,7 @@ module _ (g : Objects Obj) (ids : List ℕ) (a : AreThrough g ids) where
   record Chosen (x : ℕ) : Type 0 where
     pub trace : List (NodeEntry Obj Load)
     pub stands : is_one_of ids x ≡ true → ObjectStands ObjStands g x trace
-    pub going : is_one_of ids x ≡ true → has_ended trace ≡ false
+    pub going : is_one_of ids x ≡ true → object_has_ended trace ≡ false
 
   choose : (x : ℕ) (b : Bool) → is_one_of ids x ≡ b → Chosen x
   choose x true o = let z = a.going x o in record { trace = z.0; stands = λ _. z.1; going = λ _. z.2 }
@@ -72,7 +72,7 @@ module _ (g : Objects Obj) (ids : List ℕ) (a : AreThrough g ids) where
   unfolding chosen
   chosen_stands x o = (choose x (is_one_of ids x) refl).stands o
 
-  chosen_going : (x : ℕ) → is_one_of ids x ≡ true → has_ended (chosen x) ≡ false
+  chosen_going : (x : ℕ) → is_one_of ids x ≡ true → object_has_ended (chosen x) ≡ false
   unfolding chosen
   chosen_going x o = (choose x (is_one_of ids x) refl).going o
 
@@ -134,11 +134,11 @@ module _ (x : ℕ) (xs : List ℕ) (now : ℕ) (asks : List (Stage Obj Load)) (g
     | inr e ↦ absurd (not_closed (port_in g.book) x xs through.ports (port_at x 0) (record { own = first_own; low = omega arith }) (went.still e (port_at x 0) c))
   ]
 
-  unruined : IsOpenThrough (port_in h.book) ids → ((y : ℕ) → is_one_of ids y ≡ true → has_ended (ended_as y) ≡ false) → Ruined ids NoneExempt NoAim (scene_of h.book) ended_as → ⊥
+  unruined : IsOpenThrough (port_in h.book) ids → ((y : ℕ) → is_one_of ids y ≡ true → object_has_ended (ended_as y) ≡ false) → Ruined ids NoneExempt NoAim (scene_of h.book) ended_as → ⊥
   unruined all_open going (p, i, inl c) = not_closed (port_in h.book) x xs all_open p i c
   unruined all_open going (p, i, inr e) = let z = sym (going p.obj.0 i.own) ∙ e in cc
 
-  go_all : has_ended (ended_as x) ≡ false → (state_at (scene_of h.book) (port_at x 0) ≡ port.Open) → ComesOfAll ids h (events_of (all_of k.deeds))
+  go_all : object_has_ended (ended_as x) ≡ false → (state_at (scene_of h.book) (port_at x 0) ≡ port.Open) → ComesOfAll ids h (events_of (all_of k.deeds))
   go_all going top =
       let down = go_down ids NoneExempt NoAim (scene_of h.book) ended_as went.kept (λ z w. w) x xs (all_some ids NoneExempt NoAim (scene_of h.book) ended_as went.kept x xs refl) (went.kept.outer (port_at (last_after x xs) 1) (inr refl)) going in
       let all_open : IsOpenThrough (port_in h.book) ids = (top, down.plugged) in
@@ -150,7 +150,7 @@ module _ (x : ℕ) (xs : List ℕ) (now : ℕ) (asks : List (Stage Obj Load)) (g
   comes : ComesOfAll ids h (events_of (all_of k.deeds))
   comes = elim (went.kept.outer (port_at x 0) (inl refl)) [
     | inr c ↦ shut_all c
-    | inl top ↦ elim (either (has_ended (ended_as x))) [
+    | inl top ↦ elim (either (object_has_ended (ended_as x))) [
       | inl e ↦ elim (went.kept.over (port_at x 0) (record { own = first_own; low = omega arith }) e) [ inl c ↦ shut_all c | inr w ↦ absurd w ]
       | inr e ↦ go_all e top
     ]

@@ -20,7 +20,7 @@ use Rattle.nb_nodes.specs.declared.load.Load.{Load}
 use Rattle.nb_nodes.specs.declared.obj.Obj.{Obj}
 use Rattle.nb_nodes.specs.Objects.{obj_nature}
 use Rattle.nb_nodes.specs.Standing.{ObjStands}
-use Rattle.nb_closings.specs.Passing.{has_ended}
+use Rattle.nb_closings.specs.Passing.{object_has_ended}
 
 -- x is plugged to the first of these, that to the next, and the port of the last one to the network is open
 abbrev pub IsPluggedDown : (ℕ → ℕ → PortState) → ℕ → List ℕ → Type 0
@@ -43,7 +43,7 @@ HaveNoOthers f ids = (x k : ℕ) → is_one_of ids x ≡ true → 2 ≤ k → li
 
 -- x stands for a trace by which it hasn't ended
 abbrev pub GoesOnStill : Objects Obj → ℕ → Type 0
-GoesOnStill g x = (t : List (NodeEntry Obj Load)) × ObjectStands ObjStands g x t × (has_ended t ≡ false)
+GoesOnStill g x = (t : List (NodeEntry Obj Load)) × ObjectStands ObjStands g x t × (object_has_ended t ≡ false)
 
 -- The objects of an open that goes on: all these ports are open, and none has ended.
 pub record AreThrough (g : Objects Obj) (ids : List ℕ) : Type 0 where

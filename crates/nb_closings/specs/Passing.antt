@@ -16,9 +16,9 @@ ends_object (time now done fx) = not done || nat_lt 0 (length fx.closes.items)
 ends_object (regain load) = false
 
 -- it has ended by one of these
-abbrev pub has_ended : {N L : Type 0} → List (NodeEntry N L) → Bool
-has_ended [] = false
-has_ended (e ∷ t) = ends_object e || has_ended t
+abbrev pub object_has_ended : {N L : Type 0} → List (NodeEntry N L) → Bool
+object_has_ended [] = false
+object_has_ended (e ∷ t) = ends_object e || object_has_ended t
 
 -- both ports are closed, or none
 abbrev pub ClosesBothOrNone : List (ℕ × Cause) → Type 0
@@ -34,4 +34,4 @@ PassesEndOn (regain load) = Unit {0}
 
 -- so does each entry of an object of an open that hasn't ended yet
 abbrev pub ObjectsPassOn : Type 0
-ObjectsPassOn = (n : Obj) (t : List (NodeEntry Obj Load)) (e : NodeEntry Obj Load) → ObjStands n (t ++ e ∷ []) → has_ended t ≡ false → PassesEndOn e
+ObjectsPassOn = (n : Obj) (t : List (NodeEntry Obj Load)) (e : NodeEntry Obj Load) → ObjStands n (t ++ e ∷ []) → object_has_ended t ≡ false → PassesEndOn e

@@ -20,7 +20,7 @@ use Rattle.nb_command.specs.declared.outcome.Outcome.{Outcome}
 use Rattle.nb_command.specs.declared.outcome.Job.TheVariants as job
 use Rattle.nb_command.specs.declared.outcome.Outcome.TheVariants.{Done, Wait, Down, Images, Drives}
 use Rattle.nb_command.specs.declared.state.State.{State}
-use Rattle.nb_command.specs.Applying.{carried_out, in_state, with_table, with_up, with_images, with_drives}
+use Rattle.nb_command.specs.Applying.{carried_out, in_state, with_table, with_up, with_image_list, with_drives}
 use Rattle.nb_command.specs.Inc.{named_count, sum_put, increased_table}
 use Rattle.nb_command.specs.Others.{is_meant, may_change}
 use Rattle.nb_command.specs.Set.{set_value, set_table}
@@ -49,7 +49,7 @@ with_up_stays s outcome (Ok up) after is block key =
     subst (λ (x : Outcome × State). Finds s x.1 block key) (same_Ok (outcome, record s { up = up }) after is) refl
 with_up_stays s outcome (Err why) after is block key = absurd cc
 
-with_images_stays : (s : State) (answer : Result (ImageOutcome × ImageList) ImageFailure) (after : Outcome × State) → with_images s answer ≡ Ok after → (block : List ℕ) (key : OwnedKey) → Finds s after.1 block key
+with_images_stays : (s : State) (answer : Result (ImageOutcome × ImageList) ImageFailure) (after : Outcome × State) → with_image_list s answer ≡ Ok after → (block : List ℕ) (key : OwnedKey) → Finds s after.1 block key
 with_images_stays s (Ok done) after is block key =
     subst (λ (x : Outcome × State). Finds s x.1 block key) (same_Ok (Images done.0, record s { images = done.1 }) after is) refl
 with_images_stays s (Err why) after is block key = absurd cc

@@ -56,12 +56,12 @@ with_up outcome s answer =
 abbrev pub text_outcome : Result (List ℕ) ApplyError → Result Outcome ApplyError
 text_outcome answer = result_map_both (λ text. Text text) (λ why. why) answer
 
-abbrev pub waits_for : Result Job ApplyError → Result Outcome ApplyError
-waits_for answer = result_map_both (λ wanted. Wait wanted) (λ why. why) answer
+abbrev pub waits_for_wanted : Result Job ApplyError → Result Outcome ApplyError
+waits_for_wanted answer = result_map_both (λ wanted. Wait wanted) (λ why. why) answer
 
 -- a command on images leaves another list, and all else of the state as it was
-abbrev pub with_images : State → Result (ImageOutcome × ImageList) ImageFailure → Result (Outcome × State) ApplyError
-with_images s answer =
+abbrev pub with_image_list : State → Result (ImageOutcome × ImageList) ImageFailure → Result (Outcome × State) ApplyError
+with_image_list s answer =
     result_map_both (λ done. (Images done.0, record s { images = done.1 })) image_failure answer
 
 -- a drive command leaves the state as it was: who carries the outcome out changes the drives
@@ -79,13 +79,13 @@ carried_out (plan.Set name value) own s = with_table s (set_table name value s.t
 carried_out (plan.Clear name) own s = with_table s (cleared_table name s.table)
 carried_out (plan.Show name) own s = in_state s (text_outcome (setting_shown name s.table))
 carried_out (plan.Inc name by) own s = with_table s (increased_table name by s.table)
-carried_out (plan.Images command) own s = with_images s (image_effect command (base_by own s.table) s.images)
+carried_out (plan.Images command) own s = with_image_list s (image_effect command (base_by own s.table) s.images)
 carried_out (plan.Drives command) own s = with_drives s (drive_effect command (base_by own s.table) s.table s.drives)
 carried_out (plan.Ifopen device) own s = with_up Done s (device_change device true)
 carried_out (plan.Ifclose device) own s = with_up Down s (device_change device false)
 carried_out (plan.Dhcp device) own s = with_up (Wait job.Lease) s (device_change device true)
 carried_out (plan.Ping host) own s = Ok (Wait (job.Ping host), s)
-carried_out (plan.Nslookup name host) own s = in_state s (waits_for (lookup_job name host s.table))
+carried_out (plan.Nslookup name host) own s = in_state s (waits_for_wanted (lookup_job name host s.table))
 carried_out (plan.Sleep seconds) own s = Ok (Wait (job.Sleep seconds), s)
 
 -- the outcome and the state after it, or the cause of the refusal, which leaves the state as it was

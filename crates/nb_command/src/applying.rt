@@ -5,7 +5,7 @@ ghost use Rattle.nb_settings.specs.declared.setting.OwnedKey.{OwnedKey};
 ghost use Rattle.std.specs.Option.{option_copied};
 ghost use Rattle.nb_imagecmd.specs.CarryingOut.{image_effect};
 ghost use Rattle.nb_drivecmd.specs.DriveEffect.{drive_effect};
-ghost use Rattle.nb_command.specs.Applying.{out_of_memory, truth, carried_out, applied, with_images, with_drives, AsksRightly};
+ghost use Rattle.nb_command.specs.Applying.{out_of_memory, truth, carried_out, applied, with_image_list, with_drives, AsksRightly};
 ghost use Rattle.nb_command.specs.Bases.{base_by};
 ghost use Rattle.nb_command.specs.Failures.{image_failure};
 ghost use Rattle.nb_command.specs.Others.{may_change, is_on_images};
@@ -109,9 +109,9 @@ fn on_images(
     own: Option<&[u8]>,
     s: &mut State,
 ) -> Result<Outcome, ApplyError>
-    ensures value { IfOk result (λ outcome. with_images s.old
+    ensures value { IfOk result (λ outcome. with_image_list s.old
         (image_effect command.now (base_by (option_copied own.entry) s.old.table) s.old.images) ≡ Ok (outcome, s.new)) }
-    ensures cause { IfErr result (λ why. (why ≡ failure.NoMemory) ⊎ (with_images s.old
+    ensures cause { IfErr result (λ why. (why ≡ failure.NoMemory) ⊎ (with_image_list s.old
         (image_effect command.now (base_by (option_copied own.entry) s.old.table) s.old.images) ≡ Err why)) }
     ensures refused { OnErr result (s.new ≡ s.old) }
     ensures fits { IfOk result (λ outcome. IfText outcome (λ text. length text ≤ 0)) }

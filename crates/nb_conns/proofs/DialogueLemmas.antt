@@ -20,7 +20,7 @@ use Rattle.nb_conns.specs.StreamTags.{stream_tag_number}
 use Rattle.nb_conns.specs.ConnAsks.{conn_ask_in}
 use Rattle.nb_conns.specs.ConnLoads.{Carrier, window_of_conn}
 use Rattle.nb_conns.specs.ConnEffects.{SaysNothing, ConnWithin, TookAll}
-use Rattle.nb_conns.specs.Dialogues.{Dialogue, unopened, is_talking, is_live, at_close, comes_from, is_window, is_quiet, is_cut, AsksIdly, HandsOnClose, Converses, ends_short, rests_still, ConversesTo, IsConnAt, before_asked, while_talking, once_closed, never_asked, TcpStands, CarriesOn, CarriesOnHome, IsUnopened, stage_takes, stage_asks, stage_is_over}
+use Rattle.nb_conns.specs.Dialogues.{Dialogue, unopened, is_talking, is_live, at_close, comes_from_peer, is_window, is_quiet, is_cut, AsksIdly, HandsOnClose, Converses, ends_short, rests_still, ConversesTo, IsConnAt, before_asked, while_talking, once_closed, never_asked, TcpStands, CarriesOn, CarriesOnHome, IsUnopened, stage_takes, stage_asks, conn_stage_is_over}
 use Rattle.nb_conns.proofs.WindowLemmas.{home_settled}
 
 -- an entry that calls nothing
@@ -43,7 +43,7 @@ at_home k w new e goes = λ d home at. goes d at
 -- a message that isn't the peer's
 pub quiet_up : {N L : Type 0} (k : Carrier L) (w : ConnStage) (slot : ℕ) (m : Said) (now : ℕ) (fx : Fx N L) (d : Dialogue) → stage_takes w slot m ≡ false → IsConnAt w d → is_quiet k d (up slot m now true fx) ≡ true
 quiet_up k _ slot m now fx _ h before_asked = refl
-quiet_up k _ slot m now fx _ h (while_talking r a start calls out t) = ap (λ z. not (comes_from z slot m)) (sym t.asked) ∙ ap not h
+quiet_up k _ slot m now fx _ h (while_talking r a start calls out t) = ap (λ z. not (comes_from_peer z slot m)) (sym t.asked) ∙ ap not h
 quiet_up k _ slot m now fx _ h (once_closed a start calls keeps) = refl
 quiet_up k _ slot m now fx _ h never_asked = refl
 
@@ -79,14 +79,14 @@ quiet_other N k load d h = not_and (is_talking d) (is_window k load) (ap (λ (z 
 pub quiet_slot : {N L : Type 0} (k : Carrier L) (slot : ℕ) (cause : Cause) (now : ℕ) (fx : Fx N L) (d : Dialogue) → 1 < slot → is_quiet k d (closed slot cause now fx) ≡ true
 quiet_slot k slot cause now fx d h = not_and (is_live d) (nat_lt slot 2) (le-ltb slot 2 (omega (arith, h)))
 
-pub quiet_over : {N L : Type 0} (k : Carrier L) (w : ConnStage) (slot : ℕ) (cause : Cause) (now : ℕ) (fx : Fx N L) (d : Dialogue) → stage_is_over w ≡ true → IsConnAt w d → is_quiet k d (closed slot cause now fx) ≡ true
+pub quiet_over : {N L : Type 0} (k : Carrier L) (w : ConnStage) (slot : ℕ) (cause : Cause) (now : ℕ) (fx : Fx N L) (d : Dialogue) → conn_stage_is_over w ≡ true → IsConnAt w d → is_quiet k d (closed slot cause now fx) ≡ true
 quiet_over k _ slot cause now fx _ h before_asked = absurd (false≢true h)
 quiet_over k _ slot cause now fx _ h (while_talking r a start calls out t) = absurd (false≢true h)
 quiet_over k _ slot cause now fx _ h (once_closed a start calls keeps) = refl
 quiet_over k _ slot cause now fx _ h never_asked = refl
 
 -- a close that ends it at once
-pub cut_close : {N L : Type 0} (w : ConnStage) (slot : ℕ) (cause : Cause) (now : ℕ) (fx : Fx N L) (d : Dialogue) → slot ≤ 1 → stage_is_over w ≡ false → ((r : Connected) → w ≡ Running r → (slot == 0) ≡ false) → IsConnAt w d → is_cut d (closed slot cause now fx) ≡ true
+pub cut_close : {N L : Type 0} (w : ConnStage) (slot : ℕ) (cause : Cause) (now : ℕ) (fx : Fx N L) (d : Dialogue) → slot ≤ 1 → conn_stage_is_over w ≡ false → ((r : Connected) → w ≡ Running r → (slot == 0) ≡ false) → IsConnAt w d → is_cut d (closed slot cause now fx) ≡ true
 cut_close _ slot cause now fx _ l h other before_asked = ap (λ z. z && true) (lt-ltb slot 2 (omega (arith, l)))
 cut_close _ slot cause now fx _ l h other (while_talking r a start calls out t) = ap (λ z. z && not (slot == 0)) (lt-ltb slot 2 (omega (arith, l))) ∙ ap not (other r refl)
 cut_close _ slot cause now fx _ l h other (once_closed a start calls keeps) = absurd (false≢true (sym h))

@@ -33,7 +33,7 @@ use Rattle.nb_conns.specs.StreamTags.{stream_tag_number}
 use Rattle.nb_conns.specs.ConnAsks.{conn_ask_in, link_of}
 use Rattle.nb_conns.specs.ConnLoads.{Carrier, window_of_conn}
 use Rattle.nb_conns.specs.ConnEffects.{ConnEffects, SaysNothing, TookAll, received_says, ups_for, closes_for}
-use Rattle.nb_conns.specs.Dialogues.{Dialogue, unopened, talking, closed_off, given_up, is_home, talked_on, comes_from, with_segment_call, with_lending, with_passing, Converses, is_asked, takes_segment, hands_on, takes_none, takes_text, takes_tick, has_back, is_closed, rests_still, ConversesTo, IsLentOut, TalksSo, IsConnAt, before_asked, while_talking, once_closed, never_asked, TcpStands, CarriesOn, CarriesOnHome, TakesHere, TakesBack, ReturnsTo, CallsConn, TookSegment, HandedOn, lent_out, stage_asks}
+use Rattle.nb_conns.specs.Dialogues.{Dialogue, unopened, talking, closed_off, given_up, is_home, talked_on, comes_from_peer, with_segment_call, with_lending, with_passing, Converses, is_asked, takes_segment, hands_on, takes_none, takes_text, takes_tick, has_back, is_closed, rests_still, ConversesTo, IsLentOut, TalksSo, IsConnAt, before_asked, while_talking, once_closed, never_asked, TcpStands, CarriesOn, CarriesOnHome, TakesHere, TakesBack, ReturnsTo, CallsConn, TookSegment, HandedOn, lent_out, stage_asks}
 use Rattle.nb_conns.proofs.WindowLemmas.{lent_one}
 use Rattle.nb_conns.proofs.TakenLemmas.{ended_then}
 use Rattle.nb_conns.proofs.DialogueLemmas.{rests_on, stands_on, runs_more, quiet_other}
@@ -118,7 +118,7 @@ segment_at k slot m now fx s acts old r l ends new here effects all took e _ hom
 segment_at {N} {L} k slot m now fx s acts old r l ends new here effects all took e _ home (while_talking _ a start calls None t) =
     let after = with_segment_call calls m.rec s now acts in
     let is = took a start calls t in
-    let from : comes_from a slot m ≡ true = ap (λ z. comes_from z slot m) (sym t.asked) ∙ here.0 in (
+    let from : comes_from_peer a slot m ≡ true = ap (λ z. comes_from_peer z slot m) (sym t.asked) ∙ here.0 in (
       talked_on a start (with_lending after (lent_out l)) (lent_out l) acts.over,
       takes_segment a start calls slot m now fx s acts (lent_out l) from here.1 is.lent_so (subst (λ z. ConnEffects k m acts (ups_for m.rec (lent_out l) z) (closes_for acts.over) (in_list (lent_out l)) fx) is.to_end effects) all,
       at_then new r a start (with_lending after (lent_out l)) (lent_out l) acts.over e is.stands (λ alive. record { asked = is.asked; stands = is.stands; goes_on = is.over ∙ alive; none_waits = is.none_waits; lends = is.lends }),
@@ -139,7 +139,7 @@ handed_at k slot m now fx s acts old r new here effects all handed e _ home (whi
 handed_at {N} {L} k slot m now fx s acts old r new here effects all handed e _ home (while_talking _ a start calls None t) =
     let after = with_passing (with_segment_call calls m.rec s now acts) s.body in
     let is = handed a start calls t in
-    let from : comes_from a slot m ≡ true = ap (λ z. comes_from z slot m) (sym t.asked) ∙ here.0 in (
+    let from : comes_from_peer a slot m ≡ true = ap (λ z. comes_from_peer z slot m) (sym t.asked) ∙ here.0 in (
       talking a start after None,
       hands_on a start calls slot m now fx s acts from here.1 is.alive is.ready is.lasts effects all,
       subst (λ (z : ConnStage). IsConnAt z (talking a start after None)) (sym e) (while_talking r a start after None is.talks),

@@ -69,12 +69,12 @@ abbrev pub talked_on : ConnAsk → ℕ → List ConnEntry → Option Lent → Op
 talked_on a start calls out over = if is_some over then closed_off a start calls else talking a start calls out
 
 -- a message by slot 1 that comes from the peer
-abbrev pub comes_from : ConnAsk → ℕ → Said → Bool
-comes_from a slot m = (slot == 1) && ((m.tag == stream_tag_number Segment) && ((m.a == a.peer_port) && (m.b == a.peer.0)))
+abbrev pub comes_from_peer : ConnAsk → ℕ → Said → Bool
+comes_from_peer a slot m = (slot == 1) && ((m.tag == stream_tag_number Segment) && ((m.a == a.peer_port) && (m.b == a.peer.0)))
 
 abbrev pub comes_in : Dialogue → ℕ → Said → Bool
 comes_in unopened slot m = false
-comes_in (talking a start calls out) slot m = comes_from a slot m
+comes_in (talking a start calls out) slot m = comes_from_peer a slot m
 comes_in (closed_off a start calls) slot m = false
 comes_in given_up slot m = false
 
@@ -168,12 +168,12 @@ pub data Converses {N L : Type 0} (k : Carrier L) : Dialogue → NodeEntry N L �
       → ConnEffects k m (starting_acts (link_of a)) [] [] [] fx → Converses k unopened (down m now true fx) (talking a now [] None)
   -- a segment of the peer, while nothing is lent: what waits then goes up, and then the end, where that has come
   takes_segment : (a : ConnAsk) (start : ℕ) (calls : List ConnEntry) (slot : ℕ) (m : Said) (now : ℕ) (fx : Fx N L) (s : SegmentParts) (acts : Acts) (out : Option Lent)
-      → comes_from a slot m ≡ true → IsLaidOut m.bytes s → LendsSo (with_segment_call calls m.rec s now acts) acts.ready out
+      → comes_from_peer a slot m ≡ true → IsLaidOut m.bytes s → LendsSo (with_segment_call calls m.rec s now acts) acts.ready out
       → ConnEffects k m acts (ups_for m.rec out (comes_to_end a calls (with_segment_call calls m.rec s now acts))) (closes_for acts.over) (in_list out) fx → TookAll m fx
       → Converses k (talking a start calls None) (up slot m now true fx) (talked_on a start (with_lending (with_segment_call calls m.rec s now acts) out) out acts.over)
   -- a segment of the peer that brings its body in order and no end, while nothing is lent: the body goes up as it stands in the message, so nothing is lent after it
   hands_on : (a : ConnAsk) (start : ℕ) (calls : List ConnEntry) (slot : ℕ) (m : Said) (now : ℕ) (fx : Fx N L) (s : SegmentParts) (acts : Acts)
-      → comes_from a slot m ≡ true → IsLaidOut m.bytes s → acts.over ≡ None → acts.ready ≡ true → comes_to_end a calls (with_segment_call calls m.rec s now acts) ≡ false
+      → comes_from_peer a slot m ≡ true → IsLaidOut m.bytes s → acts.over ≡ None → acts.ready ≡ true → comes_to_end a calls (with_segment_call calls m.rec s now acts) ≡ false
       → ConnEffects k m acts (received_says m.rec s.body ∷ []) [] [] fx → TookAll m fx
       → Converses k (talking a start calls None) (up slot m now true fx) (talking a start (with_passing (with_segment_call calls m.rec s now acts) s.body) None)
   -- bytes of the peer that are no segment
@@ -238,7 +238,7 @@ CarriesOnHome k old new e = (d : Dialogue) → is_home d ≡ true → IsConnAt o
 -- whether a message from below counts, or one from above may, by what the object is
 abbrev pub stage_takes : ConnStage → ℕ → Said → Bool
 stage_takes Waiting slot m = false
-stage_takes (Running r) slot m = comes_from r.ask slot m
+stage_takes (Running r) slot m = comes_from_peer r.ask slot m
 stage_takes Over slot m = false
 
 abbrev pub stage_asks : ConnStage → Said → Bool
@@ -246,10 +246,10 @@ stage_asks Waiting m = m.tag == stream_tag_number Begin
 stage_asks (Running r) m = m.tag == stream_tag_number Send
 stage_asks Over m = false
 
-abbrev pub stage_is_over : ConnStage → Bool
-stage_is_over Waiting = false
-stage_is_over (Running r) = false
-stage_is_over Over = true
+abbrev pub conn_stage_is_over : ConnStage → Bool
+conn_stage_is_over Waiting = false
+conn_stage_is_over (Running r) = false
+conn_stage_is_over Over = true
 
 -- nothing was asked for yet
 abbrev pub IsUnopened : Tcp → Type 0
@@ -263,15 +263,15 @@ lent_out_of l (Some w) = Some l
 abbrev pub lent_out : Lent → Option Lent
 lent_out l = lent_out_of l l.held
 
-abbrev pub stage_is_waiting : ConnStage → Bool
-stage_is_waiting Waiting = true
-stage_is_waiting (Running r) = false
-stage_is_waiting Over = false
+abbrev pub conn_stage_is_waiting : ConnStage → Bool
+conn_stage_is_waiting Waiting = true
+conn_stage_is_waiting (Running r) = false
+conn_stage_is_waiting Over = false
 
 -- a message from the peer is this segment
 abbrev pub TakesHere : ConnStage → ℕ → Said → SegmentParts → Type 0
 TakesHere Waiting slot m s = ⊥
-TakesHere (Running r) slot m s = (comes_from r.ask slot m ≡ true) × IsLaidOut m.bytes s
+TakesHere (Running r) slot m s = (comes_from_peer r.ask slot m ≡ true) × IsLaidOut m.bytes s
 TakesHere Over slot m s = ⊥
 
 -- the core stands for one call more

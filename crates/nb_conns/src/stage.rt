@@ -11,7 +11,7 @@ ghost use Rattle.nb_tcp.specs.ConnHistory.{ConnEntry, calls_in};
 ghost use Rattle.nb_tcp.specs.ConnPromises.{starting_acts};
 ghost use Rattle.nb_tcp.specs.ConnStanding.{HasDelivered, KeepsWindow};
 ghost use Rattle.nb_conns.specs.ConnAsks.{link_of};
-ghost use Rattle.nb_conns.specs.Dialogues.{TalksSo, TookSegment, HandedOn, TakesBack, ReturnsTo, CallsConn, LentFrom, with_segment_call, stage_is_over};
+ghost use Rattle.nb_conns.specs.Dialogues.{TalksSo, TookSegment, HandedOn, TakesBack, ReturnsTo, CallsConn, LentFrom, with_segment_call, conn_stage_is_over};
 
 use crate::ConnAsk;
 use crate::conn_load::Lent;
@@ -42,7 +42,7 @@ pub(crate) enum ConnStage {
 
 impl ConnStage {
     pub(crate) fn is_over(&self) -> bool
-        ensures { result ≡ stage_is_over self.now }
+        ensures { result ≡ conn_stage_is_over self.now }
     {
         match self {
             ConnStage::Waiting => false,

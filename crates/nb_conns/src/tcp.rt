@@ -8,7 +8,7 @@ ghost use Rattle.nb_graph.specs.Effects.{IsNothing};
 ghost use Rattle.nb_tcpseg.specs.SegmentText.{segment_parts, IsLaidOut};
 ghost use Rattle.nb_conns.specs.declared.stage.ConnStage.TheVariants as stage;
 ghost use Rattle.nb_conns.specs.ConnEffects.{ConnEffects, ConnWithin, SaysNothing, received_says, ups_for, closes_for, boxed};
-ghost use Rattle.nb_conns.specs.Dialogues.{TcpStands, CarriesOn, CarriesOnHome, IsUnopened, TakesHere, TakesBack, comes_from, lent_out, stage_takes, stage_asks, stage_is_over, stage_is_waiting};
+ghost use Rattle.nb_conns.specs.Dialogues.{TcpStands, CarriesOn, CarriesOnHome, IsUnopened, TakesHere, TakesBack, comes_from_peer, lent_out, stage_takes, stage_asks, conn_stage_is_over, conn_stage_is_waiting};
 
 use crate::ConnAsk;
 use crate::asking::{ABOVE, BELOW, all_of, ask_close, ask_down, ask_up, range_up};
@@ -309,7 +309,7 @@ impl Tcp {
         fx: &mut Fx<N, L>,
     ) -> Result<(), NoMemory>
         requires { SaysNothing fx.old × (fx.old.closes.items ≡ []) }
-        ensures leads { (m : Said) → stage_asks self.old.stage m ≡ true → stage_is_waiting self.old.stage ≡ false → m.bytes ≡ bytes.now
+        ensures leads { (m : Said) → stage_asks self.old.stage m ≡ true → conn_stage_is_waiting self.old.stage ≡ false → m.bytes ≡ bytes.now
             → CarriesOn L.carrier self.old.stage self.new.stage (down m now (is_ok result) fx.new) }
         ensures within { (len : ℕ) → ConnWithin len fx.new }
         ensures ups { (fx.new.ups.first ≡ None) × (fx.new.ups.second ≡ None) }
@@ -347,7 +347,7 @@ impl Tcp {
     fn close<N, L: CarriesConn>(&mut self, slot: u8, cause: Cause, fx: &mut Fx<N, L>)
         requires blank { SaysNothing fx.old × (fx.old.closes.items ≡ []) }
         requires slot { slot ≤ 1 }
-        requires live { stage_is_over self.old.stage ≡ false }
+        requires live { conn_stage_is_over self.old.stage ≡ false }
         ensures leads { (now : ℕ) → CarriesOn L.carrier self.old.stage self.new.stage (closed slot cause now fx.new) }
         ensures within { (len : ℕ) → ConnWithin len fx.new }
         ensures ups { (fx.new.ups.first ≡ None) × (fx.new.ups.second ≡ None) }
@@ -363,7 +363,7 @@ impl Tcp {
     /// The port above was closed.
     fn close_above<N, L: CarriesConn>(&mut self, cause: Cause, fx: &mut Fx<N, L>)
         requires blank { SaysNothing fx.old × (fx.old.closes.items ≡ []) }
-        requires live { stage_is_over self.old.stage ≡ false }
+        requires live { conn_stage_is_over self.old.stage ≡ false }
         ensures leads { (now : ℕ) → CarriesOn L.carrier self.old.stage self.new.stage (closed 0 cause now fx.new) }
         ensures within { (len : ℕ) → ConnWithin len fx.new }
         ensures ups { (fx.new.ups.first ≡ None) × (fx.new.ups.second ≡ None) }
@@ -466,7 +466,7 @@ impl Tcp {
 /// Whether a message by this slot is one of the peer's.
 #[inline(always)]
 fn comes_from(ask: &ConnAsk, slot: u8, msg: &Msg<'_>) -> bool
-    ensures { result ≡ comes_from ask.now slot (said msg.now) }
+    ensures { result ≡ comes_from_peer ask.now slot (said msg.now) }
 {
     slot == BELOW
         && is_stream_tag(msg.tag, StreamTag::Segment)

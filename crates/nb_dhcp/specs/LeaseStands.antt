@@ -1,7 +1,7 @@
 -- What a core stands for: all the calls since its start
 use Rattle.std.specs.Prelude.{◌≡◌, ℕ, false, List, Option, None, Some}
 use Rattle.nb_retry.specs.declared.plan.Plan.TheVariants.{Dhcp}
-use Rattle.nb_retry.specs.Calls.{TimerStands as TimerStands}
+use Rattle.nb_retry.specs.Calls.{TimerStands}
 use Rattle.nb_dhcp.specs.declared.asker.Asker.{Asker}
 use Rattle.nb_dhcp.specs.declared.state.State.{State}
 use Rattle.nb_dhcp.specs.History.{LeaseEntry, all_handed, Offered, offered, taken_offer, verdict_after, acknowledgement_in, is_done, lease_watch}

@@ -35,12 +35,12 @@ offer_in a bytes = option_and_then (offer_by a (server_in bytes)) (message_in by
 abbrev pub is_its : Ip4 → Option ℕ → Bool
 is_its server named = option_map_or (λ s. s == server.0) named false
 
-abbrev pub kind_by : Asker → Ip4 → Option ℕ → MessageParts → Option ℕ
-kind_by a server named m = if is_reply_to a m && is_its server named then Some m.kind else None
+abbrev pub reply_kind_by : Asker → Ip4 → Option ℕ → MessageParts → Option ℕ
+reply_kind_by a server named m = if is_reply_to a m && is_its server named then Some m.kind else None
 
 -- the kind of the message that the bytes are, where it is for this client and from this server
 unfoldable pub kind_from : Asker → Ip4 → List ℕ → Option ℕ
-kind_from a server bytes = option_and_then (kind_by a server (server_in bytes)) (message_in bytes)
+kind_from a server bytes = option_and_then (reply_kind_by a server (server_in bytes)) (message_in bytes)
 
 -- it acknowledges what was requested (5), or refuses it (6)
 abbrev pub acknowledges_for : Asker → Ip4 → List ℕ → Bool

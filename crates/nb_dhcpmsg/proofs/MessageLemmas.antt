@@ -6,11 +6,11 @@ use Rattle.nb_dhcpmsg.specs.declared.joined.Only.{Only}
 use Rattle.nb_dhcpmsg.specs.declared.joined.Only.TheVariants as one
 use Rattle.nb_dhcpmsg.specs.Options.{TagValue, AreOptions, joined}
 use Rattle.nb_dhcpmsg.specs.Messages.{MessageParts, IsMessage, HasOptions, field, only, overload, has_file, has_sname, used_if}
-use Rattle.nb_dhcpmsg.specs.Lefts.{IsLeft, OptionBegun, IsOnlyByte, byte_of}
+use Rattle.nb_dhcpmsg.specs.Lefts.{IsLeft, OptionBegun, IsOnlyByte, byte_of_only}
 use Rattle.nb_dhcpmsg.proofs.OptionLemmas.{options_one, nothing_none}
 use Rattle.nb_dhcpmsg.proofs.LeftLemmas.{left_one}
 
-pub byte_is : (o : Only) (tag : ℕ) (c : Cursor) (os : List TagValue) → IsOnlyByte o tag c → IsLeft c os → byte_of o ≡ only (joined tag os)
+pub byte_is : (o : Only) (tag : ℕ) (c : Cursor) (os : List TagValue) → IsOnlyByte o tag c → IsLeft c os → byte_of_only o ≡ only (joined tag os)
 byte_is one.Broken tag c os h left = absurd (h os left)
 byte_is one.Other tag c os (ps, other, none) left = sym none ∙ ap (λ z. only (joined tag z)) (left_one c ps os other left)
 byte_is (one.Byte byte) tag c os (ps, other, is) left = sym (ap only is) ∙ ap (λ z. only (joined tag z)) (left_one c ps os other left)
@@ -20,7 +20,7 @@ pub record Found (tag byte : ℕ) (c : Cursor) : Type 0 where
   pub left : IsLeft c options
   pub value : joined tag options ≡ byte ∷ []
 
-pub byte_found : (o : Only) (tag byte : ℕ) (c : Cursor) → IsOnlyByte o tag c → byte_of o ≡ Some byte → Found tag byte c
+pub byte_found : (o : Only) (tag byte : ℕ) (c : Cursor) → IsOnlyByte o tag c → byte_of_only o ≡ Some byte → Found tag byte c
 byte_found one.Broken tag byte c h e = absurd cc
 byte_found one.Other tag byte c h e = absurd cc
 byte_found (one.Byte b) tag byte c (os, left, is) e =
@@ -87,8 +87,8 @@ message_one bytes a b p q =
     ∙ ap (λ z. parts b.op b.xid b.yiaddr b.siaddr b.chaddr z) kind
 
 -- without a kind of one byte there is no message
-pub no_kind : (o : Only) (c : Cursor) (bytes : List ℕ) (m : MessageParts) → IsOnlyByte o 53 c → byte_of o ≡ None → OptionBegun c bytes → IsMessage bytes m → ⊥
+pub no_kind : (o : Only) (c : Cursor) (bytes : List ℕ) (m : MessageParts) → IsOnlyByte o 53 c → byte_of_only o ≡ None → OptionBegun c bytes → IsMessage bytes m → ⊥
 no_kind o c bytes m h none b is =
-    let e : byte_of o ≡ Some m.kind = byte_is o 53 c is.options h (begun_left c bytes is.options b is.has_options) ∙ ap only is.kind in
+    let e : byte_of_only o ≡ Some m.kind = byte_is o 53 c is.options h (begun_left c bytes is.options b is.has_options) ∙ ap only is.kind in
     let f : None ≡ Some m.kind = sym none ∙ e in
     absurd cc

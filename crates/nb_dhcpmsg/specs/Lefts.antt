@@ -77,7 +77,7 @@ pub record Walks (before : List TagValue) (start now : Cursor) : Type 0 where
   pub back : (os : List TagValue) → IsLeft now os → IsLeft start (before ++ os)
   pub forth : (os : List TagValue) → IsLeft start os → (more : List TagValue) × (os ≡ before ++ more) × IsLeft now more
 
-abbrev pub byte_of : Only → Option ℕ
-byte_of one.Broken = None
-byte_of one.Other = None
-byte_of (one.Byte byte) = Some byte
+abbrev pub byte_of_only : Only → Option ℕ
+byte_of_only one.Broken = None
+byte_of_only one.Other = None
+byte_of_only (one.Byte byte) = Some byte

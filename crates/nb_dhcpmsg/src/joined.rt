@@ -1,7 +1,7 @@
 //! A value joined from the options of one tag (RFC 3396).
 
 ghost use Rattle.std.specs.Prelude.{◌≡◌, ◌++◌, ℕ, List, [], length};
-ghost use Rattle.nb_dhcpmsg.specs.Lefts.{IsLength, IsOnlyByte, byte_of};
+ghost use Rattle.nb_dhcpmsg.specs.Lefts.{IsLength, IsOnlyByte, byte_of_only};
 
 use crate::cursor::{Cursor, Next};
 
@@ -39,7 +39,7 @@ pub(crate) enum Only {
 impl Only {
     /// The byte.
     pub(crate) fn byte(self) -> Option<u8>
-        ensures { result ≡ byte_of self }
+        ensures { result ≡ byte_of_only self }
     {
         match self {
             Only::Byte(byte) => Some(byte),

@@ -13,12 +13,12 @@ use Rattle.nb_iscsipdu.specs.Commands.{asked_len}
 use Rattle.nb_iscsipdu.specs.Answers.{AnswerParts, DataInParts}
 use Rattle.nb_iscsipdu.proofs.KeyLemmas.{either_way}
 use Rattle.nb_disk.specs.Histories.{DiskReading, SessionNumbers, tag_at_work, with_status, at_work, capacity_of}
-use Rattle.nb_disk.specs.DiskAnswers.{DiskAnswer, no_answer, ends, broken, refused, tested, answered, data_answer, response_answer, pdu_answer}
+use Rattle.nb_disk.specs.DiskAnswers.{DiskAnswer, no_answer, ends, broken, refused_cause, tested, command_answered, data_answer, response_answer, pdu_answer}
 use Rattle.nb_disk.specs.DiskEndings.{EndsTask, by_response, by_data, IsUnsound, IsPatient, DiskEnding, by_login, by_other, by_idle_response, by_idle_data, by_tag_of_response, by_failed_response, by_tag_of_data, by_offset, by_excess, by_unsound, by_status}
 
 -- the status of the command at work is answered as that
 task-comes : (o : SessionNumbers) (r : DiskReading) (rec : ℕ) (command : Command) (a : AnswerParts) (bytes : List ℕ) (s : TaskStatus) → at_work r ≡ Some command → EndsTask o r command a bytes s
-    → pdu_answer o r rec a ≡ answered o r rec command bytes s
+    → pdu_answer o r rec a ≡ command_answered o r rec command bytes s
 task-comes o r rec command a bytes s here (by_response p tag done) =
     let both : (eqb p.task_tag (tag_at_work o r) && eqb p.response 0) ≡ true = and_from _ _ (eq-eqb p.task_tag (tag_at_work o r) tag) (eq-eqb p.response 0 done) in
     rw (here, both) refl
@@ -32,7 +32,7 @@ unsized rec None is = refl
 unsized rec (Some capacity) is = absurd cc
 
 unsound-ends : (o : SessionNumbers) (r : DiskReading) (rec : ℕ) (command : Command) (bytes : List ℕ) (s : TaskStatus) → s.status ≡ 0 → IsUnsound command (r.bytes ++ bytes)
-    → (answered o r rec command bytes s).over ≡ Some (broken rec)
+    → (command_answered o r rec command bytes s).over ≡ Some (broken rec)
 unsound-ends o r rec TestUnitReady bytes s good unsound = absurd unsound
 unsound-ends o r rec ReadCapacity bytes s good unsound =
     let zero : eqb s.status 0 ≡ true = eq-eqb s.status 0 good in
@@ -45,7 +45,7 @@ unsound-ends o r rec (Read lba blocks) bytes s good unsound =
 
 -- the first three check conditions alone are answered
 untested : (o : SessionNumbers) (r after : DiskReading) (rec : ℕ) (s : TaskStatus) → eqb s.status 0 ≡ false → (IsPatient r TestUnitReady s.status → ⊥)
-    → (tested o after rec (length r.results) s.status).over ≡ Some (refused rec s.status)
+    → (tested o after rec (length r.results) s.status).over ≡ Some (refused_cause rec s.status)
 untested o r after rec s off last =
     either_way (eqb s.status 2 && ltb (length r.results) 3)
     (λ on.
@@ -54,7 +54,7 @@ untested o r after rec s off last =
     (λ none. rw (off, none) refl)
 
 status-ends : (o : SessionNumbers) (r : DiskReading) (rec : ℕ) (command : Command) (bytes : List ℕ) (s : TaskStatus) → 0 < s.status → (IsPatient r command s.status → ⊥)
-    → (answered o r rec command bytes s).over ≡ Some (refused rec s.status)
+    → (command_answered o r rec command bytes s).over ≡ Some (refused_cause rec s.status)
 status-ends o r rec TestUnitReady bytes s some last = untested o r (with_status r bytes s) rec s (ne_eqb s.status 0 (λ e. omega (arith, e))) last
 status-ends o r rec ReadCapacity bytes s some last =
     let off : eqb s.status 0 ≡ false = ne_eqb s.status 0 (λ e. omega (arith, e)) in

@@ -14,7 +14,7 @@ use Rattle.nb_iscsipdu.specs.Commands.{asked_len}
 use Rattle.nb_iscsipdu.specs.Answers.{AnswerParts, DataInParts, login, scsi, data_in, nop_in, other}
 use Rattle.nb_iscsipdu.proofs.KeyLemmas.{either_way}
 use Rattle.nb_disk.specs.Histories.{DiskReading, SessionNumbers, tag_at_work, with_status, at_work, capacity_of}
-use Rattle.nb_disk.specs.DiskAnswers.{no_answer, ends, broken, refused, nop_answer, tested, sized, have_read, answered, bytes_answer, data_answer, response_answer, pdu_answer}
+use Rattle.nb_disk.specs.DiskAnswers.{no_answer, ends, broken, refused_cause, nop_answer, tested, sized, have_read, command_answered, bytes_answer, data_answer, response_answer, pdu_answer}
 use Rattle.nb_disk.specs.DiskEndings.{EndsTask, by_response, by_data, DiskEnding, by_login, by_other, by_idle_response, by_idle_data, by_tag_of_response, by_failed_response, by_tag_of_data, by_offset, by_excess, by_unsound, by_status}
 
 caused : (c cause : Cause) → Some c ≡ Some cause → cause ≡ c
@@ -31,14 +31,14 @@ over-tested o r after rec a bytes s cause here task is =
     either_way (eqb s.status 2 && ltb (length r.results) 3)
     (λ on. let none : None ≡ Some cause = sym (rw on refl) ∙ more in absurd cc)
     (λ last.
-    let end : Some (refused rec s.status) ≡ Some cause = sym (rw last refl) ∙ more in
+    let end : Some (refused_cause rec s.status) ≡ Some cause = sym (rw last refl) ∙ more in
     let other = eqb-false s.status 0 off in
     by_status TestUnitReady bytes s here task (omega (arith, other))
     (λ p.
     let patient : (eqb s.status 2 && ltb (length r.results) 3) ≡ true = and_from (eqb s.status 2) (ltb (length r.results) 3) (eq-eqb s.status 2 p.0) (lt-ltb (length r.results) 3 p.1) in
     let e : true ≡ false = sym patient ∙ last in
     absurd cc)
-    (caused (refused rec s.status) cause end)))
+    (caused (refused_cause rec s.status) cause end)))
 
 over-found : (o : SessionNumbers) (r : DiskReading) (rec : ℕ) (a : AnswerParts) (bytes : List ℕ) (s : TaskStatus) (cause : Cause) (found : Option ℕ) → at_work r ≡ Some ReadCapacity → EndsTask o r ReadCapacity a bytes s
     → s.status ≡ 0 → found ≡ capacity_of (r.bytes ++ bytes) → (if is_some found then no_answer else ends (broken rec)).over ≡ Some cause → DiskEnding o r rec a cause
@@ -52,7 +52,7 @@ over-sized o r rec a bytes s cause here task is =
     (λ on. over-found o r rec a bytes s cause (capacity_of (r.bytes ++ bytes)) here task (eqb-true s.status 0 on) refl (sym (rw on refl) ∙ is))
     (λ off.
     let other = eqb-false s.status 0 off in
-    by_status ReadCapacity bytes s here task (omega (arith, other)) (λ p. p) (caused (refused rec s.status) cause (sym (rw off refl) ∙ is)))
+    by_status ReadCapacity bytes s here task (omega (arith, other)) (λ p. p) (caused (refused_cause rec s.status) cause (sym (rw off refl) ∙ is)))
 
 over-read : (o : SessionNumbers) (r : DiskReading) (rec lba blocks : ℕ) (a : AnswerParts) (bytes : List ℕ) (s : TaskStatus) (cause : Cause) → at_work r ≡ Some (Read lba blocks) → EndsTask o r (Read lba blocks) a bytes s
     → (have_read rec (512 * blocks) (length r.bytes) bytes s.status).over ≡ Some cause → DiskEnding o r rec a cause
@@ -67,10 +67,10 @@ over-read o r rec lba blocks a bytes s cause here task is =
     by_unsound (Read lba blocks) bytes s here task (eqb-true s.status 0 on) (λ e. other (sym (length-append r.bytes bytes) ∙ e)) (caused (broken rec) cause (sym (rw short refl) ∙ more))))
     (λ off.
     let other = eqb-false s.status 0 off in
-    by_status (Read lba blocks) bytes s here task (omega (arith, other)) (λ p. p) (caused (refused rec s.status) cause (sym (rw off refl) ∙ is)))
+    by_status (Read lba blocks) bytes s here task (omega (arith, other)) (λ p. p) (caused (refused_cause rec s.status) cause (sym (rw off refl) ∙ is)))
 
 over-answered : (o : SessionNumbers) (r : DiskReading) (rec : ℕ) (command : Command) (a : AnswerParts) (bytes : List ℕ) (s : TaskStatus) (cause : Cause) → at_work r ≡ Some command → EndsTask o r command a bytes s
-    → (answered o r rec command bytes s).over ≡ Some cause → DiskEnding o r rec a cause
+    → (command_answered o r rec command bytes s).over ≡ Some cause → DiskEnding o r rec a cause
 over-answered o r rec TestUnitReady a bytes s cause here task is = over-tested o r (with_status r bytes s) rec a bytes s cause here task is
 over-answered o r rec ReadCapacity a bytes s cause here task is = over-sized o r rec a bytes s cause here task is
 over-answered o r rec (Read lba blocks) a bytes s cause here task is = over-read o r rec lba blocks a bytes s cause here task is

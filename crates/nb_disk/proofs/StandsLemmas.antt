@@ -19,7 +19,7 @@ use Rattle.nb_iscsipdu.proofs.KeyLemmas.{either_way}
 use Rattle.nb_disk.specs.declared.work.Work.{Work}
 use Rattle.nb_disk.specs.declared.work.Work.TheVariants.{Testing, Sizing, Idle, Reading, Over}
 use Rattle.nb_disk.specs.Histories.{DiskCall, came, asked, stream_ended, TaskResult, DiskReading, SessionNumbers, nothing_read, counted, tag_at_work, with_status, with_bytes, after_answer, after_call, reading, at_work, capacity_read}
-use Rattle.nb_disk.specs.DiskAnswers.{DiskAnswer, no_answer, puts, gives, broken, commands_put, command_after, nop_answer, have_read, answered, given, bytes_answer, pdu_answer, disk_answer, ended_from, has_ended, acts_of}
+use Rattle.nb_disk.specs.DiskAnswers.{DiskAnswer, no_answer, puts, gives, broken, commands_put, command_after, nop_answer, have_read, command_answered, bytes_given, bytes_answer, pdu_answer, disk_answer, ended_from, session_has_ended, disk_acts}
 use Rattle.nb_disk.specs.Steps.{KeptNumbers, work_is_over, work_capacity, has_work, next_command, step_ends, kept_putting, kept_sized, step_answered, step_grown, step_bytes, fits_work, step_data, step_response, step_nop, step_pdu, IsDiskStep}
 use Rattle.nb_disk.specs.DiskStands.{IsTesting, IsAnsweredWell, IsSizing, IsIdleDisk, IsReadingDisk, IsSized, IsWorking, KeepsNumbers, DiskStands, IsDiskAnswer, is_out_of, is_out, RefusesRead}
 use Rattle.nb_disk.specs.declared.blocks.ReadRefusal.{ReadRefusal}
@@ -35,7 +35,7 @@ tag-busy o r k command kept at =
 
 -- a SCSI Response, where a command is at work
 response-busy : (o : SessionNumbers) (r : DiskReading) (k : KeptNumbers) (rec : ℕ) (work : Work) (command : Command) (a : ScsiResponse) → at_work r ≡ Some command → k.task ≡ tag_at_work o r → has_work work ≡ true
-    → work_capacity k.work ≡ capacity_read r → StepStands o (with_status r [] a.status) (step_answered k rec work [] a.status) (answered o r rec command [] a.status)
+    → work_capacity k.work ≡ capacity_read r → StepStands o (with_status r [] a.status) (step_answered k rec work [] a.status) (command_answered o r rec command [] a.status)
     → StepStands o (after_answer o r (scsi a)) (step_response k rec work a) (pdu_answer o r rec (scsi a))
 response-busy o r k rec work command a at tag has size good =
     let same : (eqb a.task_tag k.task && eqb a.response 0) ≡ (eqb a.task_tag (tag_at_work o r) && eqb a.response 0) = ap (λ (n : ℕ). eqb a.task_tag n && eqb a.response 0) tag in
@@ -51,16 +51,16 @@ abbrev in_order : DiskReading → Command → DataInParts → Bool
 in_order r command d = eqb d.offset (length r.bytes) && leb (length r.bytes + length d.bytes) (asked_len command)
 
 bytes-busy : (o : SessionNumbers) (r : DiskReading) (k : KeptNumbers) (rec : ℕ) (work : Work) (command : Command) (bytes : List ℕ) (status : Option TaskStatus)
-    → StepStands o (with_bytes r bytes None) (step_grown k work bytes) (gives (given command bytes))
-    → ((s : TaskStatus) → StepStands o (with_status r bytes s) (step_answered k rec work bytes s) (answered o r rec command bytes s))
+    → StepStands o (with_bytes r bytes None) (step_grown k work bytes) (gives (bytes_given command bytes))
+    → ((s : TaskStatus) → StepStands o (with_status r bytes s) (step_answered k rec work bytes s) (command_answered o r rec command bytes s))
     → StepStands o (with_bytes r bytes status) (step_bytes k rec work bytes status) (bytes_answer o r rec command bytes status)
 bytes-busy o r k rec work command bytes None grown done = grown
 bytes-busy o r k rec work command bytes (Some s) grown done = done s
 
 data-busy : (o : SessionNumbers) (r : DiskReading) (k : KeptNumbers) (rec : ℕ) (work : Work) (command : Command) (d : DataInParts) → at_work r ≡ Some command → k.task ≡ tag_at_work o r
     → fits_work k work d ≡ in_order r command d → work_capacity k.work ≡ capacity_read r
-    → (length r.bytes + length d.bytes ≤ asked_len command → StepStands o (with_bytes r d.bytes None) (step_grown k work d.bytes) (gives (given command d.bytes)))
-    → ((s : TaskStatus) → StepStands o (with_status r d.bytes s) (step_answered k rec work d.bytes s) (answered o r rec command d.bytes s))
+    → (length r.bytes + length d.bytes ≤ asked_len command → StepStands o (with_bytes r d.bytes None) (step_grown k work d.bytes) (gives (bytes_given command d.bytes)))
+    → ((s : TaskStatus) → StepStands o (with_status r d.bytes s) (step_answered k rec work d.bytes s) (command_answered o r rec command d.bytes s))
     → StepStands o (after_answer o r (data_in d)) (step_data k rec work d) (pdu_answer o r rec (data_in d))
 data-busy o r k rec work command d at tag same size grown done =
     let equal : (eqb d.task_tag k.task && fits_work k work d) ≡ (eqb d.task_tag (tag_at_work o r) && in_order r command d) =
@@ -146,7 +146,7 @@ grown-reading o r k capacity wanted got bytes kept is =
 
 -- what the answer to a read is by, in the terms of what is kept
 read-answered : (o : SessionNumbers) (r : DiskReading) (k : KeptNumbers) (rec capacity wanted got : ℕ) (bytes : List ℕ) (s : TaskStatus) → KeepsNumbers o r k → (is : IsReadingDisk r capacity wanted got) → work_capacity k.work ≡ Some capacity
-    → StepStands o (with_status r bytes s) (step_answered k rec (Reading capacity wanted got) bytes s) (answered o r rec (Read is.last.0 is.last.1) bytes s)
+    → StepStands o (with_status r bytes s) (step_answered k rec (Reading capacity wanted got) bytes s) (command_answered o r rec (Read is.last.0 is.last.1) bytes s)
 read-answered o r k rec capacity wanted got bytes s kept is size =
     let step = step_answered k rec (Reading capacity wanted got) bytes s in
     let after = with_status r bytes s in
@@ -232,21 +232,21 @@ ended-more o r (c ∷ calls) call =
     ∙ or-assoc (is_some (disk_answer o r c).over) (ended_from o (after_call o r c) calls) (is_some (disk_answer o (fold (after_call o) (after_call o r c) calls) call).over)
 
 -- a call more of a disk that goes on
-stands-more : (o : SessionNumbers) (calls : List DiskCall) (call : DiskCall) (new : KeptNumbers) → has_ended o calls ≡ false
+stands-more : (o : SessionNumbers) (calls : List DiskCall) (call : DiskCall) (new : KeptNumbers) → session_has_ended o calls ≡ false
     → work_is_over new.work ≡ is_some (disk_answer o (reading o calls) call).over
     → work_capacity new.work ≡ capacity_read (after_call o (reading o calls) call)
     → (is_some (disk_answer o (reading o calls) call).over ≡ false → KeepsNumbers o (after_call o (reading o calls) call) new)
     → DiskStands o (calls ++ call ∷ []) new
 stands-more o calls call new going over size live =
     let same : reading o (calls ++ call ∷ []) ≡ after_call o (reading o calls) call = fold-append (after_call o) nothing_read calls (call ∷ []) in
-    let all : has_ended o (calls ++ call ∷ []) ≡ is_some (disk_answer o (reading o calls) call).over = ended-more o nothing_read calls call ∙ rw going refl in
+    let all : session_has_ended o (calls ++ call ∷ []) ≡ is_some (disk_answer o (reading o calls) call).over = ended-more o nothing_read calls call ∙ rw going refl in
     record {
       over = over ∙ sym all;
       capacity = size ∙ ap capacity_read (sym same);
       live = λ off. subst (λ (x : DiskReading). KeepsNumbers o x new) (sym same) (live (sym over ∙ off));
     }
 
-pub stands-came : (o : SessionNumbers) (calls : List DiskCall) (k new : KeptNumbers) (rec : ℕ) (p : PduParts) → DiskStands o calls k → has_ended o calls ≡ false → new ≡ (step_pdu k rec (answer_read p)).kept
+pub stands-came : (o : SessionNumbers) (calls : List DiskCall) (k new : KeptNumbers) (rec : ℕ) (p : PduParts) → DiskStands o calls k → session_has_ended o calls ≡ false → new ≡ (step_pdu k rec (answer_read p)).kept
     → DiskStands o (calls ++ came rec p ∷ []) new × ((step_pdu k rec (answer_read p)).answer ≡ disk_answer o (reading o calls) (came rec p))
 stands-came o calls k new rec p stands going is =
     let step = step_pdu k rec (answer_read p) in
@@ -256,15 +256,15 @@ stands-came o calls k new rec p stands going is =
     (subst (λ (x : KeptNumbers). DiskStands o (calls ++ came rec p ∷ []) x) (sym is) here, s.answer)
 
 -- the stream's end ends it
-pub stands-finished : (o : SessionNumbers) (calls : List DiskCall) (k new : KeptNumbers) (rec : ℕ) → DiskStands o calls k → has_ended o calls ≡ false → new ≡ (step_ends k (broken rec)).kept
+pub stands-finished : (o : SessionNumbers) (calls : List DiskCall) (k new : KeptNumbers) (rec : ℕ) → DiskStands o calls k → session_has_ended o calls ≡ false → new ≡ (step_ends k (broken rec)).kept
     → DiskStands o (calls ++ stream_ended rec ∷ []) new
 stands-finished o calls k new rec stands going is =
     let s = ends-stands o (reading o calls) k (broken rec) stands.capacity in
     subst (λ (x : KeptNumbers). DiskStands o (calls ++ stream_ended rec ∷ []) x) (sym is) (stands-more o calls (stream_ended rec) (step_ends k (broken rec)).kept going s.over s.capacity s.live)
 
 pub finish-answers : (k new : KeptNumbers) (rec : ℕ) (text : Option (List ℕ)) (acts : Acts) → IsDiskStep (step_ends k (broken rec)) new text acts
-    → (o : SessionNumbers) (calls : List DiskCall) → DiskStands o calls k → has_ended o calls ≡ false
-    → DiskStands o (calls ++ stream_ended rec ∷ []) new × (acts ≡ acts_of (disk_answer o (reading o calls) (stream_ended rec)))
+    → (o : SessionNumbers) (calls : List DiskCall) → DiskStands o calls k → session_has_ended o calls ≡ false
+    → DiskStands o (calls ++ stream_ended rec ∷ []) new × (acts ≡ disk_acts (disk_answer o (reading o calls) (stream_ended rec)))
 finish-answers k new rec text acts step = λ o calls stands going. (stands-finished o calls k new rec stands going step.kept, step.asks)
 
 -- a read is put
@@ -320,11 +320,11 @@ busy-at o calls k stands off = busy-work k.work (reading o calls) k.sized off (s
 -- what a PDU comes to
 pub pdu-answers : (k new : KeptNumbers) (rec : ℕ) (p : PduParts) (result : Result (Option (List ℕ)) NoMemory) (acts : Acts)
     → IfOk result (λ text. IsDiskStep (step_pdu k rec (answer_read p)) new text acts)
-    → IfOk result (λ text. (o : SessionNumbers) (calls : List DiskCall) → DiskStands o calls k → has_ended o calls ≡ false
+    → IfOk result (λ text. (o : SessionNumbers) (calls : List DiskCall) → DiskStands o calls k → session_has_ended o calls ≡ false
     → DiskStands o (calls ++ came rec p ∷ []) new × IsDiskAnswer (disk_answer o (reading o calls) (came rec p)) text acts)
 pdu-answers k new rec p (Ok text) acts step = λ o calls stands going.
     let s = stands-came o calls k new rec p stands going step.kept in
-    (s.0, record { puts = step.puts ∙ ap (λ (a : DiskAnswer). option_map pdu_text a.put) s.1; asks = step.asks ∙ ap acts_of s.1 })
+    (s.0, record { puts = step.puts ∙ ap (λ (a : DiskAnswer). option_map pdu_text a.put) s.1; asks = step.asks ∙ ap disk_acts s.1 })
 pdu-answers k new rec p (Err e) acts step = tt
 
 -- a read is refused for its cause

@@ -13,7 +13,7 @@ use Rattle.nb_iscsipdu.proofs.KeyLemmas.{either_way}
 use Rattle.nb_disk.specs.declared.work.Work.{Work}
 use Rattle.nb_disk.specs.declared.work.Work.TheVariants.{Testing, Sizing}
 use Rattle.nb_disk.specs.Histories.{TaskResult, DiskReading, SessionNumbers, counted, with_status, at_work, capacity_of, first_capacity, capacity_read}
-use Rattle.nb_disk.specs.DiskAnswers.{DiskAnswer, no_answer, puts, ends, broken, refused, commands_put, expected, command_after, tested, sized, have_read}
+use Rattle.nb_disk.specs.DiskAnswers.{DiskAnswer, no_answer, puts, ends, broken, refused_cause, commands_put, expected_stat_sn, command_after, tested, sized, have_read}
 use Rattle.nb_disk.specs.Steps.{KeptNumbers, DiskStep, work_is_over, work_capacity, next_command, step_ends, kept_putting, step_puts, step_tested, kept_idle, kept_sized, step_capacity, step_sized, step_read}
 use Rattle.nb_disk.specs.DiskStands.{IsTesting, IsAnsweredWell, IsSizing, IsSized, IsIdleDisk, IsReadingDisk, IsWorking, KeepsNumbers}
 use Rattle.nb_disk.proofs.WorkLemmas.{counted-more, checks-added, at-testing, size-testing, size-refused, size-ready, at-sizing, at-idle, at-reading, size-sized, put-busy, put-idle, ready-added}
@@ -35,7 +35,7 @@ ends-stands o after k cause capacity = record {
 
 -- the next command
 pub putting-kept : (o : SessionNumbers) (r after : DiskReading) (k : KeptNumbers) (exp : ℕ) (work : Work) → KeepsNumbers o r k → 0 < commands_put r → commands_put after ≡ commands_put r + 1
-    → exp ≡ expected o after → IsWorking work after k.sized → KeepsNumbers o after (kept_putting k exp work)
+    → exp ≡ expected_stat_sn o after → IsWorking work after k.sized → KeepsNumbers o after (kept_putting k exp work)
 putting-kept o r after k exp work kept some count exp_is at =
     let before : commands_put r - 1 + 1 ≡ commands_put r = omega arith in
     let last : commands_put after - 1 ≡ commands_put r = omega arith in
@@ -47,7 +47,7 @@ putting-kept o r after k exp work kept some count exp_is at =
       work = at;
     }
 
-pub putting-answer : (o : SessionNumbers) (r after : DiskReading) (k : KeptNumbers) (exp : ℕ) (command : Command) → KeepsNumbers o r k → 0 < commands_put r → exp ≡ expected o after
+pub putting-answer : (o : SessionNumbers) (r after : DiskReading) (k : KeptNumbers) (exp : ℕ) (command : Command) → KeepsNumbers o r k → 0 < commands_put r → exp ≡ expected_stat_sn o after
     → next_command k exp command ≡ command_after o after (commands_put r) command
 putting-answer o r after k exp command kept some exp_is =
     let before : commands_put r - 1 + 1 ≡ commands_put r = omega arith in
@@ -113,7 +113,7 @@ tested-stands o r k rec checks bytes s kept none is size =
     (λ on.
     let both = and_parts (eqb s.status 2) (ltb checks 3) on in
     rw on (tested-check o r k rec checks bytes s kept none is (eqb-true s.status 2 both.0) (ltb-true checks 3 both.1)))
-    (λ more. rw more (ends-stands o after k (refused rec s.status) (size ∙ sym (size-refused r.results (result_of r bytes s) is.all other)))))) in
+    (λ more. rw more (ends-stands o after k (refused_cause rec s.status) (size ∙ sym (size-refused r.results (result_of r bytes s) is.all other)))))) in
     subst (λ (n : ℕ). StepStands o after (step_tested k rec checks s) (tested o after rec n s.status)) (sym is.count) here
 
 -- nothing is at work any more
@@ -168,7 +168,7 @@ sized-stands o r k rec bytes s kept is size =
     (λ off.
     let first : first_capacity (result ∷ []) ≡ None = rw off refl in
     let none : capacity_read after ≡ None = size-ready after (result ∷ []) (ready-added r after [] result is.ready refl) ∙ first in
-    rw off (ends-stands o after k (refused rec s.status) (size ∙ sym none))) in
+    rw off (ends-stands o after k (refused_cause rec s.status) (size ∙ sym none))) in
     subst (λ (x : List ℕ). StepStands o after (step_sized k rec bytes s) (sized rec x s.status)) same here
 
 -- a status of a read
@@ -197,4 +197,4 @@ read-stands o r k rec capacity wanted got bytes s kept is size =
       live = λ off. idle-kept o r k (Read is.last.0 is.last.1) bytes s capacity k.sized kept (at-reading r capacity wanted got is) idle;
     }))
     (λ short. rw short (ends-stands o after k (broken rec) same))))
-    (λ off. rw off (ends-stands o after k (refused rec s.status) same))
+    (λ off. rw off (ends-stands o after k (refused_cause rec s.status) same))

@@ -8,7 +8,7 @@ use Rattle.nb_iscsipdu.specs.declared.answer.ScsiResponse.{ScsiResponse}
 use Rattle.nb_iscsipdu.specs.Commands.{asked_len}
 use Rattle.nb_iscsipdu.specs.Answers.{AnswerParts, DataInParts, LoginResponseParts, login, scsi, data_in, other}
 use Rattle.nb_disk.specs.Histories.{DiskReading, SessionNumbers, tag_at_work, at_work, capacity_of}
-use Rattle.nb_disk.specs.DiskAnswers.{broken, refused}
+use Rattle.nb_disk.specs.DiskAnswers.{broken, refused_cause}
 
 -- a status of the command at work comes, with these bytes of data at last
 pub data EndsTask (o : SessionNumbers) (r : DiskReading) (command : Command) : AnswerParts → List ℕ → TaskStatus → Type 0 where
@@ -48,4 +48,4 @@ pub data DiskEnding (o : SessionNumbers) (r : DiskReading) (rec : ℕ) (a : Answ
       → IsUnsound command (r.bytes ++ bytes) → cause ≡ broken rec → DiskEnding o r rec a cause
   -- another status, but a check condition that is answered
   by_status : (command : Command) (bytes : List ℕ) (s : TaskStatus) → at_work r ≡ Some command → EndsTask o r command a bytes s → 0 < s.status
-      → (IsPatient r command s.status → ⊥) → cause ≡ refused rec s.status → DiskEnding o r rec a cause
+      → (IsPatient r command s.status → ⊥) → cause ≡ refused_cause rec s.status → DiskEnding o r rec a cause

@@ -9,7 +9,7 @@ use Rattle.nb_disk.specs.declared.blocks.ReadRefusal.TheVariants.{OutOfDisk, Bus
 use Rattle.nb_disk.specs.declared.work.Work.{Work}
 use Rattle.nb_disk.specs.declared.work.Work.TheVariants.{Testing, Sizing, Idle, Reading, Over}
 use Rattle.nb_disk.specs.Histories.{DiskCall, TaskResult, DiskReading, SessionNumbers, counted, reading, at_work, first_capacity, capacity_read}
-use Rattle.nb_disk.specs.DiskAnswers.{DiskAnswer, acts_of, commands_put, expected, has_ended}
+use Rattle.nb_disk.specs.DiskAnswers.{DiskAnswer, disk_acts, commands_put, expected_stat_sn, session_has_ended}
 use Rattle.nb_disk.specs.Steps.{KeptNumbers, work_is_over, work_capacity}
 
 -- a check condition, which is no good status
@@ -71,21 +71,21 @@ IsWorking (Over capacity) r size = ⊤
 pub record KeepsNumbers (o : SessionNumbers) (r : DiskReading) (k : KeptNumbers) : Type 0 where
   pub lun : k.lun ≡ o.lun
   pub cmd_sn : k.cmd_sn ≡ counted o.cmd_sn (commands_put r)
-  pub exp_stat_sn : k.exp_stat_sn ≡ expected o r
+  pub exp_stat_sn : k.exp_stat_sn ≡ expected_stat_sn o r
   pub task : k.task ≡ counted o.task (commands_put r - 1)
   pub work : IsWorking k.work r k.sized
 
 -- A disk that was started with these numbers stands for these calls: it has ended exactly where one of them gave an end, it keeps the
 -- capacity that was read, and as long as it goes on its numbers and its work are those that they leave.
 pub record DiskStands (o : SessionNumbers) (calls : List DiskCall) (k : KeptNumbers) : Type 0 where
-  pub over : work_is_over k.work ≡ has_ended o calls
+  pub over : work_is_over k.work ≡ session_has_ended o calls
   pub capacity : work_capacity k.work ≡ capacity_read (reading o calls)
   pub live : work_is_over k.work ≡ false → KeepsNumbers o (reading o calls) k
 
 -- what a call answers: it puts this text, and asks this of the caller
 pub record IsDiskAnswer (a : DiskAnswer) (text : Option (List ℕ)) (acts : Acts) : Type 0 where
   pub puts : text ≡ option_map pdu_text a.put
-  pub asks : acts ≡ acts_of a
+  pub asks : acts ≡ disk_acts a
 
 -- it goes beyond the capacity that was read
 abbrev pub is_out_of : Option ℕ → ℕ → ℕ → Bool

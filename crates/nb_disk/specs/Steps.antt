@@ -15,7 +15,7 @@ use Rattle.nb_disk.specs.declared.work.Work.{Work}
 use Rattle.nb_disk.specs.declared.work.Work.TheVariants.{Testing, Sizing, Idle, Reading, Over}
 use Rattle.nb_disk.specs.declared.kept.State.{State}
 use Rattle.nb_disk.specs.Histories.{counted, capacity_of}
-use Rattle.nb_disk.specs.DiskAnswers.{DiskAnswer, no_answer, puts, gives, ends, broken, refused, acts_of}
+use Rattle.nb_disk.specs.DiskAnswers.{DiskAnswer, no_answer, puts, gives, ends, broken, refused_cause, disk_acts}
 
 -- what is kept, without where it lies in memory
 pub record KeptNumbers : Type 0 where
@@ -92,7 +92,7 @@ abbrev pub step_tested : KeptNumbers → ℕ → ℕ → TaskStatus → DiskStep
 step_tested k rec checks s =
     if s.status == 0 then step_puts k (counted s.stat_sn 1) ReadCapacity Sizing
     else (if (s.status == 2) && nat_lt checks 3 then step_puts k (counted s.stat_sn 1) TestUnitReady (Testing (checks + 1))
-    else step_ends k (refused rec s.status))
+    else step_ends k (refused_cause rec s.status))
 
 -- nothing is at work after an answer of that number, on a disk of so many blocks
 abbrev pub kept_idle : KeptNumbers → TaskStatus → ℕ → KeptNumbers
@@ -110,12 +110,12 @@ step_capacity k rec s (Some capacity) = step_idle k s capacity []
 
 abbrev pub step_sized : KeptNumbers → ℕ → List ℕ → TaskStatus → DiskStep
 step_sized k rec bytes s =
-    if s.status == 0 then step_capacity (kept_sized k (k.sized ++ bytes)) rec s (capacity_of (k.sized ++ bytes)) else step_ends k (refused rec s.status)
+    if s.status == 0 then step_capacity (kept_sized k (k.sized ++ bytes)) rec s (capacity_of (k.sized ++ bytes)) else step_ends k (refused_cause rec s.status)
 
 abbrev pub step_read : KeptNumbers → ℕ → ℕ → ℕ → ℕ → List ℕ → TaskStatus → DiskStep
 step_read k rec capacity asked got bytes s =
     if s.status == 0 then (if got + length bytes == asked then step_idle k s capacity bytes else step_ends k (broken rec))
-    else step_ends k (refused rec s.status)
+    else step_ends k (refused_cause rec s.status)
 
 abbrev pub step_answered : KeptNumbers → ℕ → Work → List ℕ → TaskStatus → DiskStep
 step_answered k rec (Testing checks) bytes s = step_tested k rec checks s
@@ -174,7 +174,7 @@ step_pdu k rec other = step_ends k (broken rec)
 pub record IsDiskStep (s : DiskStep) (new : KeptNumbers) (text : Option (List ℕ)) (acts : Acts) : Type 0 where
   pub kept : new ≡ s.kept
   pub puts : text ≡ option_map pdu_text s.answer.put
-  pub asks : acts ≡ acts_of s.answer
+  pub asks : acts ≡ disk_acts s.answer
 
 -- bytes that can be taken as the last ones of the task at work
 abbrev pub HasRoom : Work → List ℕ → List ℕ → Type 0

@@ -1,7 +1,7 @@
 //! How a drive's session ends.
 
 ghost use Rattle.std.specs.Prelude.{◌≡◌};
-ghost use Rattle.nb_disk.specs.DiskAnswers.{broken, refused};
+ghost use Rattle.nb_disk.specs.DiskAnswers.{broken, refused_cause};
 
 use nb_terms::{Cause, Reason};
 
@@ -14,7 +14,7 @@ pub(crate) fn broken(rec: u32) -> Cause
 
 /// A SCSI status that isn't good.
 pub(crate) fn refused(rec: u32, status: u8) -> Cause
-    ensures { result ≡ refused rec status }
+    ensures { result ≡ refused_cause rec status }
 {
     Cause::from(Reason::Refused {
         rec,

@@ -45,7 +45,7 @@ impl Disk {
     ghost use Rattle.nb_iscsipdu.specs.PduTexts.{pdu_parts, pdu_text};
     ghost use Rattle.nb_iscsipdu.specs.declared.command.Command.TheVariants.{TestUnitReady};
     ghost use Rattle.nb_disk.specs.Histories.{DiskCall, came, asked, stream_ended, nothing_read, SessionNumbers, reading, at_work, capacity_read};
-    ghost use Rattle.nb_disk.specs.DiskAnswers.{opened_of, disk_answer, command_after, acts_of, asks_nothing, has_ended};
+    ghost use Rattle.nb_disk.specs.DiskAnswers.{opened_of, disk_answer, command_after, disk_acts, disk_asks_nothing, session_has_ended};
     ghost use Rattle.nb_disk.specs.DiskStands.{DiskStands, IsDiskAnswer, RefusesRead};
     ghost use Rattle.nb_disk.specs.Steps.{work_is_over, work_capacity, has_work, read_text, kept_asked};
     ghost use Rattle.nb_disk.specs.BlockReads.{TakesRead, WaitsForRead};
@@ -85,12 +85,12 @@ impl Disk {
         acts: &mut Acts,
     ) -> Result<Option<Text>, NoMemory>
         // With this PDU the disk stands for one call more, and answers it as all of them together call for.
-        ensures stands { IfOk result (λ text. (o : SessionNumbers) (calls : List DiskCall) → DiskStands o calls self.old → has_ended o calls ≡ false
+        ensures stands { IfOk result (λ text. (o : SessionNumbers) (calls : List DiskCall) → DiskStands o calls self.old → session_has_ended o calls ≡ false
             → DiskStands o (calls ++ came rec (pdu_parts p.now) ∷ []) self.new × IsDiskAnswer (disk_answer o (reading o calls) (came rec (pdu_parts p.now))) text acts.new) }
         // After its end it ignores every PDU.
-        ensures ended { (o : SessionNumbers) (calls : List DiskCall) → DiskStands o calls self.old → has_ended o calls ≡ true
-            → (result ≡ Ok None) × (self.new ≡ self.old) × (acts.new ≡ asks_nothing) }
-        ensures err { OnErr result ((self.new ≡ self.old) × (acts.new ≡ asks_nothing)) }
+        ensures ended { (o : SessionNumbers) (calls : List DiskCall) → DiskStands o calls self.old → session_has_ended o calls ≡ true
+            → (result ≡ Ok None) × (self.new ≡ self.old) × (acts.new ≡ disk_asks_nothing) }
+        ensures err { OnErr result ((self.new ≡ self.old) × (acts.new ≡ disk_asks_nothing)) }
     {
         acts.clear();
         if self.state.work.is_over() {
@@ -101,11 +101,11 @@ impl Disk {
 
     /// The stream has ended, or can't be read on: it ends, as this record brought it.
     pub fn finish(&mut self, rec: u32, acts: &mut Acts)
-        ensures stands { (o : SessionNumbers) (calls : List DiskCall) → DiskStands o calls self.old → has_ended o calls ≡ false
-            → DiskStands o (calls ++ stream_ended rec ∷ []) self.new × (acts.new ≡ acts_of (disk_answer o (reading o calls) (stream_ended rec))) }
+        ensures stands { (o : SessionNumbers) (calls : List DiskCall) → DiskStands o calls self.old → session_has_ended o calls ≡ false
+            → DiskStands o (calls ++ stream_ended rec ∷ []) self.new × (acts.new ≡ disk_acts (disk_answer o (reading o calls) (stream_ended rec))) }
         // After its end it ignores that.
-        ensures ended { (o : SessionNumbers) (calls : List DiskCall) → DiskStands o calls self.old → has_ended o calls ≡ true
-            → (self.new ≡ self.old) × (acts.new ≡ asks_nothing) }
+        ensures ended { (o : SessionNumbers) (calls : List DiskCall) → DiskStands o calls self.old → session_has_ended o calls ≡ true
+            → (self.new ≡ self.old) × (acts.new ≡ disk_asks_nothing) }
     {
         acts.clear();
         if self.state.work.is_over() {
@@ -167,7 +167,7 @@ impl Disk {
     /// Whether a command isn't answered.
     pub fn is_busy(&self) -> bool
         ensures value { result ≡ has_work self.now.work }
-        ensures at_work { (o : SessionNumbers) (calls : List DiskCall) → DiskStands o calls self.now → has_ended o calls ≡ false → result ≡ is_some (at_work (reading o calls)) }
+        ensures at_work { (o : SessionNumbers) (calls : List DiskCall) → DiskStands o calls self.now → session_has_ended o calls ≡ false → result ≡ is_some (at_work (reading o calls)) }
     {
         self.state.work.has_task()
     }
@@ -175,7 +175,7 @@ impl Disk {
     /// Whether it has ended.
     pub fn has_ended(&self) -> bool
         ensures value { result ≡ work_is_over self.now.work }
-        ensures stands { (o : SessionNumbers) (calls : List DiskCall) → DiskStands o calls self.now → result ≡ has_ended o calls }
+        ensures stands { (o : SessionNumbers) (calls : List DiskCall) → DiskStands o calls self.now → result ≡ session_has_ended o calls }
     {
         self.state.work.is_over()
     }

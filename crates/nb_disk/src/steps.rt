@@ -3,7 +3,7 @@
 ghost use Rattle.std.specs.Prelude.{◌≡◌, ◌≤◌, ◌<◌, ◌+◌, ◌*◌, ◌^◌, ◌++◌, [], true, length, nat_le, IfOk, OnErr, None, Some};
 ghost use Rattle.nb_iscsipdu.specs.PduTexts.{pdu_parts};
 ghost use Rattle.nb_iscsipdu.specs.Answers.{answer_read, data_in_parts};
-ghost use Rattle.nb_disk.specs.DiskAnswers.{acts_of, asks_nothing, ends, data_range};
+ghost use Rattle.nb_disk.specs.DiskAnswers.{disk_acts, disk_asks_nothing, ends, data_range};
 ghost use Rattle.nb_disk.specs.Steps.{IsDiskStep, HasRoom, HasMore, kept_of, step_ends, step_grown, step_tested, step_sized, step_read, step_answered, step_data, step_response, step_nop, step_pdu, fits_work, kept_sized, kept_idle};
 
 use crate::causes::{broken, refused};
@@ -55,9 +55,9 @@ impl State {
         p: &Pdu<'_>,
         acts: &mut Acts,
     ) -> Result<Option<Text>, NoMemory>
-        requires { acts.old ≡ asks_nothing }
+        requires { acts.old ≡ disk_asks_nothing }
         ensures ok { IfOk result (λ text. IsDiskStep (step_pdu (kept_of self.old) rec (answer_read (pdu_parts p.now))) (kept_of self.new) text acts.new) }
-        ensures err { OnErr result ((self.new ≡ self.old) × (acts.new ≡ asks_nothing)) }
+        ensures err { OnErr result ((self.new ≡ self.old) × (acts.new ≡ disk_asks_nothing)) }
     {
         if let Some(part) = DataIn::of(p) {
             return self.on_data(alloc, rec, &part, acts);
@@ -74,9 +74,9 @@ impl State {
         p: &Pdu<'_>,
         acts: &mut Acts,
     ) -> Result<Option<Text>, NoMemory>
-        requires { acts.old ≡ asks_nothing }
+        requires { acts.old ≡ disk_asks_nothing }
         ensures ok { IfOk result (λ text. IsDiskStep (step_pdu (kept_of self.old) rec (answer_read (pdu_parts p.now))) (kept_of self.new) text acts.new) }
-        ensures err { OnErr result ((self.new ≡ self.old) × (acts.new ≡ asks_nothing)) }
+        ensures err { OnErr result ((self.new ≡ self.old) × (acts.new ≡ disk_asks_nothing)) }
     {
         match Answer::read(p) {
             Answer::Nop(nop) => self.on_nop(alloc, &nop),
@@ -89,7 +89,7 @@ impl State {
 
     /// It ends.
     pub(crate) fn end(&mut self, cause: Cause, acts: &mut Acts) -> Option<Text>
-        requires { acts.old ≡ asks_nothing }
+        requires { acts.old ≡ disk_asks_nothing }
         ensures { IsDiskStep (step_ends (kept_of self.old) cause) (kept_of self.new) result acts.new }
     {
         self.work = Work::Over(self.work.capacity());
@@ -99,7 +99,7 @@ impl State {
 
     /// A NOP-In comes. The answer is immediate: it doesn't count the next command's number on.
     fn on_nop(&mut self, alloc: Global, nop: &NopIn) -> Result<Option<Text>, NoMemory>
-        ensures ok { IfOk result (λ text. IsDiskStep (step_nop (kept_of self.old) nop.now) (kept_of self.new) text asks_nothing) }
+        ensures ok { IfOk result (λ text. IsDiskStep (step_nop (kept_of self.old) nop.now) (kept_of self.new) text disk_asks_nothing) }
         ensures same { self.new ≡ self.old }
     {
         if nop.target_tag == NO_TAG {
@@ -123,9 +123,9 @@ impl State {
         response: &ScsiResponse,
         acts: &mut Acts,
     ) -> Result<Option<Text>, NoMemory>
-        requires { acts.old ≡ asks_nothing }
+        requires { acts.old ≡ disk_asks_nothing }
         ensures ok { IfOk result (λ text. IsDiskStep (step_response (kept_of self.old) rec self.old.work response.now) (kept_of self.new) text acts.new) }
-        ensures err { OnErr result ((self.new ≡ self.old) × (acts.new ≡ asks_nothing)) }
+        ensures err { OnErr result ((self.new ≡ self.old) × (acts.new ≡ disk_asks_nothing)) }
     {
         let _size = self.sized.len();
         if self.work.has_task() && response.task_tag == self.task && response.response == 0 {
@@ -144,9 +144,9 @@ impl State {
         part: &DataIn<'_>,
         acts: &mut Acts,
     ) -> Result<Option<Text>, NoMemory>
-        requires { acts.old ≡ asks_nothing }
+        requires { acts.old ≡ disk_asks_nothing }
         ensures ok { IfOk result (λ text. IsDiskStep (step_data (kept_of self.old) rec self.old.work (data_in_parts part.now)) (kept_of self.new) text acts.new) }
-        ensures err { OnErr result ((self.new ≡ self.old) × (acts.new ≡ asks_nothing)) }
+        ensures err { OnErr result ((self.new ≡ self.old) × (acts.new ≡ disk_asks_nothing)) }
     {
         if part.task_tag != self.task || !self.fits(part) {
             return Ok(self.end(broken(rec), acts));
@@ -181,7 +181,7 @@ impl State {
 
     /// Data comes without a status.
     fn grow(&mut self, bytes: &[u8], acts: &mut Acts) -> Option<Text>
-        requires nothing { acts.old ≡ asks_nothing }
+        requires nothing { acts.old ≡ disk_asks_nothing }
         requires more { HasMore self.old.work self.old.sized.items bytes.now }
         ensures { IsDiskStep (step_grown (kept_of self.old) self.old.work bytes.now) (kept_of self.new) result acts.new }
     {
@@ -223,10 +223,10 @@ impl State {
         status: TaskStatus,
         acts: &mut Acts,
     ) -> Result<Option<Text>, NoMemory>
-        requires nothing { acts.old ≡ asks_nothing }
+        requires nothing { acts.old ≡ disk_asks_nothing }
         requires room { HasRoom self.old.work self.old.sized.items bytes.now }
         ensures ok { IfOk result (λ text. IsDiskStep (step_answered (kept_of self.old) rec self.old.work bytes.now status) (kept_of self.new) text acts.new) }
-        ensures err { OnErr result ((self.new ≡ self.old) × (acts.new ≡ asks_nothing)) }
+        ensures err { OnErr result ((self.new ≡ self.old) × (acts.new ≡ disk_asks_nothing)) }
     {
         match self.work {
             Work::Testing(checks) => self.on_tested(alloc, rec, checks, status, acts),
@@ -250,9 +250,9 @@ impl State {
         status: TaskStatus,
         acts: &mut Acts,
     ) -> Result<Option<Text>, NoMemory>
-        requires { acts.old ≡ asks_nothing }
+        requires { acts.old ≡ disk_asks_nothing }
         ensures ok { IfOk result (λ text. IsDiskStep (step_tested (kept_of self.old) rec checks status) (kept_of self.new) text acts.new) }
-        ensures err { OnErr result ((self.new ≡ self.old) × (acts.new ≡ asks_nothing)) }
+        ensures err { OnErr result ((self.new ≡ self.old) × (acts.new ≡ disk_asks_nothing)) }
     {
         let next = status.stat_sn.wrapping_add(1);
         if status.status == GOOD {
@@ -279,7 +279,7 @@ impl State {
         status: TaskStatus,
         acts: &mut Acts,
     ) -> Option<Text>
-        requires nothing { acts.old ≡ asks_nothing }
+        requires nothing { acts.old ≡ disk_asks_nothing }
         requires room { length self.old.sized.items + length bytes.now ≤ 8 }
         ensures { IsDiskStep (step_sized (kept_of self.old) rec bytes.now status) (kept_of self.new) result acts.new }
     {
@@ -304,7 +304,7 @@ impl State {
         status: TaskStatus,
         acts: &mut Acts,
     ) -> Option<Text>
-        requires nothing { acts.old ≡ asks_nothing }
+        requires nothing { acts.old ≡ disk_asks_nothing }
         requires room { length bytes.now < 2 ^ 16 }
         ensures { IsDiskStep (step_read (kept_of self.old) rec capacity asked got bytes.now status) (kept_of self.new) result acts.new }
     {

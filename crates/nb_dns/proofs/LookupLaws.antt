@@ -13,7 +13,7 @@ use Rattle.nb_terms.specs.declared.acts.Acts.{Acts}
 use Rattle.nb_terms.specs.declared.cause.Cause.{Cause}
 use Rattle.nb_wire.specs.declared.address.Ip4.{Ip4}
 use Rattle.nb_dnsmsg.specs.declared.answer.Answer.{Answer}
-use Rattle.nb_dns.specs.Lookups.{Lookup, query_to, asks_nothing, asks_by, looked_up, lookup_refused, lookup_timed_out, lookup_cause}
+use Rattle.nb_dns.specs.Lookups.{Lookup, query_to, asks_lookup_nothing, asks_by, looked_up, lookup_refused, lookup_timed_out, lookup_cause}
 use Rattle.nb_dns.specs.LookupCalls.{DnsDatagram, LookupCall, arrived, clocked, LookupEntry, lookup_entry, datagrams, lookup_times, said_by, lookup_ended, EachLookupEntry, IsReplyTo, IsNoReply, IsSilentCall, FirstReply}
 use Rattle.nb_dns.specs.LookupPromises.{LookupMeets, AsksAt, AsksInTurn, TakesReply}
 use Rattle.nb_dns.specs.LookupEndings.{PlanFires, LookupEnding, by_address, by_code, by_no_address, by_no_reply}
@@ -81,7 +81,7 @@ tried_in_time l start h now n acts meets tried =
 pub no_try_by_datagram : (l : Lookup) (start : ℕ) (h : List LookupEntry) (m : DnsDatagram) (now n : ℕ) (acts : Acts) → LookupMeets l start (h ++ lookup_entry (arrived m now) acts ∷ []) → acts.tried ≡ Some n → ⊥
 no_try_by_datagram l start h m now n acts meets tried = by (last_asks l start h (lookup_entry (arrived m now) acts) meets)
   where
-    by : TakesReply l m acts ⊎ (IsNoReply l m × (acts ≡ asks_nothing)) → ⊥
+    by : TakesReply l m acts ⊎ (IsNoReply l m × (acts ≡ asks_lookup_nothing)) → ⊥
     by (inl takes) = none-some n (sym (ap (λ (x : Acts). x.tried) takes.ends) ∙ tried)
     by (inr (none, nothing)) = none-some n (sym (ap (λ (x : Acts). x.tried) nothing) ∙ tried)
 

@@ -10,13 +10,13 @@ use Rattle.nb_dnsmsg.specs.Reading.{dns_answer}
 use Rattle.nb_dnsmsg.proofs.MessageReadingLemmas.{answer_is, is_answer}
 use Rattle.nb_dns.specs.Lookups.{Lookup, address_given}
 use Rattle.nb_dns.specs.LookupCalls.{DnsDatagram, LookupEntry, datagrams, IsReplyTo, IsNoReply, IsSilentCall, FirstReply}
-use Rattle.nb_dns.specs.LookupReplies.{reply_in, first_reply, address_found}
+use Rattle.nb_dns.specs.LookupReplies.{lookup_reply_in, first_reply, address_found}
 use Rattle.nb_dns.specs.declared.state.State.{State}
 use Rattle.nb_dns.specs.LookupStands.{phase_address, LookupStands}
 use Rattle.nb_dns.proofs.CallsLemmas.{reply_one}
 use Rattle.nb_dns.proofs.WrittenLemmas.{either_way}
 
-pub reply_is : (l : Lookup) (m : DnsDatagram) (a : Answer) → reply_in l m ≡ Some a → IsReplyTo l m a
+pub reply_is : (l : Lookup) (m : DnsDatagram) (a : Answer) → lookup_reply_in l m ≡ Some a → IsReplyTo l m a
 reply_is l m a is = either_way (eqb m.src.0 l.server.0)
     (λ on. record {
       from_server = ap ip4 (eqb-true m.src.0 l.server.0 on);
@@ -24,17 +24,17 @@ reply_is l m a is = either_way (eqb m.src.0 l.server.0)
     })
     (λ off. absurd (none-some a (rw off at is)))
 
-pub is_reply : (l : Lookup) (m : DnsDatagram) (a : Answer) → IsReplyTo l m a → reply_in l m ≡ Some a
+pub is_reply : (l : Lookup) (m : DnsDatagram) (a : Answer) → IsReplyTo l m a → lookup_reply_in l m ≡ Some a
 is_reply l m a h =
     ap (λ b. cond b (dns_answer m.body l.id l.name) None) (eq-eqb m.src.0 l.server.0 (ap (λ (x : Ip4). x.0) h.from_server)) ∙ is_answer m.body l.id l.name a h.answers
 
-no_reply_is : (l : Lookup) (m : DnsDatagram) → reply_in l m ≡ None → IsNoReply l m
+no_reply_is : (l : Lookup) (m : DnsDatagram) → lookup_reply_in l m ≡ None → IsNoReply l m
 no_reply_is l m none a h = none-some a (sym none ∙ is_reply l m a h)
 
-is_no_reply : (l : Lookup) (m : DnsDatagram) → IsNoReply l m → reply_in l m ≡ None
-is_no_reply l m none = by (reply_in l m) refl
+is_no_reply : (l : Lookup) (m : DnsDatagram) → IsNoReply l m → lookup_reply_in l m ≡ None
+is_no_reply l m none = by (lookup_reply_in l m) refl
   where
-    by : (o : Option Answer) → reply_in l m ≡ o → o ≡ None
+    by : (o : Option Answer) → lookup_reply_in l m ≡ o → o ≡ None
     by None is = refl
     by (Some a) is = absurd (none a (reply_is l m a is))
 
@@ -45,9 +45,9 @@ is_first l (m ∷ ms) a (inr (none, first)) = ap (λ o. option_map_or Some o (fi
 
 pub first_is : (l : Lookup) (ms : List DnsDatagram) (a : Answer) → first_reply l ms ≡ Some a → FirstReply l ms a
 first_is l [] a is = absurd (none-some a is)
-first_is l (m ∷ ms) a is = by (reply_in l m) refl (first_is l ms a) is
+first_is l (m ∷ ms) a is = by (lookup_reply_in l m) refl (first_is l ms a) is
   where
-    by : (o : Option Answer) → reply_in l m ≡ o → (first_reply l ms ≡ Some a → FirstReply l ms a) → option_map_or Some o (first_reply l ms) ≡ Some a → FirstReply l (m ∷ ms) a
+    by : (o : Option Answer) → lookup_reply_in l m ≡ o → (first_reply l ms ≡ Some a → FirstReply l ms a) → option_map_or Some o (first_reply l ms) ≡ Some a → FirstReply l (m ∷ ms) a
     by (Some x) e later is = inl (reply_is l m a (e ∙ is))
     by None e later is = inr (no_reply_is l m e, later is)
 
@@ -57,9 +57,9 @@ is_silent l (m ∷ ms) (none, silent) = ap (λ o. option_map_or Some o (first_re
 
 pub silent_is : (l : Lookup) (ms : List DnsDatagram) → first_reply l ms ≡ None → IsSilentCall l ms
 silent_is l [] is = tt
-silent_is l (m ∷ ms) is = by (reply_in l m) refl (silent_is l ms) is
+silent_is l (m ∷ ms) is = by (lookup_reply_in l m) refl (silent_is l ms) is
   where
-    by : (o : Option Answer) → reply_in l m ≡ o → (first_reply l ms ≡ None → IsSilentCall l ms) → option_map_or Some o (first_reply l ms) ≡ None → IsSilentCall l (m ∷ ms)
+    by : (o : Option Answer) → lookup_reply_in l m ≡ o → (first_reply l ms ≡ None → IsSilentCall l ms) → option_map_or Some o (first_reply l ms) ≡ None → IsSilentCall l (m ∷ ms)
     by (Some x) e later is = absurd (none-some x (sym is))
     by None e later is = (no_reply_is l m e, later is)
 

@@ -5,12 +5,12 @@ use Rattle.nb_retry.specs.declared.retry.Due.TheVariants.{Not, Again, Over}
 use Rattle.nb_retry.specs.Timer.{due_at}
 use Rattle.nb_terms.specs.declared.acts.Acts.{Acts}
 use Rattle.nb_dns.specs.declared.state.State.{State}
-use Rattle.nb_dns.specs.Lookups.{asks_nothing, AsksOneQuery}
+use Rattle.nb_dns.specs.Lookups.{asks_lookup_nothing, AsksOneQuery}
 use Rattle.nb_dns.specs.LookupCalls.{DnsDatagram}
 use Rattle.nb_dns.specs.LookupStands.{lookup_has_ended}
 use Rattle.nb_dns.specs.Steps.{IsDatagramStep, after_end, no_reply, reply, lookup_due, clock_acts}
 
-nothing_simple : AsksOneQuery asks_nothing
+nothing_simple : AsksOneQuery asks_lookup_nothing
 nothing_simple = record { few = lit≤ tt; udp = tt; gives = refl }
 
 pub datagram_simple : (a b : State) (m : DnsDatagram) (acts : Acts) → IsDatagramStep a b m acts → AsksOneQuery acts
@@ -26,6 +26,6 @@ due_simple s Over = record { few = lit≤ tt; udp = tt; gives = refl }
 pub clock_simple : (s : State) (now : ℕ) → AsksOneQuery (clock_acts s now)
 clock_simple s now = by (lookup_has_ended s.phase)
   where
-    by : (b : Bool) → AsksOneQuery (cond b asks_nothing (lookup_due s (due_at s.retry now)))
+    by : (b : Bool) → AsksOneQuery (cond b asks_lookup_nothing (lookup_due s (due_at s.retry now)))
     by true = nothing_simple
     by false = due_simple s (due_at s.retry now)

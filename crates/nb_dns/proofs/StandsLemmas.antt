@@ -7,7 +7,7 @@ use Rattle.std.proofs.lemmas.List.{append-nil}
 use Rattle.nb_retry.specs.declared.plan.Plan.TheVariants.{Common}
 use Rattle.nb_retry.specs.declared.retry.Due.{Due}
 use Rattle.nb_retry.specs.declared.retry.Due.TheVariants.{Not, Again, Over}
-use Rattle.nb_retry.specs.Calls.{fires, TimerStands as TimerStands}
+use Rattle.nb_retry.specs.Calls.{fires, TimerStands}
 use Rattle.nb_retry.specs.Plans.{Asked, asked_at, firings, waits}
 use Rattle.nb_retry.specs.Timer.{started, due_at, after}
 use Rattle.nb_retry.proofs.PlanLemmas.{Stands-append as TimerStands-append, follows_plan, after-since}
@@ -17,7 +17,7 @@ use Rattle.nb_dnsmsg.specs.declared.answer.Answer.{Answer}
 use Rattle.nb_dnsmsg.specs.Messages.{question_text}
 use Rattle.nb_dns.specs.declared.state.State.{State}
 use Rattle.nb_dns.specs.declared.state.LookupPhase.TheVariants.{Asking, Found, Failed}
-use Rattle.nb_dns.specs.Lookups.{Lookup, to_port_53, asks_nothing, asks_try, asks_end, asks_by, lookup_cause, address_given}
+use Rattle.nb_dns.specs.Lookups.{Lookup, to_port_53, asks_lookup_nothing, asks_lookup_try, asks_lookup_end, asks_by, lookup_cause, address_given}
 use Rattle.nb_dns.specs.LookupCalls.{DnsDatagram, arrived, clocked, LookupEntry, lookup_entry, datagrams, lookup_times, said_by, lookup_ended, IsReplyTo, IsNoReply, IsSilentCall, FirstReply}
 use Rattle.nb_dns.specs.LookupPromises.{LookupMeets, AsksInTurn}
 use Rattle.nb_dns.specs.LookupStands.{lookup_has_ended, phase_address, lookup_of, LookupStands}
@@ -44,12 +44,12 @@ ends_not : (h : List LookupEntry) (e : LookupEntry) → e.acts.over ≡ None →
 ends_not h e none = lookup_ended-append h e ∙ ap (λ o. lookup_ended h || is_some o) none ∙ or_none (lookup_ended h)
 
 ignored_stands : (l : Lookup) (start : ℕ) (s : State) (h : List LookupEntry) (m : DnsDatagram) (now : ℕ) → LookupStands l start s h → lookup_has_ended s.phase ≡ false → IsNoReply l m
-    → LookupStands l start s (h ++ lookup_entry (arrived m now) asks_nothing ∷ [])
+    → LookupStands l start s (h ++ lookup_entry (arrived m now) asks_lookup_nothing ∷ [])
 ignored_stands l start s h m now stands running none =
-    let e : LookupEntry = lookup_entry (arrived m now) asks_nothing in
+    let e : LookupEntry = lookup_entry (arrived m now) asks_lookup_nothing in
     let looking = stands.looking running in
     let more : datagrams (h ++ e ∷ []) ≡ datagrams h ++ m ∷ [] = datagrams-append h e in
-    let times = times_same h m now asks_nothing in
+    let times = times_same h m now asks_lookup_nothing in
     let silent : IsSilentCall l (datagrams (h ++ e ∷ [])) = subst (λ (x : List DnsDatagram). IsSilentCall l x) (sym more) (silent-append l (datagrams h) m looking.silent none) in
     record {
       meets = record {
@@ -78,9 +78,9 @@ kept_end None = refl
 kept_end (Some address) = refl
 
 reply_stands : (l : Lookup) (start : ℕ) (s : State) (h : List LookupEntry) (m : DnsDatagram) (now : ℕ) (x : Answer) → LookupStands l start s h → lookup_has_ended s.phase ≡ false → IsReplyTo l m x
-    → LookupStands l start (record s { phase = phase_with x }) (h ++ lookup_entry (arrived m now) (asks_end (lookup_cause m.rec x)) ∷ [])
+    → LookupStands l start (record s { phase = phase_with x }) (h ++ lookup_entry (arrived m now) (asks_lookup_end (lookup_cause m.rec x)) ∷ [])
 reply_stands l start s h m now x stands running is =
-    let acts : Acts = asks_end (lookup_cause m.rec x) in
+    let acts : Acts = asks_lookup_end (lookup_cause m.rec x) in
     let e : LookupEntry = lookup_entry (arrived m now) acts in
     let looking = stands.looking running in
     let more : datagrams (h ++ e ∷ []) ≡ datagrams h ++ m ∷ [] = datagrams-append h e in
@@ -116,7 +116,7 @@ datagram_stands l start a b h m now acts (reply x running is same ends) stands g
 
 -- what has ended ignores a datagram
 pub datagram_over : (l : Lookup) (start : ℕ) (a b : State) (h : List LookupEntry) (m : DnsDatagram) (acts : Acts) → IsDatagramStep a b m acts → LookupStands l start a h → lookup_ended h ≡ true
-    → LookupStands l start b h × (acts ≡ asks_nothing)
+    → LookupStands l start b h × (acts ≡ asks_lookup_nothing)
 datagram_over l start a b h m acts (after_end over same nothing) stands ended = (subst (λ (y : State). LookupStands l start y h) (sym same) stands, nothing)
 datagram_over l start a b h m acts (no_reply none same nothing) stands ended = (subst (λ (y : State). LookupStands l start y h) (sym same) stands, nothing)
 datagram_over l start a b h m acts (reply x running is same ends) stands ended = absurd (false≢true (sym running ∙ (stands.over ∙ ended)))
@@ -125,7 +125,7 @@ datagram_over l start a b h m acts (reply x running is same ends) stands ended =
 asks_same : (l : Lookup) (s : State) (due : Due) → lookup_of s ≡ l → s.query.items ≡ question_text l.id l.name → lookup_due s due ≡ asks_by l due
 asks_same l s Not begun query = refl
 asks_same l s (Again n) begun query =
-    ap (λ (y : Lookup). asks_try (to_port_53 y.server y.own_port s.query.items) n) begun ∙ ap (λ (y : List ℕ). asks_try (to_port_53 l.server l.own_port y) n) query
+    ap (λ (y : Lookup). asks_lookup_try (to_port_53 y.server y.own_port s.query.items) n) begun ∙ ap (λ (y : List ℕ). asks_lookup_try (to_port_53 l.server l.own_port y) n) query
 asks_same l s Over begun query = refl
 
 said_so : (s : State) (due : Due) → said_by (lookup_due s due) ≡ due
@@ -200,7 +200,7 @@ pub clock_stands : (l : Lookup) (start : ℕ) (s new : State) (h : List LookupEn
 clock_stands l start s new h now acts asks becomes small stands going =
     let running : lookup_has_ended s.phase ≡ false = stands.over ∙ going in
     let due : Due = due_at s.retry now in
-    let asks2 : acts ≡ lookup_due s due = asks ∙ ap (λ t. cond t asks_nothing (lookup_due s due)) running in
+    let asks2 : acts ≡ lookup_due s due = asks ∙ ap (λ t. cond t asks_lookup_nothing (lookup_due s due)) running in
     let becomes2 : new ≡ after_saying (record s { retry = after s.retry now }) due = becomes ∙ ap (λ t. cond t s (after_saying (record s { retry = after s.retry now }) due)) running in
     subst (λ (y : State). LookupStands l start y (h ++ lookup_entry (clocked now) acts ∷ [])) (sym becomes2)
     (subst (λ (y : Acts). LookupStands l start (after_saying (record s { retry = after s.retry now }) due) (h ++ lookup_entry (clocked now) y ∷ [])) (sym asks2)

@@ -5,19 +5,19 @@ use Rattle.nb_retry.specs.Calls.{fires}
 use Rattle.nb_retry.specs.Plans.{firings, waits}
 use Rattle.nb_terms.specs.declared.acts.Acts.{Acts}
 use Rattle.nb_dnsmsg.specs.declared.answer.Answer.{Answer}
-use Rattle.nb_dns.specs.Lookups.{Lookup, asks_nothing, asks_end, asks_by, lookup_cause}
+use Rattle.nb_dns.specs.Lookups.{Lookup, asks_lookup_nothing, asks_lookup_end, asks_by, lookup_cause}
 use Rattle.nb_dns.specs.LookupCalls.{LookupCall, arrived, clocked, DnsDatagram, LookupEntry, datagrams, lookup_times, said_by, EachLookupEntry, IsReplyTo, IsNoReply, IsSilentCall}
 
 -- the datagram replies, and its answer ends the look-up
 pub record TakesReply (l : Lookup) (m : DnsDatagram) (acts : Acts) : Type 0 where
   pub answer : Answer
   pub replies : IsReplyTo l m answer
-  pub ends : acts ≡ asks_end (lookup_cause m.rec answer)
+  pub ends : acts ≡ asks_lookup_end (lookup_cause m.rec answer)
 
 -- What a call asks: a reply ends the look-up, and what is no reply is ignored. At a time the query is sent
 -- again, or given up, only while no datagram has replied.
 abbrev pub AsksAt : Lookup → List DnsDatagram → LookupCall → Acts → Type 0
-AsksAt l before (arrived m now) acts = TakesReply l m acts ⊎ (IsNoReply l m × (acts ≡ asks_nothing))
+AsksAt l before (arrived m now) acts = TakesReply l m acts ⊎ (IsNoReply l m × (acts ≡ asks_lookup_nothing))
 AsksAt l before (clocked now) acts = (acts ≡ asks_by l (said_by acts)) × IsSilentCall l before
 
 abbrev pub AsksInTurn : Lookup → List LookupEntry → LookupEntry → Type 0

@@ -8,13 +8,13 @@ use Rattle.nb_dns.specs.Lookups.{Lookup, address_given}
 use Rattle.nb_dns.specs.LookupCalls.{DnsDatagram}
 
 -- the answer of a datagram, where it comes from the server and answers the query
-abbrev pub reply_in : Lookup → DnsDatagram → Option Answer
-reply_in l m = if m.src.0 == l.server.0 then dns_answer m.body l.id l.name else None
+abbrev pub lookup_reply_in : Lookup → DnsDatagram → Option Answer
+lookup_reply_in l m = if m.src.0 == l.server.0 then dns_answer m.body l.id l.name else None
 
 -- the answer of the first datagram that replies
 abbrev pub first_reply : Lookup → List DnsDatagram → Option Answer
 first_reply l [] = None
-first_reply l (m ∷ ms) = option_map_or Some (reply_in l m) (first_reply l ms)
+first_reply l (m ∷ ms) = option_map_or Some (lookup_reply_in l m) (first_reply l ms)
 
 -- the address that the first reply gives: none where no datagram replies, or the reply has an error's
 -- response code or no address

@@ -1,7 +1,7 @@
 -- What a look-up stands for: all the calls since its start
 use Rattle.std.specs.Prelude.{◌≡◌, ℕ, Bool, true, false, List, Option, Some, None}
 use Rattle.nb_retry.specs.declared.plan.Plan.TheVariants.{Common}
-use Rattle.nb_retry.specs.Calls.{TimerStands as TimerStands}
+use Rattle.nb_retry.specs.Calls.{TimerStands}
 use Rattle.nb_wire.specs.declared.address.Ip4.{Ip4}
 use Rattle.nb_dnsmsg.specs.declared.answer.Answer.{Answer}
 use Rattle.nb_dnsmsg.specs.Messages.{question_text}

@@ -34,15 +34,15 @@ to_port_53 server own_port body = record { proto = 17; to = server; to_port = 53
 abbrev pub query_to : Lookup → SendTo
 query_to l = to_port_53 l.server l.own_port (question_text l.id l.name)
 
-abbrev pub asks_nothing : Acts
-asks_nothing = record { sends = record { items = [] }; tried = None; advance = None; give = None; ready = false; over = None }
+abbrev pub asks_lookup_nothing : Acts
+asks_lookup_nothing = record { sends = record { items = [] }; tried = None; advance = None; give = None; ready = false; over = None }
 
 -- a message is sent as the try of a number
-abbrev pub asks_try : SendTo → ℕ → Acts
-asks_try send n = record { sends = record { items = send ∷ [] }; tried = Some n; advance = None; give = None; ready = false; over = None }
+abbrev pub asks_lookup_try : SendTo → ℕ → Acts
+asks_lookup_try send n = record { sends = record { items = send ∷ [] }; tried = Some n; advance = None; give = None; ready = false; over = None }
 
-abbrev pub asks_end : Cause → Acts
-asks_end cause = record { sends = record { items = [] }; tried = None; advance = None; give = None; ready = false; over = Some cause }
+abbrev pub asks_lookup_end : Cause → Acts
+asks_lookup_end cause = record { sends = record { items = [] }; tried = None; advance = None; give = None; ready = false; over = Some cause }
 
 -- a call asks for at most one message, by UDP (protocol 17), and gives no bytes up
 pub record AsksOneQuery (acts : Acts) : Type 0 where
@@ -72,6 +72,6 @@ lookup_cause rec a = option_map_or (λ address. looked_up) (address_given a) (lo
 
 -- what the timer's answer asks: the query again, or the end
 abbrev pub asks_by : Lookup → Due → Acts
-asks_by l Not = asks_nothing
-asks_by l (Again n) = asks_try (query_to l) n
-asks_by l Over = asks_end lookup_timed_out
+asks_by l Not = asks_lookup_nothing
+asks_by l (Again n) = asks_lookup_try (query_to l) n
+asks_by l Over = asks_lookup_end lookup_timed_out

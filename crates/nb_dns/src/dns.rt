@@ -29,7 +29,7 @@ impl Dns {
     ghost use Rattle.std.specs.Prelude.{◌≡◌, ◌∷◌, ◌++◌, [], ℕ, List, IsErr, IfOk, OnErr, OnOk, None, true, false};
     ghost use Rattle.nb_dnsmsg.specs.declared.answer.Answer.{Answer};
     ghost use Rattle.nb_dns.specs.WrittenNames.{IsLookupName};
-    ghost use Rattle.nb_dns.specs.Lookups.{AsksOneQuery, Lookup, lookup, query_to, asks_nothing, asks_try, address_given};
+    ghost use Rattle.nb_dns.specs.Lookups.{AsksOneQuery, Lookup, lookup, query_to, asks_lookup_nothing, asks_lookup_try, address_given};
     ghost use Rattle.nb_dns.specs.LookupCalls.{LookupEntry, lookup_entry, arrived, clocked, dns_datagram, datagrams, lookup_ended, IsSilentCall, FirstReply};
     ghost use Rattle.nb_dns.specs.LookupReplies.{address_found};
     ghost use Rattle.nb_dns.specs.LookupStands.{LookupStands};
@@ -46,9 +46,9 @@ impl Dns {
     ) -> Result<Dns, BadName>
         ensures bad_name { IsErr result → IsLookupName name.now → ⊥ }
         ensures good_name { OnOk result (IsLookupName name.now) }
-        ensures refused { OnErr result (acts.new ≡ asks_nothing) }
+        ensures refused { OnErr result (acts.new ≡ asks_lookup_nothing) }
         // The query is sent, under a timer, and no call stands after it.
-        ensures query { OnOk result (acts.new ≡ asks_try (query_to (lookup server own_port id name.now)) 1) }
+        ensures query { OnOk result (acts.new ≡ asks_lookup_try (query_to (lookup server own_port id name.now)) 1) }
         ensures stands { IfOk result (λ d. LookupStands (lookup server own_port id name.now) now d []) }
         ensures simple { AsksOneQuery acts.new }
     {
@@ -72,7 +72,7 @@ impl Dns {
         // It asks for at most one message, by UDP, and gives no bytes up.
         ensures simple { AsksOneQuery acts.new }
         // After its end it ignores every call.
-        ensures ended { (l : Lookup) (start : ℕ) (h : List LookupEntry) → LookupStands l start self.old h → lookup_ended h ≡ true → LookupStands l start self.new h × (acts.new ≡ asks_nothing) }
+        ensures ended { (l : Lookup) (start : ℕ) (h : List LookupEntry) → LookupStands l start self.old h → lookup_ended h ≡ true → LookupStands l start self.new h × (acts.new ≡ asks_lookup_nothing) }
     {
         acts.clear();
         self.state.datagram(rec, src, body, acts);
@@ -82,7 +82,7 @@ impl Dns {
     pub fn time(&mut self, now: u64, acts: &mut Acts)
         ensures stands { (l : Lookup) (start : ℕ) (h : List LookupEntry) → LookupStands l start self.old h → lookup_ended h ≡ false → LookupStands l start self.new (h ++ lookup_entry (clocked now) acts.new ∷ []) }
         ensures simple { AsksOneQuery acts.new }
-        ensures ended { (l : Lookup) (start : ℕ) (h : List LookupEntry) → LookupStands l start self.old h → lookup_ended h ≡ true → LookupStands l start self.new h × (acts.new ≡ asks_nothing) }
+        ensures ended { (l : Lookup) (start : ℕ) (h : List LookupEntry) → LookupStands l start self.old h → lookup_ended h ≡ true → LookupStands l start self.new h × (acts.new ≡ asks_lookup_nothing) }
     {
         acts.clear();
         self.state.clock(now, acts);

@@ -9,7 +9,7 @@ ghost use Rattle.nb_dnsmsg.specs.declared.answer.Answer.{Answer};
 ghost use Rattle.nb_dns.specs.WrittenNames.{IsLookupName, is_lookup_name};
 ghost use Rattle.nb_dns.specs.Lookups.{Lookup, query_to, address_given};
 ghost use Rattle.nb_dns.specs.LookupCalls.{LookupCall, DnsDatagram, LookupEntry, lookup_entry, arrived, clocked, datagrams, lookup_ended, IsReplyTo, IsSilentCall, FirstReply};
-ghost use Rattle.nb_dns.specs.LookupReplies.{reply_in, first_reply, address_found};
+ghost use Rattle.nb_dns.specs.LookupReplies.{lookup_reply_in, first_reply, address_found};
 ghost use Rattle.nb_dns.specs.LookupPromises.{LookupMeets};
 ghost use Rattle.nb_dns.specs.LookupEndings.{LookupEnding, PlanFires};
 
@@ -49,7 +49,7 @@ pub fn names_are_tested()
 /// What replies is a function of what arrived: of a datagram its reply, and of many the first one, where one
 /// replies (RFC 1035, section 7.3).
 pub fn replies_are_read_by_the_grammar()
-    ensures reply { (l : Lookup) (m : DnsDatagram) (a : Answer) → (reply_in l m ≡ Some a) ↔ IsReplyTo l m a }
+    ensures reply { (l : Lookup) (m : DnsDatagram) (a : Answer) → (lookup_reply_in l m ≡ Some a) ↔ IsReplyTo l m a }
     ensures first { (l : Lookup) (ms : List DnsDatagram) (a : Answer) → (first_reply l ms ≡ Some a) ↔ FirstReply l ms a }
     ensures silent { (l : Lookup) (ms : List DnsDatagram) → (first_reply l ms ≡ None) ↔ IsSilentCall l ms }
 {}

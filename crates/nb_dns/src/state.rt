@@ -6,7 +6,7 @@ ghost use Rattle.nb_retry.specs.Timer.{started};
 ghost use Rattle.nb_dnsmsg.specs.Names.{IsDnsName};
 ghost use Rattle.nb_dnsmsg.specs.Messages.{question_text};
 ghost use Rattle.nb_dns.specs.declared.state.LookupPhase.TheVariants.{Asking};
-ghost use Rattle.nb_dns.specs.Lookups.{to_port_53, asks_nothing, asks_try, lookup_cause};
+ghost use Rattle.nb_dns.specs.Lookups.{to_port_53, asks_lookup_nothing, asks_lookup_try, lookup_cause};
 ghost use Rattle.nb_dns.specs.LookupCalls.{dns_datagram};
 ghost use Rattle.nb_dns.specs.LookupStands.{lookup_has_ended, phase_address};
 ghost use Rattle.nb_dns.specs.Steps.{IsDatagramStep, phase_with, clock_acts, after_clock};
@@ -79,7 +79,7 @@ impl State {
 
     /// A datagram comes from this address. What isn't the server's answer is ignored.
     pub(crate) fn datagram(&mut self, rec: u32, src: Ip4, body: &[u8], acts: &mut Acts)
-        requires { acts.old ≡ asks_nothing }
+        requires { acts.old ≡ asks_lookup_nothing }
         ensures { IsDatagramStep self.old self.new (dns_datagram rec src body.now) acts.new }
     {
         if self.phase.has_ended() || src != self.server {
@@ -93,7 +93,7 @@ impl State {
 
     /// It is this time.
     pub(crate) fn clock(&mut self, now: u64, acts: &mut Acts)
-        requires { acts.old ≡ asks_nothing }
+        requires { acts.old ≡ asks_lookup_nothing }
         ensures acts { acts.new ≡ clock_acts self.old now }
         ensures after { self.new ≡ after_clock self.old now }
     {
@@ -112,8 +112,8 @@ impl State {
 
     /// The query is sent, as the try of this number.
     pub(crate) fn ask(&self, n: u8, acts: &mut Acts)
-        requires { acts.old ≡ asks_nothing }
-        ensures { acts.new ≡ asks_try (to_port_53 self.now.server self.now.own_port self.now.query.items) n }
+        requires { acts.old ≡ asks_lookup_nothing }
+        ensures { acts.new ≡ asks_lookup_try (to_port_53 self.now.server self.now.own_port self.now.query.items) n }
     {
         acts.sends.add(
             UDP,

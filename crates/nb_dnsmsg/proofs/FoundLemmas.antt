@@ -9,7 +9,7 @@ use Rattle.nb_dnsmsg.specs.declared.section.Want.TheVariants as want
 use Rattle.nb_dnsmsg.specs.Records.{RecordData, host_address, alias_name, other_data, ResourceRecord, resource_record, IsRecordAt, AreRecordsAt}
 use Rattle.nb_dnsmsg.specs.Names.{IsNameAt}
 use Rattle.nb_dnsmsg.specs.Messages.{is_same_name, first_read, answer_address, alias_in, reached_by, ip4}
-use Rattle.nb_dnsmsg.specs.Views.{IsKept, wants, first_wanted, IsSectionAt, IsFirstFound, IsStepped, AddressIs, kept_address, kept_alias}
+use Rattle.nb_dnsmsg.specs.Views.{IsRecordKept, wants, first_wanted, IsSectionAt, IsFirstFound, IsStepped, AddressIs, kept_address, kept_alias}
 use Rattle.nb_dnsmsg.specs.Walks.{IsNameRead}
 use Rattle.nb_dnsmsg.proofs.RecordLemmas.{name_one, record_one}
 
@@ -19,7 +19,7 @@ either_rest false x = refl
 
 -- a record that isn't wanted is passed
 pub not_found : (w : Want) (message : List ℕ) (kept : Rdata) (owner : List ℕ) (d : RecordData) (name : List ℕ) (rs : List ResourceRecord)
-    → IsKept message kept d → (wants w kept && is_same_name owner name) ≡ false → first_wanted w name (resource_record owner d ∷ rs) ≡ first_wanted w name rs
+    → IsRecordKept message kept d → (wants w kept && is_same_name owner name) ≡ false → first_wanted w name (resource_record owner d ∷ rs) ≡ first_wanted w name rs
 not_found want.Address message (Address a) owner (host_address n) name rs is no_match = ap (λ b. option_map host_address (cond b (Some n) (first_read answer_address name rs))) no_match
 not_found want.Address message (Alias p) owner (alias_name n) name rs is no_match = ap (option_map host_address) (either_rest (is_same_name owner name) (first_read answer_address name rs))
 not_found want.Address message Other owner other_data name rs is no_match = ap (option_map host_address) (either_rest (is_same_name owner name) (first_read answer_address name rs))
@@ -35,7 +35,7 @@ not_found w message Other owner (alias_name n) name rs is no_match = absurd is
 
 -- a record that is wanted is the first
 pub found_here : (w : Want) (message : List ℕ) (kept : Rdata) (owner : List ℕ) (d : RecordData) (name : List ℕ) (rs : List ResourceRecord)
-    → IsKept message kept d → (wants w kept && is_same_name owner name) ≡ true → first_wanted w name (resource_record owner d ∷ rs) ≡ Some d
+    → IsRecordKept message kept d → (wants w kept && is_same_name owner name) ≡ true → first_wanted w name (resource_record owner d ∷ rs) ≡ Some d
 found_here want.Address message (Address a) owner (host_address n) name rs is match = ap (λ b. option_map host_address (cond b (Some n) (first_read answer_address name rs))) match
 found_here want.Address message (Alias p) owner (alias_name n) name rs is match = absurd cc
 found_here want.Address message Other owner other_data name rs is match = absurd cc
@@ -84,13 +84,13 @@ headed message w name place n rs r next s some at = by s.more s.stand s.count s.
         }
 
 pub search_on : (message : List ℕ) (w : Want) (name : List ℕ) (place n : ℕ) (rs : List ResourceRecord) (kept : Rdata) (owner : List ℕ) (d : RecordData) (next : ℕ) → Searched message w name place n rs → n < length rs
-    → IsRecordAt message place (resource_record owner d) next → IsKept message kept d → (wants w kept && is_same_name owner name) ≡ false → Searched message w name next (n + 1) rs
+    → IsRecordAt message place (resource_record owner d) next → IsRecordKept message kept d → (wants w kept && is_same_name owner name) ≡ false → Searched message w name next (n + 1) rs
 search_on message w name place n rs kept owner d next s some at is no_match =
     let h = headed message w name place n rs (resource_record owner d) next s some at in
     record { more = h.more; end = h.end; stand = h.stand; count = let c = h.count in omega (arith, c); same = h.same ∙ not_found w message kept owner d name h.more is no_match }
 
 pub search_ends : (message : List ℕ) (w : Want) (name : List ℕ) (place n : ℕ) (rs : List ResourceRecord) (kept : Rdata) (owner : List ℕ) (d : RecordData) (next : ℕ) → Searched message w name place n rs → n < length rs
-    → IsRecordAt message place (resource_record owner d) next → IsKept message kept d → (wants w kept && is_same_name owner name) ≡ true → first_wanted w name rs ≡ Some d
+    → IsRecordAt message place (resource_record owner d) next → IsRecordKept message kept d → (wants w kept && is_same_name owner name) ≡ true → first_wanted w name rs ≡ Some d
 search_ends message w name place n rs kept owner d next s some at is match =
     let h = headed message w name place n rs (resource_record owner d) next s some at in
     h.same ∙ found_here w message kept owner d name h.more is match
@@ -115,7 +115,7 @@ search_fails message w name place n rs s some none = by s.more s.stand s.count
 
 abbrev IsAddressHere : List ℕ → Option Rdata → Option ℕ → Type 0
 IsAddressHere message None x = option_map host_address x ≡ None
-IsAddressHere message (Some kept) x = (d : RecordData) × (option_map host_address x ≡ Some d) × IsKept message kept d
+IsAddressHere message (Some kept) x = (d : RecordData) × (option_map host_address x ≡ Some d) × IsRecordKept message kept d
 
 kept_here : (message : List ℕ) (o : Option Rdata) (x : Option ℕ) → IsAddressHere message o x → kept_address o ≡ option_map ip4 x
 kept_here message None None is = refl
@@ -142,7 +142,7 @@ pub record AliasHere (message : List ℕ) (x : Option (List ℕ)) (place : ℕ) 
   pub first : x ≡ Some target
   pub stands : IsNameAt message place target end
 
-target_here : (message : List ℕ) (x : Option (List ℕ)) (d : RecordData) (place : ℕ) → option_map alias_name x ≡ Some d → IsKept message (Alias place) d → AliasHere message x place
+target_here : (message : List ℕ) (x : Option (List ℕ)) (d : RecordData) (place : ℕ) → option_map alias_name x ≡ Some d → IsRecordKept message (Alias place) d → AliasHere message x place
 target_here message None d place is keeps = absurd cc
 target_here message (Some name) (host_address n) place is keeps = absurd keeps
 target_here message (Some name) other_data place is keeps = absurd keeps
@@ -155,10 +155,10 @@ alias_found message name rs None place found is = absurd cc
 alias_found message name rs (Some (Address a)) place found is = absurd cc
 alias_found message name rs (Some (Alias p)) place (d, first, keeps) is =
     let same : p ≡ place = cc in
-    target_here message (first_read alias_in name rs) d place first (subst (λ x. IsKept message (Alias x) d) same keeps)
+    target_here message (first_read alias_in name rs) d place first (subst (λ x. IsRecordKept message (Alias x) d) same keeps)
 alias_found message name rs (Some Other) place found is = absurd cc
 
-none_here : (message : List ℕ) (x : Option (List ℕ)) (kept : Rdata) (d : RecordData) → option_map alias_name x ≡ Some d → IsKept message kept d → kept_alias (Some kept) ≡ None → ⊥
+none_here : (message : List ℕ) (x : Option (List ℕ)) (kept : Rdata) (d : RecordData) → option_map alias_name x ≡ Some d → IsRecordKept message kept d → kept_alias (Some kept) ≡ None → ⊥
 none_here message None kept d is keeps none = cc
 none_here message (Some name) (Alias p) d is keeps none = cc
 none_here message (Some name) (Address a) (alias_name m) is keeps none = keeps

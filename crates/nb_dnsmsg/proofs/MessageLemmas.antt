@@ -6,7 +6,7 @@ use Rattle.nb_dnsmsg.specs.declared.answer.Answer.{Answer}
 use Rattle.nb_dnsmsg.specs.declared.section.Section.{Section}
 use Rattle.nb_dnsmsg.specs.Names.{IsNameAt}
 use Rattle.nb_dnsmsg.specs.Records.{ResourceRecord, AreRecordsAt, number_at}
-use Rattle.nb_dnsmsg.specs.Messages.{DnsMessage, IsDnsMessage, IsAnswer, answer_read, is_same_name, ip4}
+use Rattle.nb_dnsmsg.specs.Messages.{DnsMessage, IsDnsMessage, IsAnswer, dns_answer_read, is_same_name, ip4}
 use Rattle.nb_dnsmsg.specs.Views.{section, AreInSection, IsResponse, IsOurQuestion, HasSections}
 use Rattle.nb_dnsmsg.proofs.RecordLemmas.{name_one}
 use Rattle.nb_dnsmsg.proofs.SectionLemmas.{records_one}
@@ -28,7 +28,7 @@ message_one bytes m n p q =
     ∙ ap (λ x. dns_message n.id n.flags n.name n.kind n.class x) same.0
 
 pub answer_one : (bytes : List ℕ) (id : ℕ) (name : List ℕ) (a b : Answer) → IsAnswer bytes id name a → IsAnswer bytes id name b → a ≡ b
-answer_one bytes id name a b p q = p.is ∙ ap answer_read (message_one bytes p.message q.message p.is_message q.is_message) ∙ sym q.is
+answer_one bytes id name a b p q = p.is ∙ ap dns_answer_read (message_one bytes p.message q.message p.is_message q.is_message) ∙ sym q.is
 
 pub section_one : (bytes : List ℕ) (s : Section) (rs ps : List ResourceRecord) (end other : ℕ) → AreInSection bytes s rs end → AreInSection bytes s ps other → end ≡ other
 section_one bytes s rs ps end other g h = (records_one bytes s.start rs ps end other (g.count ∙ sym h.count) g.stand h.stand).1

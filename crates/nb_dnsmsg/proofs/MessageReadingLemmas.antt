@@ -6,9 +6,9 @@ use Rattle.std.proofs.lemmas.Option.{none-some, cond_some}
 use Rattle.nb_dnsmsg.specs.declared.answer.Answer.{Answer}
 use Rattle.nb_dnsmsg.specs.Names.{IsNameAt}
 use Rattle.nb_dnsmsg.specs.Records.{ResourceRecord, AreRecordsAt, number_at}
-use Rattle.nb_dnsmsg.specs.Messages.{DnsMessage, IsDnsMessage, AnswersQuestion, IsAnswer, answer_read}
+use Rattle.nb_dnsmsg.specs.Messages.{DnsMessage, IsDnsMessage, AnswersQuestion, IsAnswer, dns_answer_read}
 use Rattle.nb_dnsmsg.specs.Views.{section, AreInSection, HasSections}
-use Rattle.nb_dnsmsg.specs.Reading.{dns_name_read, records_read, before_additional, before_authority, answers_read, message_with, message_by, dns_message_in, answers_question, answer_to, dns_answer}
+use Rattle.nb_dnsmsg.specs.Reading.{dns_name_read, records_read, before_additional, before_authority, answers_read, message_with, message_by, dns_message_in, answers_question, dns_answer_to, dns_answer}
 use Rattle.nb_dnsmsg.proofs.RecordLemmas.{name_one}
 use Rattle.nb_dnsmsg.proofs.MessageLemmas.{section_one, message_one}
 use Rattle.nb_dnsmsg.proofs.NameReadingLemmas.{either_way, ReadsName, name_is}
@@ -138,10 +138,10 @@ pub answer_is : (bytes : List ℕ) (id : ℕ) (name : List ℕ) (a : Answer) →
 unfolding dns_answer
 answer_is bytes id name a is = by (dns_message_in bytes) (message_is bytes) is
   where
-    by : (o : Option DnsMessage) → ReadsMessage o bytes → option_and_then (answer_to id name) o ≡ Some a → IsAnswer bytes id name a
+    by : (o : Option DnsMessage) → ReadsMessage o bytes → option_and_then (dns_answer_to id name) o ≡ Some a → IsAnswer bytes id name a
     by None none is = absurd (none-some a is)
     by (Some m) h is =
-        let both = cond_some (answers_question id name m) (answer_read m) a is in
+        let both = cond_some (answers_question id name m) (dns_answer_read m) a is in
         record { message = m; is_message = h; answers = question_answered id name m both.0; is = sym both.1 }
 
 -- and an answer is read as that one
@@ -149,9 +149,9 @@ pub is_answer : (bytes : List ℕ) (id : ℕ) (name : List ℕ) (a : Answer) →
 unfolding dns_answer
 is_answer bytes id name a h = by (dns_message_in bytes) (message_is bytes)
   where
-    by : (o : Option DnsMessage) → ReadsMessage o bytes → option_and_then (answer_to id name) o ≡ Some a
+    by : (o : Option DnsMessage) → ReadsMessage o bytes → option_and_then (dns_answer_to id name) o ≡ Some a
     by None none = absurd (none h.message h.is_message)
     by (Some m) is =
-        ap (answer_to id name) (message_one bytes m h.message is h.is_message)
-        ∙ ap (λ b. cond b (Some (answer_read h.message)) None) (answered_question id name h.message h.answers)
+        ap (dns_answer_to id name) (message_one bytes m h.message is h.is_message)
+        ∙ ap (λ b. cond b (Some (dns_answer_read h.message)) None) (answered_question id name h.message h.answers)
         ∙ ap (λ (x : Answer). Some x) (sym h.is)

@@ -6,7 +6,7 @@ use Rattle.std.proofs.Math.Nat.{mul-le-mul_right}
 use Rattle.std.proofs.lemmas.List.{take-append-drop}
 use Rattle.nb_dnsmsg.specs.Names.{IsLabel, IsRestAt, root_here, label_here, pointer_here, IsNameAt}
 use Rattle.nb_dnsmsg.specs.Walks.{BeginsNoPiece}
-use Rattle.nb_dnsmsg.specs.Reading.{Piece, root_piece, label_piece, pointer_piece, no_piece, label_of, pointer_of, piece_of, with_label, ends_after, rest_read, rest_by, most_pieces, within_limit, dns_name_read}
+use Rattle.nb_dnsmsg.specs.Reading.{Piece, root_piece, label_piece, pointer_piece, no_piece, label_of, pointer_of, piece_of, with_label, ends_after, rest_read, rest_by, most_pieces, name_within_limit, dns_name_read}
 use Rattle.nb_dnsmsg.proofs.RestLemmas.{label_cut, pointer_cut, no_rest, rest_one}
 
 -- either answer of a test
@@ -123,7 +123,7 @@ pub name_is : (message : List ℕ) (place : ℕ) → ReadsName (dns_name_read me
 unfolding dns_name_read
 name_is message place = limited (rest_read (most_pieces message place) message place place) (rest_is (most_pieces message place) message place place (omega (arith, suc-mul place (suc (length message)))))
   where
-    limited : (o : Option (List ℕ × ℕ)) → ReadsRest o message place place → ReadsName (within_limit o) message place
+    limited : (o : Option (List ℕ × ℕ)) → ReadsRest o message place place → ReadsName (name_within_limit o) message place
     limited None none = λ name end h. none name end h.spelled
     limited (Some read) h = either_way (leb (length read.0) 255)
         (λ on. rw on (record { spelled = h; short = leb-true (length read.0) 255 on }))

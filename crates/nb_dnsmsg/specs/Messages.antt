@@ -99,12 +99,12 @@ address_reached name rs = first_read answer_address (reached_by 8 name rs) rs
 abbrev pub ip4 : ℕ → Ip4
 ip4 address = record { 0 = address }
 
-abbrev pub answer_read : DnsMessage → Answer
-answer_read m = record { rcode = m.flags % 16; address = option_map ip4 (address_reached m.name m.answers) }
+abbrev pub dns_answer_read : DnsMessage → Answer
+dns_answer_read m = record { rcode = m.flags % 16; address = option_map ip4 (address_reached m.name m.answers) }
 
 -- the bytes are this answer to the question for a name
 pub record IsAnswer (bytes : List ℕ) (id : ℕ) (name : List ℕ) (answer : Answer) : Type 0 where
   pub message : DnsMessage
   pub is_message : IsDnsMessage bytes message
   pub answers : AnswersQuestion message id name
-  pub is : answer ≡ answer_read message
+  pub is : answer ≡ dns_answer_read message

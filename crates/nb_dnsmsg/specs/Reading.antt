@@ -4,7 +4,7 @@ use Rattle.std.specs.Int.{from_be_bytes, w32}
 use Rattle.std.specs.Option.{option_map, option_and_then}
 use Rattle.nb_dnsmsg.specs.declared.answer.Answer.{Answer}
 use Rattle.nb_dnsmsg.specs.Records.{RecordData, host_address, alias_name, other_data, ResourceRecord, resource_record, number_at}
-use Rattle.nb_dnsmsg.specs.Messages.{DnsMessage, is_same_name, answer_read}
+use Rattle.nb_dnsmsg.specs.Messages.{DnsMessage, is_same_name, dns_answer_read}
 
 -- what a name goes on with: the root, a label with what stands after it, a place to which a pointer leads,
 -- or nothing that a name goes on with
@@ -58,13 +58,13 @@ rest_read (suc n) message part place = rest_by (rest_read n message) part place 
 abbrev pub most_pieces : List ℕ → ℕ → ℕ
 most_pieces message place = suc place * suc (length message)
 
-abbrev pub within_limit : Option (List ℕ × ℕ) → Option (List ℕ × ℕ)
-within_limit None = None
-within_limit (Some name) = if nat_le (length name.0) 255 then Some name else None
+abbrev pub name_within_limit : Option (List ℕ × ℕ) → Option (List ℕ × ℕ)
+name_within_limit None = None
+name_within_limit (Some name) = if nat_le (length name.0) 255 then Some name else None
 
 -- the name at a place, of at most 255 bytes, and where it ends
 unfoldable pub dns_name_read : List ℕ → ℕ → Option (List ℕ × ℕ)
-dns_name_read message place = within_limit (rest_read (most_pieces message place) message place place)
+dns_name_read message place = name_within_limit (rest_read (most_pieces message place) message place place)
 
 -- an alias's name, which fills its data up to this place
 abbrev pub alias_read : ℕ → Option (List ℕ × ℕ) → Option RecordData
@@ -142,9 +142,9 @@ dns_message_in bytes =
 abbrev pub answers_question : ℕ → List ℕ → DnsMessage → Bool
 answers_question id name m = m.id == id && nat_le (2 ^ 15) m.flags && is_same_name m.name name && m.kind == 1 && m.class == 1
 
-abbrev pub answer_to : ℕ → List ℕ → DnsMessage → Option Answer
-answer_to id name m = if answers_question id name m then Some (answer_read m) else None
+abbrev pub dns_answer_to : ℕ → List ℕ → DnsMessage → Option Answer
+dns_answer_to id name m = if answers_question id name m then Some (dns_answer_read m) else None
 
 -- the answer that the bytes are to the question of this number for this name
 unfoldable pub dns_answer : List ℕ → ℕ → List ℕ → Option Answer
-dns_answer bytes id name = option_and_then (answer_to id name) (dns_message_in bytes)
+dns_answer bytes id name = option_and_then (dns_answer_to id name) (dns_message_in bytes)

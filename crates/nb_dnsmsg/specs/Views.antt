@@ -13,29 +13,29 @@ use Rattle.nb_dnsmsg.specs.Records.{RecordData, host_address, alias_name, other_
 use Rattle.nb_dnsmsg.specs.Messages.{is_same_name, first_read, answer_address, alias_in, ip4, query_fields, address_fields}
 
 -- what the program keeps of what a record says
-abbrev pub IsKept : List ℕ → Rdata → RecordData → Type 0
-IsKept message (Address a) (host_address address) = a.0 ≡ address
-IsKept message (Alias place) (alias_name name) = (end : ℕ) × IsNameAt message place name end
-IsKept message Other other_data = Unit {0}
-IsKept message (Address a) (alias_name name) = ⊥
-IsKept message (Address a) other_data = ⊥
-IsKept message (Alias place) (host_address address) = ⊥
-IsKept message (Alias place) other_data = ⊥
-IsKept message Other (host_address address) = ⊥
-IsKept message Other (alias_name name) = ⊥
+abbrev pub IsRecordKept : List ℕ → Rdata → RecordData → Type 0
+IsRecordKept message (Address a) (host_address address) = a.0 ≡ address
+IsRecordKept message (Alias place) (alias_name name) = (end : ℕ) × IsNameAt message place name end
+IsRecordKept message Other other_data = Unit {0}
+IsRecordKept message (Address a) (alias_name name) = ⊥
+IsRecordKept message (Address a) other_data = ⊥
+IsRecordKept message (Alias place) (host_address address) = ⊥
+IsRecordKept message (Alias place) other_data = ⊥
+IsRecordKept message Other (host_address address) = ⊥
+IsRecordKept message Other (alias_name name) = ⊥
 
 abbrev pub IsAliasRead : Option Rdata → List ℕ → ℕ → ℕ → Type 0
 IsAliasRead None message start end = (name : List ℕ) → IsNameAt message start name end → ⊥
-IsAliasRead (Some rdata) message start end = (name : List ℕ) × IsNameAt message start name end × IsKept message rdata (alias_name name)
+IsAliasRead (Some rdata) message start end = (name : List ℕ) × IsNameAt message start name end × IsRecordKept message rdata (alias_name name)
 
 abbrev pub IsDataRead : Option Rdata → List ℕ → ℕ → ℕ → ℕ → ℕ → Type 0
 IsDataRead None message kind class start size = (d : RecordData) → IsDataAt message kind class start size d → ⊥
-IsDataRead (Some rdata) message kind class start size = (d : RecordData) × IsDataAt message kind class start size d × IsKept message rdata d
+IsDataRead (Some rdata) message kind class start size = (d : RecordData) × IsDataAt message kind class start size d × IsRecordKept message rdata d
 
 abbrev pub IsRecordRead : Option Record → List ℕ → ℕ → List ℕ → Type 0
 IsRecordRead None message place owner = (r : ResourceRecord) (end : ℕ) → IsRecordAt message place r end → ⊥
 IsRecordRead (Some read) message place owner =
-    (d : RecordData) × IsRecordAt message place (resource_record owner d) read.end × IsKept message read.rdata d
+    (d : RecordData) × IsRecordAt message place (resource_record owner d) read.end × IsRecordKept message read.rdata d
 
 -- these records stand in a section, up to this place
 pub record AreInSection (message : List ℕ) (s : Section) (rs : List ResourceRecord) (end : ℕ) : Type 0 where
@@ -64,7 +64,7 @@ first_wanted want.Alias name rs = option_map alias_name (first_read alias_in nam
 
 abbrev pub IsFirstFound : Option Rdata → Want → List ℕ → List ℕ → List ResourceRecord → Type 0
 IsFirstFound None want message name rs = first_wanted want name rs ≡ None
-IsFirstFound (Some rdata) want message name rs = (d : RecordData) × (first_wanted want name rs ≡ Some d) × IsKept message rdata d
+IsFirstFound (Some rdata) want message name rs = (d : RecordData) × (first_wanted want name rs ≡ Some d) × IsRecordKept message rdata d
 
 -- one alias is followed, where there is one
 abbrev pub IsStepped : Bool → List ℕ → List ℕ → List ResourceRecord → Type 0

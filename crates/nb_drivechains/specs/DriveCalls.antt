@@ -18,5 +18,5 @@ abbrev pub reads_drive : DriveChain → ℕ → ℕ → ℕ → List (Stage Obj 
 reads_drive c rec block count = Offers (port_at c.unit.0 0) (read_said rec block count) ∷ []
 
 -- what a message says that goes up from a unit, if it says that its command was answered
-abbrev pub answer_in : ℕ → ℕ → ℕ → Option DriveAnswer
-answer_in tag a b = if tag == drive_tag_number drive.Answered then Some (record { blocks = a; chap = b }) else None
+abbrev pub drive_answer_in : ℕ → ℕ → ℕ → Option DriveAnswer
+drive_answer_in tag a b = if tag == drive_tag_number drive.Answered then Some (record { blocks = a; chap = b }) else None

@@ -1,7 +1,7 @@
 //! What a drive has answered.
 
 ghost use Rattle.std.specs.Prelude.{◌≡◌};
-ghost use Rattle.nb_drivechains.specs.DriveCalls.{answer_in};
+ghost use Rattle.nb_drivechains.specs.DriveCalls.{drive_answer_in};
 
 use nb_drivenodes::DriveTag;
 use nb_graph::Msg;
@@ -16,7 +16,7 @@ pub struct DriveAnswer {
 impl DriveAnswer {
     /// What a message says that goes up from a unit. None where it isn't one of an answer.
     pub fn read(msg: &Msg<'_>) -> Option<DriveAnswer>
-        ensures { result ≡ answer_in msg.now.tag msg.now.a msg.now.b }
+        ensures { result ≡ drive_answer_in msg.now.tag msg.now.a msg.now.b }
     {
         if msg.tag != u8::from(DriveTag::Answered) {
             return None;

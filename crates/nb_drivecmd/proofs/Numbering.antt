@@ -12,7 +12,7 @@ use Rattle.nb_drivecmd.specs.declared.commands.DriveCommand.{DriveCommand}
 use Rattle.nb_drivecmd.specs.DriveCommandNames.{drive_command_named}
 use Rattle.nb_drivecmd.specs.DriveEffect.{given_drive}
 use Rattle.nb_drivecmd.specs.DriveNumbers.{IsDriveNumber, as_drive, drive_in}
-use Rattle.nb_drivecmd.specs.DriveOptions.{DriveOptionsRead, with_drive, with_no_describe, with_keep, with_drive_in, drive_options_read, numbered_options}
+use Rattle.nb_drivecmd.specs.DriveOptions.{DriveOptionsRead, with_drive_number, with_no_describe, with_keep, with_drive_in, drive_options_read, numbered_options}
 use Rattle.nb_drivecmd.specs.DriveReading.{hook_after, hook_of, boot_after, boot_of, unhook_after, unhook_of, drive_named_read, drive_read_where, drive_command}
 
 abbrev Numbered : Option ℕ → Type 0
@@ -34,7 +34,7 @@ as_drive_numbered (Some n) = by (nat_le 128 n && nat_le n 255) refl
 abbrev OptionsNumbered : Option DriveOptionsRead → Type 0
 OptionsNumbered o = IfSome o (λ (r : DriveOptionsRead). Numbered r.drive)
 
-drive_numbered_so : (n : ℕ) (o : Option DriveOptionsRead) → IsDriveNumber n → OptionsNumbered (option_and_then (with_drive n) o)
+drive_numbered_so : (n : ℕ) (o : Option DriveOptionsRead) → IsDriveNumber n → OptionsNumbered (option_and_then (with_drive_number n) o)
 drive_numbered_so n None is = tt
 drive_numbered_so n (Some r) is = by (is_some r.drive)
   where

@@ -22,8 +22,8 @@ abbrev pub no_drive_options : List (List ℕ) → DriveOptionsRead
 no_drive_options rest = record { drive = None; no_describe = false; keep = false; rest = rest }
 
 -- with an option more before these, if it isn't among them
-abbrev pub with_drive : ℕ → DriveOptionsRead → Option DriveOptionsRead
-with_drive number o = if is_some o.drive then None else Some (record o { drive = Some number })
+abbrev pub with_drive_number : ℕ → DriveOptionsRead → Option DriveOptionsRead
+with_drive_number number o = if is_some o.drive then None else Some (record o { drive = Some number })
 
 abbrev pub with_no_describe : DriveOptionsRead → Option DriveOptionsRead
 with_no_describe o = if o.no_describe then None else Some (record o { no_describe = true })
@@ -34,7 +34,7 @@ with_keep o = if o.keep then None else Some (record o { keep = true })
 -- with `--drive` and the word after it
 abbrev pub with_drive_in : Option ℕ → Option DriveOptionsRead → Option DriveOptionsRead
 with_drive_in None options = None
-with_drive_in (Some number) options = option_and_then (with_drive number) options
+with_drive_in (Some number) options = option_and_then (with_drive_number number) options
 
 unfoldable mutual
   -- the options with which words begin; none where one is unknown, is given again, or lacks its number

@@ -31,5 +31,5 @@ abbrev pub described_drives : List Drive → List Drive
 described_drives drives = filter (λ drive. drive.described) drives
 
 -- each has a higher number than those before it
-abbrev pub AreRising : List Drive → Type 0
-AreRising drives = AllPairs (λ one other. one.number < other.number) drives
+abbrev pub AreRisingDrives : List Drive → Type 0
+AreRisingDrives drives = AllPairs (λ one other. one.number < other.number) drives

@@ -1,5 +1,5 @@
 ghost use Rattle.std.specs.Prelude.{◌≡◌, ◌<◌, ◌≤◌, nat_le, [], Ok, Err, length, slice_get, option_map, if◌then◌else◌};
-ghost use Rattle.nb_drivecmd.specs.HookedDrives.{AreRising, drive_numbered, with_hooked, without_drive, without_open};
+ghost use Rattle.nb_drivecmd.specs.HookedDrives.{AreRisingDrives, drive_numbered, with_hooked, without_drive, without_open};
 ghost use Rattle.nb_drivecmd.specs.Slots.{slot_drives, slots_rise};
 ghost use Rattle.nb_drivecmd.specs.declared.drives.Slots.TheVariants as slots;
 ghost use Rattle.nb_drivecmd.specs.declared.error.DriveFailure.TheVariants as failure;
@@ -49,7 +49,7 @@ impl Drives {
     pub fn len(&self) -> usize
         ensures value { result ≡ length self.now }
         ensures few { length self.now ≤ 2 }
-        ensures rising { AreRising self.now }
+        ensures rising { AreRisingDrives self.now }
     {
         match &self.slots {
             Slots::Neither => 0,

@@ -4,7 +4,7 @@ ghost use Rattle.std.specs.Prelude.{◌≡◌, option_map};
 ghost use Rattle.std.specs.Str.{bytes_eq};
 ghost use Rattle.nb_defs.specs.Commands.{is_option};
 ghost use Rattle.nb_drivecmd.specs.DriveOptions.{shown_drive_options, drive_options_read, no_drive_options};
-ghost use Rattle.nb_drivecmd.specs.DriveOptions.{with_drive, with_no_describe, with_keep};
+ghost use Rattle.nb_drivecmd.specs.DriveOptions.{with_drive_number, with_no_describe, with_keep};
 
 use crate::numbers::drive_in;
 use nb_wire::Word;
@@ -35,7 +35,7 @@ impl<'a> DriveOptions<'a> {
 
     /// These, and before them `--drive` with a number. None where it is given again.
     fn with_drive(self, number: u8) -> Option<DriveOptions<'a>>
-        ensures { option_map shown_drive_options result ≡ with_drive number (shown_drive_options self.entry) }
+        ensures { option_map shown_drive_options result ≡ with_drive_number number (shown_drive_options self.entry) }
     {
         if self.drive.is_some() {
             return None;

@@ -6,7 +6,7 @@ use Rattle.std.specs.Option.{option_map_or}
 use Rattle.std.proofs.lemmas.Bool.{ltb-false}
 use Rattle.std.proofs.lemmas.List.{take_all}
 use Rattle.nb_dhcpmsg.specs.Fields.{up_to_zero}
-use Rattle.nb_login.specs.Refusals.{has_zero, zero_name}
+use Rattle.nb_login.specs.Refusals.{name_has_zero, zero_name}
 use Rattle.nb_settings.specs.declared.setting.OwnedKey.TheVariants.{Sub}
 use Rattle.nb_settings.specs.Tables.{TableLists}
 use Rattle.nb_uri.specs.declared.target.UriTarget.{UriTarget}
@@ -24,15 +24,15 @@ use Rattle.nb_drivelogin.specs.DriveLogins.{initiator_name, login_by, setting_te
 abbrev before : List ℕ → ℕ
 before bytes = prefix_len (λ byte. not (byte == 0)) bytes
 
-more : (c : Bool) (b : ℕ) (bytes : List ℕ) → (b == 0) ≡ c → has_zero (take (before bytes) bytes) ≡ false
-    → has_zero (take (cond (not c) (1 + before bytes) 0) (b ∷ bytes)) ≡ false
+more : (c : Bool) (b : ℕ) (bytes : List ℕ) → (b == 0) ≡ c → name_has_zero (take (before bytes) bytes) ≡ false
+    → name_has_zero (take (cond (not c) (1 + before bytes) 0) (b ∷ bytes)) ≡ false
 more true b bytes is rest = refl
 more false b bytes is rest =
     let longer : 1 + before bytes ≡ suc (before bytes) = omega arith in
-    rw longer (ap (λ (c : Bool). c || has_zero (take (before bytes) bytes)) is ∙ rest)
+    rw longer (ap (λ (c : Bool). c || name_has_zero (take (before bytes) bytes)) is ∙ rest)
 
 -- none of them is zero
-none_before : (bytes : List ℕ) → has_zero (take (before bytes) bytes) ≡ false
+none_before : (bytes : List ℕ) → name_has_zero (take (before bytes) bytes) ≡ false
 none_before [] = refl
 none_before (b ∷ bytes) = more (b == 0) b bytes refl (none_before bytes)
 
@@ -42,12 +42,12 @@ cut_at true n bytes all = refl
 cut_at false n bytes all = sym (all refl)
 
 -- what stands before the first zero byte holds none
-pub no_zero : (bytes : List ℕ) → has_zero (up_to_zero bytes) ≡ false
+pub no_zero : (bytes : List ℕ) → name_has_zero (up_to_zero bytes) ≡ false
 no_zero bytes =
     let whole : (over : nat_lt (before bytes) (length bytes) ≡ false) → take (before bytes) bytes ≡ bytes =
     λ over. take_all (before bytes) bytes (ltb-false (before bytes) (length bytes) over)
     in
-    ap has_zero (cut_at (nat_lt (before bytes) (length bytes)) (before bytes) bytes whole) ∙ none_before bytes
+    ap name_has_zero (cut_at (nat_lt (before bytes) (length bytes)) (before bytes) bytes whole) ∙ none_before bytes
 
 -- a disk that is named where its name may be sent
 pub disk_is : (b : Bool) (one other : NamedDisk) → cond b (Err failure.BadUri) (Ok one) ≡ Ok other → (b ≡ false) × (one ≡ other)
@@ -55,13 +55,13 @@ disk_is true one other is = absurd (let z = is in cc)
 disk_is false one other is = (refl, cc)
 
 -- the name of a disk that a URI names holds none
-named_so : (r : Result UriTarget UriError) (disk : NamedDisk) → disk_by r ≡ Ok disk → has_zero disk.name ≡ false
+named_so : (r : Result UriTarget UriError) (disk : NamedDisk) → disk_by r ≡ Ok disk → name_has_zero disk.name ≡ false
 named_so (Ok (Tftp host port path whole)) disk is = absurd (let z = is in cc)
 named_so (Ok (Http host port path whole)) disk is = absurd (let z = is in cc)
 named_so (Ok (Iscsi host port lun name whole)) disk is =
     let one : NamedDisk = record { host = host; port = port; lun = lun; name = name } in
     let named = disk_is (uri.has_zero name) one disk is in
-    subst (λ (d : NamedDisk). has_zero d.name ≡ false) named.1 named.0
+    subst (λ (d : NamedDisk). name_has_zero d.name ≡ false) named.1 named.0
 named_so (Err why) disk is = absurd (let z = is in cc)
 
 -- no name of the login does

@@ -26,7 +26,7 @@ use Rattle.nb_drivenodes.specs.declared.session_stage.SessionStage.TheVariants.{
 use Rattle.nb_drivenodes.specs.DriveAsks.{DriveAskParts, drive_ask_in}
 use Rattle.nb_drivenodes.specs.DriveEffects.{TextCarrier, DriveEffects, sends_says, conn_says, opens_says, pdu_says, stream_end_says}
 use Rattle.nb_drivenodes.specs.StreamCuts.{HasCut, FeedsSo, cuts_none, cuts_one, cuts_off}
-use Rattle.nb_drivenodes.specs.SessionTalks.{logging_in, in_session, session_drained, login_failed, comes_below, answered_to, reply_to, login_leads, login_fault, login_begins, login_refused, login_waits, login_answers, login_breaks, login_lacks, session_waits, session_gives, session_breaks, session_lacks, session_sends, pdus_given, HasLogin, IsSessionAt, before_login, while_logging_in, while_in_session, once_drained, once_failed, once_session_cut, SessionOn, stage_reads, stage_takes_session, answer_by, AnswersLogin, stage_by, IsNoEmit, AnsweredBy}
+use Rattle.nb_drivenodes.specs.SessionTalks.{logging_in, in_session, session_drained, login_failed, comes_below, answered_to, reply_to, login_leads, login_fault, login_begins, login_refused, login_waits, login_answers, login_breaks, login_lacks, session_waits, session_gives, session_breaks, session_lacks, session_sends, pdus_given, HasStandingLogin, IsSessionAt, before_login, while_logging_in, while_in_session, once_drained, once_failed, once_session_cut, SessionOn, stage_reads, stage_takes_session, answer_by, AnswersLogin, stage_by, IsNoEmit, AnsweredBy}
 use Rattle.nb_drivenodes.proofs.DriveEffectLemmas.{closes-alone, sends-alone, opens-alone}
 
 pub some-same : {A : Type 0} {a b : A} → Some a ≡ Some b → a ≡ b
@@ -66,7 +66,7 @@ waits-on k m slot now fx w before after takes feeds effects _ (once_session_cut 
 pub gives-on : {N L : Type 0} (k : TextCarrier L) (m : Said) (slot now : ℕ) (fx : Fx N L) (w : SessionStage) (before after : List ℕ) (p : PduParts) → w ≡ Open → stage_takes_session w stream.Received slot m ≡ true
     → FeedsSo before after m.bytes fx.took (cuts_one p) → DriveEffects k m [] (pdu_says m.rec p) [] fx → SessionOn k w before w after (up slot m now true fx)
 gives-on k m slot now fx w before after p o takes feeds effects _ (before_login _ s) = absurd (false≢true takes)
-gives-on k m slot now fx w before after p o takes feeds effects _ (while_logging_in _ _ a taken h has on pdus stands) = absurd (subst (λ (z : SessionStage). HasLogin z a.info h) o has)
+gives-on k m slot now fx w before after p o takes feeds effects _ (while_logging_in _ _ a taken h has on pdus stands) = absurd (subst (λ (z : SessionStage). HasStandingLogin z a.info h) o has)
 gives-on k m slot now fx w before after p o takes feeds effects _ (while_in_session _ a taken h opened stands) =
     let fed = feeds taken stands in (
       in_session a (taken ++ take fx.took m.bytes) h,
@@ -90,7 +90,7 @@ answer-effects {N} {L} k m h fx a text session is asked = by text session (subst
 
 -- where a login is after an answer
 answer-at : (a : DriveAskParts) (h : List LoginEntry) (m : PduCame) (w : SessionStage) (after taken : List ℕ) (stands : List LoginEntry → Type 0) (answer : LoginAnswer) (v : SessionStage) (text : Option (List ℕ)) (session : Option Session)
-    → AnswersLogin a.info h m stands answer → answer ≡ answer_by text session (end_given (last_done (answered_to a.info h m))) → w ≡ stage_by answer v → ((e : List LoginEntry) → stands e → HasLogin v a.info e)
+    → AnswersLogin a.info h m stands answer → answer ≡ answer_by text session (end_given (last_done (answered_to a.info h m))) → w ≡ stage_by answer v → ((e : List LoginEntry) → stands e → HasStandingLogin v a.info e)
     → reply_to a.info h m ≡ text → session_opened a.info (answered_to a.info h m) ≡ session → pdus_given (answered_to a.info h m) ≡ (cut taken).pdus → HasCut taken after
     → IsSessionAt w after (login_leads a taken (answered_to a.info h m) text session)
 answer-at a h m w after taken stands answer v (Some text) session answers is stage has put opens pdus cuts =
@@ -110,8 +110,8 @@ given-more h e = map-append (λ (x : LoginEntry). x.came.pdu) h (e ∷ [])
 -- a PDU for the login
 pub answers-on : {N L : Type 0} (k : TextCarrier L) (m : Said) (slot now : ℕ) (fx : Fx N L) (w v : SessionStage) (before after : List ℕ) (p : PduParts) (stands : LoginInfo → List LoginEntry → Type 0) (answer : LoginAnswer) (old : SessionStage)
     → stage_takes_session old stream.Received slot m ≡ true → (old ≡ Open → ⊥)
-    → ((i : LoginInfo) (h : List LoginEntry) → HasLogin old i h → login_ended h ≡ false → AnswersLogin i h (pdu_came m.rec p) (stands i) answer)
-    → ((i : LoginInfo) (e : List LoginEntry) → stands i e → HasLogin v i e) → w ≡ stage_by answer v → AnsweredBy k answer fx
+    → ((i : LoginInfo) (h : List LoginEntry) → HasStandingLogin old i h → login_ended h ≡ false → AnswersLogin i h (pdu_came m.rec p) (stands i) answer)
+    → ((i : LoginInfo) (e : List LoginEntry) → stands i e → HasStandingLogin v i e) → w ≡ stage_by answer v → AnsweredBy k answer fx
     → FeedsSo before after m.bytes fx.took (cuts_one p) → SessionOn k old before w after (up slot m now true fx)
 answers-on k m slot now fx w v before after p stands answer old takes shut answers has stage asked feeds _ (before_login _ s) = absurd (false≢true takes)
 answers-on k m slot now fx w v before after p stands answer old takes shut answers has stage asked feeds _ (while_logging_in _ _ a taken h holds on pdus cuts) =
@@ -131,7 +131,7 @@ answers-on k m slot now fx w v before after p stands answer old takes shut answe
 answers-on k m slot now fx w v before after p stands answer old takes shut answers has stage asked feeds _ (once_session_cut _) = absurd (false≢true takes)
 
 -- the login has these answers, and they meet its promise
-meets-at : (w : SessionStage) (i : LoginInfo) (h : List LoginEntry) → HasLogin w i h → LoginMeets i h
+meets-at : (w : SessionStage) (i : LoginInfo) (h : List LoginEntry) → HasStandingLogin w i h → LoginMeets i h
 meets-at Unasked i h has = absurd has
 meets-at (LoggingIn l) i h has = has.meets
 meets-at Open i h has = absurd has
@@ -169,7 +169,7 @@ login-lacks-on k m slot now fx old before after takes shut all effects _ (once_s
 pub session-breaks-on : {N L : Type 0} (k : TextCarrier L) (m : Said) (slot now : ℕ) (fx : Fx N L) (old : SessionStage) (before after : List ℕ) → old ≡ Open → stage_takes_session old stream.Received slot m ≡ true
     → FeedsSo before after m.bytes fx.took cuts_off → DriveEffects k m [] (stream_end_says m.rec) [] fx → SessionOn k old before Drained after (up slot m now true fx)
 session-breaks-on k m slot now fx old before after o takes feeds effects _ (before_login _ s) = absurd (false≢true takes)
-session-breaks-on k m slot now fx old before after o takes feeds effects _ (while_logging_in _ _ a taken h has on pdus cuts) = absurd (subst (λ (z : SessionStage). HasLogin z a.info h) o has)
+session-breaks-on k m slot now fx old before after o takes feeds effects _ (while_logging_in _ _ a taken h has on pdus cuts) = absurd (subst (λ (z : SessionStage). HasStandingLogin z a.info h) o has)
 session-breaks-on k m slot now fx old before after o takes feeds effects _ (while_in_session _ a taken h opened cuts) = (
   session_drained a (taken ++ take fx.took m.bytes) h,
   session_breaks a taken h slot m now fx takes (feeds taken cuts).0 effects,
@@ -182,7 +182,7 @@ session-breaks-on k m slot now fx old before after o takes feeds effects _ (once
 pub session-lacks-on : {N L : Type 0} (k : TextCarrier L) (m : Said) (slot now : ℕ) (fx : Fx N L) (old : SessionStage) (before after : List ℕ) → old ≡ Open → stage_takes_session old stream.End slot m ≡ true
     → TookAll m fx → DriveEffects k m [] (stream_end_says m.rec) [] fx → SessionOn k old before Drained after (up slot m now true fx)
 session-lacks-on k m slot now fx old before after o takes all effects _ (before_login _ s) = absurd (false≢true takes)
-session-lacks-on k m slot now fx old before after o takes all effects _ (while_logging_in _ _ a taken h has on pdus cuts) = absurd (subst (λ (z : SessionStage). HasLogin z a.info h) o has)
+session-lacks-on k m slot now fx old before after o takes all effects _ (while_logging_in _ _ a taken h has on pdus cuts) = absurd (subst (λ (z : SessionStage). HasStandingLogin z a.info h) o has)
 session-lacks-on k m slot now fx old before after o takes all effects _ (while_in_session _ a taken h opened cuts) = (
   session_drained a taken h,
   session_lacks a taken h slot m now fx takes all effects,
@@ -196,7 +196,7 @@ session-lacks-on k m slot now fx old before after o takes all effects _ (once_se
 pub session-sends-on : {N L : Type 0} (k : TextCarrier L) (m : Said) (now : ℕ) (fx : Fx N L) (old : SessionStage) (g : List ℕ) → old ≡ Open → m.tag ≡ stream_tag_number stream.Send
     → DriveEffects k m (sends_says m.rec (Some m.bytes)) [] [] fx → SessionOn k old g old g (down m now true fx)
 session-sends-on k m now fx old g o tag effects _ (before_login _ s) = absurd (let z = o in cc)
-session-sends-on k m now fx old g o tag effects _ (while_logging_in _ _ a taken h has on pdus cuts) = absurd (subst (λ (z : SessionStage). HasLogin z a.info h) o has)
+session-sends-on k m now fx old g o tag effects _ (while_logging_in _ _ a taken h has on pdus cuts) = absurd (subst (λ (z : SessionStage). HasStandingLogin z a.info h) o has)
 session-sends-on k m now fx old g o tag effects _ (while_in_session _ a taken h opened cuts) = (in_session a taken h, session_sends a taken h m now fx tag effects, while_in_session g a taken h opened cuts)
 session-sends-on k m now fx old g o tag effects _ (once_drained _ a taken h opened) = absurd (let z = o in cc)
 session-sends-on k m now fx old g o tag effects _ (once_failed _ a taken h over meets) = absurd (let z = o in cc)
@@ -204,13 +204,13 @@ session-sends-on k m now fx old g o tag effects _ (once_session_cut _) = absurd 
 
 -- the session is asked for
 pub login-begins-on : {N L : Type 0} (k : TextCarrier L) (m : Said) (now : ℕ) (fx : Fx N L) (old new : SessionStage) (g : List ℕ) (a : DriveAskParts) → old ≡ Unasked → m.tag ≡ stream_tag_number stream.Begin → drive_ask_in m.bytes ≡ Some a
-    → zero_name a.info ≡ None → HasLogin new a.info [] → DriveEffects k m (conn_says m (login_said a.info [])) [] [] fx → SessionOn k old g new g (down m now true fx)
+    → zero_name a.info ≡ None → HasStandingLogin new a.info [] → DriveEffects k m (conn_says m (login_said a.info [])) [] [] fx → SessionOn k old g new g (down m now true fx)
 login-begins-on k m now fx old new g a o tag asks names has effects _ (before_login _ s) = (
   logging_in a [] [],
   login_begins a m now fx tag asks names effects,
   while_logging_in new g a [] [] has refl refl s,
 )
-login-begins-on k m now fx old new g a o tag asks names has effects _ (while_logging_in _ _ b taken h holds on pdus cuts) = absurd (subst (λ (z : SessionStage). HasLogin z b.info h) o holds)
+login-begins-on k m now fx old new g a o tag asks names has effects _ (while_logging_in _ _ b taken h holds on pdus cuts) = absurd (subst (λ (z : SessionStage). HasStandingLogin z b.info h) o holds)
 login-begins-on k m now fx old new g a o tag asks names has effects _ (while_in_session _ b taken h opened cuts) = absurd (let z = o in cc)
 login-begins-on k m now fx old new g a o tag asks names has effects _ (once_drained _ b taken h opened) = absurd (let z = o in cc)
 login-begins-on k m now fx old new g a o tag asks names has effects _ (once_failed _ b taken h over meets) = absurd (let z = o in cc)
@@ -224,7 +224,7 @@ login-refused-on k m now fx old g a name o tag asks names effects _ (before_logi
   login_refused a name m now fx tag asks names effects,
   once_failed g a [] [] (Some (refusal_cause (ZeroByte name))) (record { answers = tt }),
 )
-login-refused-on k m now fx old g a name o tag asks names effects _ (while_logging_in _ _ b taken h holds on pdus cuts) = absurd (subst (λ (z : SessionStage). HasLogin z b.info h) o holds)
+login-refused-on k m now fx old g a name o tag asks names effects _ (while_logging_in _ _ b taken h holds on pdus cuts) = absurd (subst (λ (z : SessionStage). HasStandingLogin z b.info h) o holds)
 login-refused-on k m now fx old g a name o tag asks names effects _ (while_in_session _ b taken h opened cuts) = absurd (let z = o in cc)
 login-refused-on k m now fx old g a name o tag asks names effects _ (once_drained _ b taken h opened) = absurd (let z = o in cc)
 login-refused-on k m now fx old g a name o tag asks names effects _ (once_failed _ b taken h over meets) = absurd (let z = o in cc)

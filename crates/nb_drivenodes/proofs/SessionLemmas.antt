@@ -13,7 +13,7 @@ use Rattle.nb_drivenodes.specs.declared.session_stage.SessionStage.TheVariants.{
 use Rattle.nb_drivenodes.specs.declared.iscsi.Iscsi.{Iscsi}
 use Rattle.nb_drivenodes.specs.DriveAsks.{drive_ask_in}
 use Rattle.nb_drivenodes.specs.DriveEffects.{TextCarrier}
-use Rattle.nb_drivenodes.specs.SessionTalks.{SessionTalk, session_unasked, session_cut, session_lives, session_reads, comes_below, is_quiet_session, is_cut_session, SessionTalks, session_ends, session_rests, SessionTalksTo, HasLogin, IsSessionAt, before_login, while_logging_in, while_in_session, once_drained, once_failed, once_session_cut, IscsiStands, SessionOn, IsUnaskedSession, stage_reads, stage_takes_session, stage_is_ended_session}
+use Rattle.nb_drivenodes.specs.SessionTalks.{SessionTalk, session_unasked, session_cut, session_lives, session_reads, comes_below, is_quiet_session, is_cut_session, SessionTalks, session_ends, session_rests, SessionTalksTo, HasStandingLogin, IsSessionAt, before_login, while_logging_in, while_in_session, once_drained, once_failed, once_session_cut, IscsiStands, SessionOn, IsUnaskedSession, stage_reads, stage_takes_session, stage_is_ended_session}
 
 -- an entry in which nothing comes and nothing is asked for
 pub session-rests : {N L : Type 0} (k : TextCarrier L) (w : SessionStage) (g : List ℕ) (e : NodeEntry N L) → ((d : SessionTalk) → IsSessionAt w g d → is_quiet_session d e ≡ true) → AsksIdly e → SessionOn k w g w g e
@@ -28,7 +28,7 @@ reads-at : (w : SessionStage) (g : List ℕ) (d : SessionTalk) → IsSessionAt w
 reads-at _ _ _ (before_login g s) = refl
 reads-at w _ _ (while_logging_in s g a taken h has on pdus stands) = by s has
   where
-    by : (s : SessionStage) → HasLogin s a.info h → stage_reads s ≡ true
+    by : (s : SessionStage) → HasStandingLogin s a.info h → stage_reads s ≡ true
     by Unasked has = absurd has
     by (LoggingIn l) has = refl
     by Open has = absurd has
@@ -72,7 +72,7 @@ ended-at : (w : SessionStage) (g : List ℕ) (d : SessionTalk) → IsSessionAt w
 ended-at _ _ _ (before_login g s) = refl
 ended-at w _ _ (while_logging_in s g a taken h has on pdus stands) = by s has
   where
-    by : (s : SessionStage) → HasLogin s a.info h → not (stage_is_ended_session s) ≡ true
+    by : (s : SessionStage) → HasStandingLogin s a.info h → not (stage_is_ended_session s) ≡ true
     by Unasked has = absurd has
     by (LoggingIn l) has = refl
     by Open has = absurd has

@@ -4,7 +4,7 @@ use Rattle.std.proofs.lemmas.Bool.{false≢true, eqb-true, leb-true, leb-false}
 use Rattle.std.proofs.lemmas.List.{length-append, length-take-le, length-drop, take-append-drop}
 use Rattle.nb_iscsipdu.proofs.StreamLemmas.{refused-kept, more-not_refused}
 use Rattle.nb_iscsipdu.specs.declared.pdus.PduState.TheVariants.{More, One, Broken}
-use Rattle.nb_iscsipdu.specs.Streams.{Cut, cut, is_refused, is_whole, pdu_of, pdu_len, open_of, whole_pdu, state_of, TakesOn, TakesNoMore, TakesAllOfPdu, StaysOpen}
+use Rattle.nb_iscsipdu.specs.Streams.{Cut, cut, is_refused, is_whole_pdu, pdu_of, pdu_len, open_of, whole_pdu, pdu_state_of, TakesOn, TakesNoMore, TakesAllOfPdu, StaysOpen}
 use Rattle.nb_drivenodes.specs.StreamCuts.{cuts_none, cuts_one, cuts_off, CutsOn, outcome_gathered, outcome_is_off, FeedsSo}
 
 -- eight bytes with which a PDU may begin are not refused by those after them
@@ -27,24 +27,24 @@ late-allowed start taken on stays more = by (leb 8 (length start)) refl
         ∙ more-not_refused (start ++ take n taken) (stays (take n taken) (drop n taken) (sym (take-append-drop n taken)) later)
 
 -- where a PDU is whole, it isn't refused
-refused-not-whole : (start taken : List ℕ) → is_refused start ≡ false → StaysOpen start taken → is_refused (start ++ taken) ≡ true → is_whole (start ++ taken) ≡ false
-refused-not-whole start taken on stays off = by (is_whole (start ++ taken)) refl
+refused-not-whole : (start taken : List ℕ) → is_refused start ≡ false → StaysOpen start taken → is_refused (start ++ taken) ≡ true → is_whole_pdu (start ++ taken) ≡ false
+refused-not-whole start taken on stays off = by (is_whole_pdu (start ++ taken)) refl
   where
-    by : (w : Bool) → is_whole (start ++ taken) ≡ w → w ≡ false
+    by : (w : Bool) → is_whole_pdu (start ++ taken) ≡ w → w ≡ false
     by false e = refl
     by true e =
         let whole = eqb-true (length (start ++ taken)) (pdu_len (start ++ taken)) e in
         absurd (false≢true (sym (late-allowed start taken on stays (omega (arith, whole))) ∙ off))
 
 open-allowed : (old : List ℕ) → is_refused old ≡ false → is_refused (open_of old) ≡ false
-open-allowed old on = by (is_whole old)
+open-allowed old on = by (is_whole_pdu old)
   where
     by : (w : Bool) → is_refused (if w then [] else old) ≡ false
     by true = refl
     by false = on
 
 -- what was gathered is one of three
-comes-by : (c d : Cut) (g : List ℕ) (r w : Bool) → is_refused g ≡ r → is_whole g ≡ w → (r ≡ true → w ≡ false)
+comes-by : (c d : Cut) (g : List ℕ) (r w : Bool) → is_refused g ≡ r → is_whole_pdu g ≡ w → (r ≡ true → w ≡ false)
     → d.pdus ≡ c.pdus ++ (if w then pdu_of g ∷ [] else []) → d.rest ≡ (if w then [] else g)
     → CutsOn c (if r then cuts_off else (if w then cuts_one (pdu_of g) else cuts_none)) d
 comes-by c d g true true refused whole not_both pdus rest = absurd (false≢true (sym (not_both refl)))
@@ -52,7 +52,7 @@ comes-by c d g true false refused whole not_both pdus rest = (pdus ∙ append-ni
 comes-by c d g false true refused whole not_both pdus rest = (pdus, rest)
 comes-by c d g false false refused whole not_both pdus rest = (pdus ∙ append-nil c.pdus, ap is_refused rest ∙ refused)
 
-all-by : (g bytes : List ℕ) (took : ℕ) (r w : Bool) → (if r then Broken else (if w then One else More)) ≡ state_of g → (state_of g ≡ More → took ≡ length bytes)
+all-by : (g bytes : List ℕ) (took : ℕ) (r w : Bool) → (if r then Broken else (if w then One else More)) ≡ pdu_state_of g → (pdu_state_of g ≡ More → took ≡ length bytes)
     → (if r then cuts_off else (if w then cuts_one (pdu_of g) else cuts_none)) ≡ cuts_none → took ≡ length bytes
 all-by g bytes took true true is all none = absurd (let z = none in cc)
 all-by g bytes took true false is all none = absurd (let z = none in cc)
@@ -70,15 +70,15 @@ pub feeds-so : (old new bytes : List ℕ) (took : ℕ) → (is_refused old ≡ f
 feeds-so old new bytes took gathers within on least all = λ stream has.
     let after = on stream has.0 in
     let is = gathers has.1 in
-    let not_both : is_refused new ≡ true → is_whole new ≡ false = λ off. ap is_whole is ∙ refused-not-whole (open_of old) (take took bytes) (open-allowed old has.1) least (ap is_refused (sym is) ∙ off) in (
+    let not_both : is_refused new ≡ true → is_whole_pdu new ≡ false = λ off. ap is_whole_pdu is ∙ refused-not-whole (open_of old) (take took bytes) (open-allowed old has.1) least (ap is_refused (sym is) ∙ off) in (
       record {
         within = within;
-        comes = comes-by (cut stream) (cut (stream ++ take took bytes)) new (is_refused new) (is_whole new) refl refl not_both after.1 after.0;
+        comes = comes-by (cut stream) (cut (stream ++ take took bytes)) new (is_refused new) (is_whole_pdu new) refl refl not_both after.1 after.0;
         least = subst (λ (z : List ℕ). StaysOpen z (take took bytes)) (sym has.0) least;
-        all = all-by new bytes took (is_refused new) (is_whole new) refl all;
+        all = all-by new bytes took (is_refused new) (is_whole_pdu new) refl all;
       },
       after.0,
-      is-off-by new (is_refused new) (is_whole new),
+      is-off-by new (is_refused new) (is_whole_pdu new),
     )
 
 -- which of them it is, by the reader's state
@@ -88,8 +88,8 @@ more-by g true false e = absurd (let z = e in cc)
 more-by g false true e = absurd (let z = e in cc)
 more-by g false false e = refl
 
-pub more-none : (g : List ℕ) → More ≡ state_of g → outcome_gathered g ≡ cuts_none
-more-none g e = more-by g (is_refused g) (is_whole g) e
+pub more-none : (g : List ℕ) → More ≡ pdu_state_of g → outcome_gathered g ≡ cuts_none
+more-none g e = more-by g (is_refused g) (is_whole_pdu g) e
 
 one-by : (g : List ℕ) (r w : Bool) → One ≡ (if r then Broken else (if w then One else More)) → (if r then cuts_off else (if w then cuts_one (pdu_of g) else cuts_none)) ≡ cuts_one (pdu_of g)
 one-by g true true e = absurd (let z = e in cc)
@@ -97,8 +97,8 @@ one-by g true false e = absurd (let z = e in cc)
 one-by g false true e = refl
 one-by g false false e = absurd (let z = e in cc)
 
-pub one-one : (g : List ℕ) → One ≡ state_of g → outcome_gathered g ≡ cuts_one (pdu_of g)
-one-one g e = one-by g (is_refused g) (is_whole g) e
+pub one-one : (g : List ℕ) → One ≡ pdu_state_of g → outcome_gathered g ≡ cuts_one (pdu_of g)
+one-one g e = one-by g (is_refused g) (is_whole_pdu g) e
 
 whole-by : (g : List ℕ) (r w : Bool) → One ≡ (if r then Broken else (if w then One else More)) → w ≡ true
 whole-by g true true e = refl
@@ -106,8 +106,8 @@ whole-by g true false e = absurd (let z = e in cc)
 whole-by g false true e = refl
 whole-by g false false e = absurd (let z = e in cc)
 
-pub one-whole : (g : List ℕ) → One ≡ state_of g → whole_pdu g ≡ Some (pdu_of g)
-one-whole g e = ap (λ (b : Bool). if b then Some (pdu_of g) else None) (whole-by g (is_refused g) (is_whole g) e)
+pub one-whole : (g : List ℕ) → One ≡ pdu_state_of g → whole_pdu g ≡ Some (pdu_of g)
+one-whole g e = ap (λ (b : Bool). if b then Some (pdu_of g) else None) (whole-by g (is_refused g) (is_whole_pdu g) e)
 
 off-by : (g : List ℕ) (r w : Bool) → Broken ≡ (if r then Broken else (if w then One else More)) → (if r then cuts_off else (if w then cuts_one (pdu_of g) else cuts_none)) ≡ cuts_off
 off-by g true true e = refl
@@ -115,5 +115,5 @@ off-by g true false e = refl
 off-by g false true e = absurd (let z = e in cc)
 off-by g false false e = absurd (let z = e in cc)
 
-pub broken-off : (g : List ℕ) → Broken ≡ state_of g → outcome_gathered g ≡ cuts_off
-broken-off g e = off-by g (is_refused g) (is_whole g) e
+pub broken-off : (g : List ℕ) → Broken ≡ pdu_state_of g → outcome_gathered g ≡ cuts_off
+broken-off g e = off-by g (is_refused g) (is_whole_pdu g) e

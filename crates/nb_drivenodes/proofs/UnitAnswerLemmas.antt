@@ -12,11 +12,11 @@ use Rattle.nb_iscsipdu.specs.Heads.{opcode}
 use Rattle.nb_iscsipdu.specs.PduTexts.{PduParts}
 use Rattle.nb_iscsipdu.specs.Answers.{login, scsi, data_in, nop_in, other, answer_read, nop_in_read, scsi_response, login_response, data_in_read}
 use Rattle.nb_disk.specs.Histories.{SessionNumbers, DiskCall, came, DiskReading, nothing_read, after_call, reading, at_work, capacity_read, fits, completes, with_status, counted, capacity_of}
-use Rattle.nb_disk.specs.DiskAnswers.{disk_answer, pdu_answer, data_answer, response_answer, bytes_answer, nop_answer, answered, tested, sized, have_read, no_answer, puts, gives, ends, broken, refused, command_after, commands_put, expected, ended_from, has_ended, data_range}
+use Rattle.nb_disk.specs.DiskAnswers.{disk_answer, pdu_answer, data_answer, response_answer, bytes_answer, nop_answer, command_answered, tested, sized, have_read, no_answer, puts, gives, ends, broken, refused_cause, command_after, commands_put, expected_stat_sn, ended_from, session_has_ended, data_range}
 use Rattle.nb_disk.specs.DiskStands.{DiskStands}
 use Rattle.nb_disk.specs.Steps.{KeptNumbers, has_work, work_is_over, work_capacity}
 use Rattle.nb_disk.proofs.StandsLemmas.{busy-at}
-use Rattle.nb_drivenodes.specs.UnitAnswers.{answered_so, answered_by}
+use Rattle.nb_drivenodes.specs.UnitAnswers.{answered_so, unit_answered_by}
 
 or-none : (a : Bool) → (a || false) ≡ a
 or-none true = refl
@@ -33,12 +33,12 @@ ended-more o r (c ∷ calls) call =
     ∙ or-assoc (is_some (disk_answer o r c).over) (ended_from o (after_call o r c) calls) (is_some (disk_answer o (fold (after_call o) (after_call o r c) calls) call).over)
 
 -- after one call more it has ended where this one ended it
-pub ended-after : (o : SessionNumbers) (calls : List DiskCall) (call : DiskCall) → has_ended o calls ≡ false → has_ended o (calls ++ call ∷ []) ≡ is_some (disk_answer o (reading o calls) call).over
+pub ended-after : (o : SessionNumbers) (calls : List DiskCall) (call : DiskCall) → session_has_ended o calls ≡ false → session_has_ended o (calls ++ call ∷ []) ≡ is_some (disk_answer o (reading o calls) call).over
 ended-after o calls call on = ended-more o nothing_read calls call ∙ ap (λ (b : Bool). b || is_some (disk_answer o (reading o calls) call).over) on
 
 -- what is known of the core after a call is what the calls say
-pub answered-same : (o : SessionNumbers) (calls : List DiskCall) (call : DiskCall) (new : KeptNumbers) (was over : Bool) → DiskStands o (calls ++ call ∷ []) new → has_ended o calls ≡ false → was ≡ is_some (at_work (reading o calls))
-    → over ≡ is_some (disk_answer o (reading o calls) call).over → answered_so over was (has_work new.work) (work_capacity new.work) ≡ answered_by o calls call
+pub answered-same : (o : SessionNumbers) (calls : List DiskCall) (call : DiskCall) (new : KeptNumbers) (was over : Bool) → DiskStands o (calls ++ call ∷ []) new → session_has_ended o calls ≡ false → was ≡ is_some (at_work (reading o calls))
+    → over ≡ is_some (disk_answer o (reading o calls) call).over → answered_so over was (has_work new.work) (work_capacity new.work) ≡ unit_answered_by o calls call
 answered-same o calls call new was over stands on before is = by (is_some (disk_answer o (reading o calls) call).over) refl ∙ ap (λ z. answered_so (is_some (disk_answer o (reading o calls) call).over) z (is_some (at_work (reading o (calls ++ call ∷ [])))) (capacity_read (reading o (calls ++ call ∷ [])))) before
   where
     by : (b : Bool) → is_some (disk_answer o (reading o calls) call).over ≡ b
@@ -59,7 +59,7 @@ IsGiven p give = (give ≡ []) ⊎ (give ≡ p.seg)
 tested-none : (p : PduParts) (o : SessionNumbers) (after : DiskReading) (rec before status : ℕ) → IsGiven p (tested o after rec before status).give
 tested-none p o after rec before status = by (status == 0) ((status == 2) && nat_lt before 3)
   where
-    by : (b c : Bool) → IsGiven p (if b then puts (command_after o after (before + 1) ReadCapacity) else (if c then puts (command_after o after (before + 1) TestUnitReady) else ends (refused rec status))).give
+    by : (b c : Bool) → IsGiven p (if b then puts (command_after o after (before + 1) ReadCapacity) else (if c then puts (command_after o after (before + 1) TestUnitReady) else ends (refused_cause rec status))).give
     by true c = inl refl
     by false true = inl refl
     by false false = inl refl
@@ -67,7 +67,7 @@ tested-none p o after rec before status = by (status == 0) ((status == 2) && nat
 sized-none : (p : PduParts) (rec : ℕ) (bytes : List ℕ) (status : ℕ) → IsGiven p (sized rec bytes status).give
 sized-none p rec bytes status = by (status == 0) (is_some (capacity_of bytes))
   where
-    by : (b c : Bool) → IsGiven p (if b then (if c then no_answer else ends (broken rec)) else ends (refused rec status)).give
+    by : (b c : Bool) → IsGiven p (if b then (if c then no_answer else ends (broken rec)) else ends (refused_cause rec status)).give
     by true true = inl refl
     by true false = inl refl
     by false c = inl refl
@@ -75,12 +75,12 @@ sized-none p rec bytes status = by (status == 0) (is_some (capacity_of bytes))
 read-given : (p : PduParts) (rec wanted got : ℕ) (bytes : List ℕ) (status : ℕ) → IsGiven p bytes → IsGiven p (have_read rec wanted got bytes status).give
 read-given p rec wanted got bytes status h = by (status == 0) (got + length bytes == wanted)
   where
-    by : (b c : Bool) → IsGiven p (if b then (if c then gives bytes else ends (broken rec)) else ends (refused rec status)).give
+    by : (b c : Bool) → IsGiven p (if b then (if c then gives bytes else ends (broken rec)) else ends (refused_cause rec status)).give
     by true true = h
     by true false = inl refl
     by false c = inl refl
 
-answered-given : (p : PduParts) (o : SessionNumbers) (r : DiskReading) (rec : ℕ) (command : Command) (bytes : List ℕ) (s : TaskStatus) → IsGiven p bytes → IsGiven p (answered o r rec command bytes s).give
+answered-given : (p : PduParts) (o : SessionNumbers) (r : DiskReading) (rec : ℕ) (command : Command) (bytes : List ℕ) (s : TaskStatus) → IsGiven p bytes → IsGiven p (command_answered o r rec command bytes s).give
 answered-given p o r rec TestUnitReady bytes s h = tested-none p o (with_status r bytes s) rec (length r.results) s.status
 answered-given p o r rec ReadCapacity bytes s h = sized-none p rec (r.bytes ++ bytes) s.status
 answered-given p o r rec (Read lba blocks) bytes s h = read-given p rec (512 * blocks) (length r.bytes) bytes s.status h
@@ -105,14 +105,14 @@ response-given : (p : PduParts) (o : SessionNumbers) (r : DiskReading) (rec : �
 response-given p o r rec None a = inl refl
 response-given p o r rec (Some command) a = by (completes o r (Some command) a)
   where
-    by : (b : Bool) → IsGiven p (if b then answered o r rec command [] a.status else ends (broken rec)).give
+    by : (b : Bool) → IsGiven p (if b then command_answered o r rec command [] a.status else ends (broken rec)).give
     by true = answered-given p o r rec command [] a.status (inl refl)
     by false = inl refl
 
 nop-given : (p : PduParts) (o : SessionNumbers) (r : DiskReading) (n : NopIn) → IsGiven p (nop_answer o r n).give
 nop-given p o r n = by (n.target_tag == 0xffffffff)
   where
-    by : (b : Bool) → IsGiven p (if b then no_answer else puts (nop_pdu (record { lun = n.lun; target_tag = n.target_tag; cmd_sn = counted o.cmd_sn (commands_put r); exp_stat_sn = expected o r }))).give
+    by : (b : Bool) → IsGiven p (if b then no_answer else puts (nop_pdu (record { lun = n.lun; target_tag = n.target_tag; cmd_sn = counted o.cmd_sn (commands_put r); exp_stat_sn = expected_stat_sn o r }))).give
     by true = inl refl
     by false = inl refl
 

@@ -12,7 +12,7 @@ use Rattle.std.proofs.lemmas.Option.{none-some}
 use Rattle.nb_conns.specs.ConnEffects.{ConnWithin, SaysNothing}
 use Rattle.nb_conns.specs.Dialogues.{AsksIdly, HandsOnClose}
 use Rattle.nb_disk.specs.Histories.{SessionNumbers, DiskCall}
-use Rattle.nb_disk.specs.DiskAnswers.{has_ended}
+use Rattle.nb_disk.specs.DiskAnswers.{session_has_ended}
 use Rattle.nb_disk.specs.DiskStands.{DiskStands}
 use Rattle.nb_disk.specs.Steps.{KeptNumbers}
 use Rattle.nb_drivenodes.specs.declared.unit_stage.UnitStage.{UnitStage}
@@ -84,7 +84,7 @@ pub off-served : (slot : ℕ) (m : Said) → tagged_below 12 slot m ≡ false �
 off-served slot m h i = ap (λ z. (z && is_some (pdu_in m.bytes)) || tagged_below 8 slot m) h ∙ i
 
 pub quiet-down-unit : {N L : Type 0} (w : UnitStage) (m : Said) (now : ℕ) (fx : Fx N L) (d : UnitTalk) → (w ≡ Unasked → (m.tag == 1) ≡ false)
-    → ((k : KeptNumbers) (c : ℕ) (o : SessionNumbers) (calls : List DiskCall) → w ≡ Working k c → DiskStands o calls k → has_ended o calls ≡ false → ((m.tag == 13) && takes_blocks o calls m.a m.b) ≡ false) → IsUnitAt w d → is_quiet_unit d (down m now true fx) ≡ true
+    → ((k : KeptNumbers) (c : ℕ) (o : SessionNumbers) (calls : List DiskCall) → w ≡ Working k c → DiskStands o calls k → session_has_ended o calls ≡ false → ((m.tag == 13) && takes_blocks o calls m.a m.b) ≡ false) → IsUnitAt w d → is_quiet_unit d (down m now true fx) ≡ true
 quiet-down-unit w m now fx _ h i before_asking = ap not (h refl)
 quiet-down-unit w m now fx _ h i while_waiting = refl
 quiet-down-unit w m now fx _ h i (while_working k o c calls stands on) = ap not (i k c o calls refl stands on)

@@ -15,7 +15,7 @@ use Rattle.nb_conns.specs.ConnEffects.{GoesAbove, GoesBelow, TookAll, closes_for
 use Rattle.std.specs.List.{AllByRecursion}
 use Rattle.nb_iscsipdu.specs.PduTexts.{PduParts, pdu_text}
 use Rattle.nb_disk.specs.Histories.{SessionNumbers, DiskCall, came, asked, stream_ended, reading, at_work}
-use Rattle.nb_disk.specs.DiskAnswers.{disk_answer, has_ended, data_range}
+use Rattle.nb_disk.specs.DiskAnswers.{disk_answer, session_has_ended, data_range}
 use Rattle.nb_disk.specs.DiskStands.{DiskStands, is_out}
 use Rattle.nb_disk.specs.Steps.{KeptNumbers}
 use Rattle.nb_drivenodes.specs.declared.session_note.SessionNote.{SessionNote}
@@ -25,7 +25,7 @@ use Rattle.nb_drivenodes.specs.declared.unit_stage.UnitStage.TheVariants.{Unaske
 use Rattle.nb_drivenodes.specs.SessionNotes.{note_in}
 use Rattle.nb_drivenodes.specs.DriveEffects.{TextCarrier, DriveEffects, OnlyFirst, drive_say, drive_says, sends_says, text_emit}
 use Rattle.nb_drivenodes.specs.SessionTalks.{IsNoEmit}
-use Rattle.nb_drivenodes.specs.UnitAnswers.{unit_opened, first_command, answered_by, AnswersUnit}
+use Rattle.nb_drivenodes.specs.UnitAnswers.{unit_opened, first_command, unit_answered_by, AnswersUnit}
 use Rattle.nb_drivenodes.specs.UnitTalks.{unit_waits, unit_works, unit_over, tagged_below, pdu_in, takes_blocks, blocks_says, answered_says, asks_session, worked_on, unit_begins, unit_starts, unit_takes, unit_lacks, unit_reads, IsUnitAt, before_asking, while_waiting, while_working, once_over, once_unit_cut, UnitOn, session_asked_emit, blocks_emit, answered_emit, UnitDowns, UnitUps, AsksUnit}
 use Rattle.nb_drivenodes.proofs.DriveEffectLemmas.{drive-said-by, drive-goes-by, none-said, none-goes, sends-alone}
 use Rattle.nb_drivenodes.proofs.UnitLemmas.{unit-rests, quiet-down-unit, and-off}
@@ -72,7 +72,7 @@ blocks-same rec give bytes same = by (is_some (data_range (length give))) refl
 -- a PDU of the session
 pub pdu-asks : {N L : Type 0} (k : TextCarrier L) (m : Said) (o : SessionNumbers) (calls : List DiskCall) (p : PduParts) (len chap : ℕ) (new : KeptNumbers) (a : UnitAnswer) (fx : Fx N L) → pdu_in m.bytes ≡ Some p → drop 48 m.bytes ≡ p.seg → len ≡ length m.bytes
     → AnswersUnit o calls (came m.rec p) new a → AsksUnit k len chap a fx
-    → DriveEffects k m (sends_says m.rec (option_map pdu_text (disk_answer o (reading o calls) (came m.rec p)).put)) (blocks_says m.rec (disk_answer o (reading o calls) (came m.rec p)).give ++ answered_says m.rec chap (answered_by o calls (came m.rec p)))
+    → DriveEffects k m (sends_says m.rec (option_map pdu_text (disk_answer o (reading o calls) (came m.rec p)).put)) (blocks_says m.rec (disk_answer o (reading o calls) (came m.rec p)).give ++ answered_says m.rec chap (unit_answered_by o calls (came m.rec p)))
     (closes_for (disk_answer o (reading o calls) (came m.rec p)).over) fx
 pdu-asks k m o calls p len chap new a fx is seg all answers asks = record {
   no_make = asks.no_make;
@@ -87,13 +87,13 @@ pdu-asks k m o calls p len chap new a fx is seg all answers asks = record {
 }
 
 -- where a call leaves it
-worked-at : (o : SessionNumbers) (chap : ℕ) (calls : List DiskCall) (call : DiskCall) (new : KeptNumbers) (over : Option Cause) (w : UnitStage) → DiskStands o (calls ++ call ∷ []) new → has_ended o (calls ++ call ∷ []) ≡ is_some over
+worked-at : (o : SessionNumbers) (chap : ℕ) (calls : List DiskCall) (call : DiskCall) (new : KeptNumbers) (over : Option Cause) (w : UnitStage) → DiskStands o (calls ++ call ∷ []) new → session_has_ended o (calls ++ call ∷ []) ≡ is_some over
     → w ≡ (if is_some over then Ended else Working new chap) → IsUnitAt w (worked_on o chap (calls ++ call ∷ []) over)
 worked-at o chap calls call new None w stands ended stage = subst (λ (z : UnitStage). IsUnitAt z (unit_works o chap (calls ++ call ∷ []))) (sym stage) (while_working new o chap (calls ++ call ∷ []) stands ended)
 worked-at o chap calls call new (Some c) w stands ended stage = subst (λ (z : UnitStage). IsUnitAt z (unit_over o chap (calls ++ call ∷ []) (Some c))) (sym stage) (once_over new o chap (calls ++ call ∷ []) (Some c) stands)
 
 pub takes-on : {N L : Type 0} (k : TextCarrier L) (m : Said) (slot now : ℕ) (fx : Fx N L) (old w : UnitStage) (kept new : KeptNumbers) (chap len : ℕ) (p : PduParts) (a : UnitAnswer) → old ≡ Working kept chap → tagged_below 12 slot m ≡ true → pdu_in m.bytes ≡ Some p
-    → drop 48 m.bytes ≡ p.seg → len ≡ length m.bytes → TookAll m fx → ((o : SessionNumbers) (calls : List DiskCall) → DiskStands o calls kept → has_ended o calls ≡ false → AnswersUnit o calls (came m.rec p) new a) → AsksUnit k len chap a fx
+    → drop 48 m.bytes ≡ p.seg → len ≡ length m.bytes → TookAll m fx → ((o : SessionNumbers) (calls : List DiskCall) → DiskStands o calls kept → session_has_ended o calls ≡ false → AnswersUnit o calls (came m.rec p) new a) → AsksUnit k len chap a fx
     → w ≡ (if is_some a.over then Ended else Working new chap) → UnitOn k old w (up slot m now true fx)
 takes-on k m slot now fx old w kept new chap len p a o tag is seg all took answers asks stage _ before_asking = absurd (let z = o in cc)
 takes-on k m slot now fx old w kept new chap len p a o tag is seg all took answers asks stage _ while_waiting = absurd (let z = o in cc)
@@ -103,7 +103,7 @@ takes-on k m slot now fx old w kept new chap len p a o tag is seg all took answe
     let so = answers b calls (subst (λ (z : KeptNumbers). DiskStands b calls z) same stands) on in
     let over = (disk_answer b (reading b calls) (came m.rec p)).over in (
       worked_on b c (calls ++ came m.rec p ∷ []) over,
-      unit_takes b c calls p slot m now fx tag is took (subst (λ z. DriveEffects k m (sends_says m.rec (option_map pdu_text (disk_answer b (reading b calls) (came m.rec p)).put)) (blocks_says m.rec (disk_answer b (reading b calls) (came m.rec p)).give ++ answered_says m.rec z (answered_by b calls (came m.rec p))) (closes_for over) fx) (sym kind) (pdu-asks k m b calls p len chap new a fx is seg all so asks)),
+      unit_takes b c calls p slot m now fx tag is took (subst (λ z. DriveEffects k m (sends_says m.rec (option_map pdu_text (disk_answer b (reading b calls) (came m.rec p)).put)) (blocks_says m.rec (disk_answer b (reading b calls) (came m.rec p)).give ++ answered_says m.rec z (unit_answered_by b calls (came m.rec p))) (closes_for over) fx) (sym kind) (pdu-asks k m b calls p len chap new a fx is seg all so asks)),
       worked-at b c calls (came m.rec p) new over w so.stands (ended-after b calls (came m.rec p) on) (stage ∙ ap (λ (z : Option Cause). if is_some z then Ended else Working new chap) so.over ∙ ap (λ z. if is_some over then Ended else Working new z) (sym kind)),
     )
 takes-on k m slot now fx old w kept new chap len p a o tag is seg all took answers asks stage _ (once_over kk b c calls over stands) = absurd (let z = o in cc)
@@ -111,7 +111,7 @@ takes-on k m slot now fx old w kept new chap len p a o tag is seg all took answe
 
 -- no further PDU comes
 pub lacks-on : {N L : Type 0} (k : TextCarrier L) (m : Said) (slot now : ℕ) (fx : Fx N L) (old w : UnitStage) (kept new : KeptNumbers) (chap : ℕ) (a : UnitAnswer) → old ≡ Working kept chap → tagged_below 8 slot m ≡ true → TookAll m fx
-    → ((o : SessionNumbers) (calls : List DiskCall) → DiskStands o calls kept → has_ended o calls ≡ false → AnswersUnit o calls (stream_ended m.rec) new a) → DriveEffects k m [] [] (closes_for a.over) fx
+    → ((o : SessionNumbers) (calls : List DiskCall) → DiskStands o calls kept → session_has_ended o calls ≡ false → AnswersUnit o calls (stream_ended m.rec) new a) → DriveEffects k m [] [] (closes_for a.over) fx
     → w ≡ (if is_some a.over then Ended else Working new chap) → UnitOn k old w (up slot m now true fx)
 lacks-on k m slot now fx old w kept new chap a o tag took answers asks stage _ before_asking = absurd (let z = o in cc)
 lacks-on k m slot now fx old w kept new chap a o tag took answers asks stage _ while_waiting = absurd (let z = o in cc)
@@ -158,7 +158,7 @@ unit-begins-on k m now fx old len o tag all mk d u c _ once_unit_cut = absurd (l
 
 -- blocks are asked for
 pub reads-on : {N L : Type 0} (k : TextCarrier L) (m : Said) (now : ℕ) (fx : Fx N L) (old : UnitStage) (kept new : KeptNumbers) (chap : ℕ) (text : List ℕ) → old ≡ Working kept chap → m.tag ≡ 13
-    → ((o : SessionNumbers) (calls : List DiskCall) → DiskStands o calls kept → has_ended o calls ≡ false → takes_blocks o calls m.a m.b ≡ true)
+    → ((o : SessionNumbers) (calls : List DiskCall) → DiskStands o calls kept → session_has_ended o calls ≡ false → takes_blocks o calls m.a m.b ≡ true)
     → ((o : SessionNumbers) (calls : List DiskCall) → DiskStands o calls kept → DiskStands o (calls ++ asked m.a m.b ∷ []) new × (Some text ≡ option_map pdu_text (disk_answer o (reading o calls) (asked m.a m.b)).put))
     → fx.makes ≡ None → OnlyFirst (text_emit k text) fx.downs → IsNoEmit fx.ups → fx.closes.items ≡ [] → UnitOn k old (Working new chap) (down m now true fx)
 reads-on k m now fx old kept new chap text o tag takes stands mk d u c _ before_asking = absurd (let z = o in cc)
@@ -202,7 +202,7 @@ takes-many o calls lba n many =
 
 -- a read that isn't put
 pub quiet-read-on : {N L : Type 0} (k : TextCarrier L) (m : Said) (now : ℕ) (fx : Fx N L) (old : UnitStage) (kept new : KeptNumbers) (chap : ℕ) → old ≡ Working kept chap → new ≡ kept → m.tag ≡ 13
-    → ((o : SessionNumbers) (calls : List DiskCall) → DiskStands o calls kept → has_ended o calls ≡ false → takes_blocks o calls m.a m.b ≡ false) → AsksIdly {N = N} {L = L} (down m now true fx) → UnitOn k old (Working new chap) (down m now true fx)
+    → ((o : SessionNumbers) (calls : List DiskCall) → DiskStands o calls kept → session_has_ended o calls ≡ false → takes_blocks o calls m.a m.b ≡ false) → AsksIdly {N = N} {L = L} (down m now true fx) → UnitOn k old (Working new chap) (down m now true fx)
 quiet-read-on {N} {L} k m now fx old kept new chap o same tag off idle =
     let entry : NodeEntry N L = down m now true fx in
     subst (λ (z : UnitStage). UnitOn k old z entry) (o ∙ ap (λ (z : KeptNumbers). Working z chap) (sym same))

@@ -176,17 +176,17 @@ pub record HasSession (a : DriveAskParts) (h : List LoginEntry) : Type 0 where
   pub opens : session_opened a.info h ≡ Some session
 
 -- the object has a login that stands for these answers
-abbrev pub HasLogin : SessionStage → LoginInfo → List LoginEntry → Type 0
-HasLogin Unasked i h = ⊥
-HasLogin (LoggingIn l) i h = LoginStands i l h
-HasLogin Open i h = ⊥
-HasLogin Drained i h = ⊥
-HasLogin Ended i h = ⊥
+abbrev pub HasStandingLogin : SessionStage → LoginInfo → List LoginEntry → Type 0
+HasStandingLogin Unasked i h = ⊥
+HasStandingLogin (LoggingIn l) i h = LoginStands i l h
+HasStandingLogin Open i h = ⊥
+HasStandingLogin Drained i h = ⊥
+HasStandingLogin Ended i h = ⊥
 
 -- what the object is meanwhile: its login stands for the answers, and they are the PDUs of what it took of the stream
 pub data IsSessionAt : SessionStage → List ℕ → SessionTalk → Type 0 where
   before_login : (gathered : List ℕ) → HasCut [] gathered → IsSessionAt Unasked gathered session_unasked
-  while_logging_in : (s : SessionStage) (gathered : List ℕ) (a : DriveAskParts) (taken : List ℕ) (h : List LoginEntry) → HasLogin s a.info h → login_ended h ≡ false
+  while_logging_in : (s : SessionStage) (gathered : List ℕ) (a : DriveAskParts) (taken : List ℕ) (h : List LoginEntry) → HasStandingLogin s a.info h → login_ended h ≡ false
       → pdus_given h ≡ (cut taken).pdus → HasCut taken gathered → IsSessionAt s gathered (logging_in a taken h)
   while_in_session : (gathered : List ℕ) (a : DriveAskParts) (taken : List ℕ) (h : List LoginEntry) → HasSession a h → HasCut taken gathered
       → IsSessionAt Open gathered (in_session a taken h)

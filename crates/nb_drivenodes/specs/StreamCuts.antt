@@ -1,7 +1,7 @@
 -- What a part of a stream comes to, by the PDUs that the stream is cut into (RFC 7143, section 11.1)
 use Rattle.std.specs.Prelude.{◌≡◌, ◌≤◌, ℕ, Bool, true, false, List, [], ◌∷◌, ◌++◌, length, take, if◌then◌else◌}
 use Rattle.nb_iscsipdu.specs.PduTexts.{PduParts}
-use Rattle.nb_iscsipdu.specs.Streams.{Cut, cut, is_refused, is_whole, pdu_of, StandsForStream, StaysOpen}
+use Rattle.nb_iscsipdu.specs.Streams.{Cut, cut, is_refused, is_whole_pdu, pdu_of, StandsForStream, StaysOpen}
 
 -- no PDU became whole; this one did; or no PDU begins with what stands there
 pub data CutOutcome : Type 0 where
@@ -25,7 +25,7 @@ pub record CutsTo (stream bytes : List ℕ) (took : ℕ) (o : CutOutcome) : Type
 
 -- what a reader has come to that gathered these bytes
 abbrev pub outcome_gathered : List ℕ → CutOutcome
-outcome_gathered gathered = if is_refused gathered then cuts_off else (if is_whole gathered then cuts_one (pdu_of gathered) else cuts_none)
+outcome_gathered gathered = if is_refused gathered then cuts_off else (if is_whole_pdu gathered then cuts_one (pdu_of gathered) else cuts_none)
 
 abbrev pub outcome_is_off : CutOutcome → Bool
 outcome_is_off cuts_none = false

@@ -18,8 +18,8 @@ unit_opened n exp_stat_sn = record { lun = n.lun; cmd_sn = n.cmd_sn; exp_stat_sn
 abbrev pub answered_so : Bool → Bool → Bool → Option ℕ → Option ℕ
 answered_so over before after capacity = if not over && (before && not after) then capacity else None
 
-abbrev pub answered_by : SessionNumbers → List DiskCall → DiskCall → Option ℕ
-answered_by o calls call = answered_so (is_some (disk_answer o (reading o calls) call).over)
+abbrev pub unit_answered_by : SessionNumbers → List DiskCall → DiskCall → Option ℕ
+unit_answered_by o calls call = answered_so (is_some (disk_answer o (reading o calls) call).over)
     (is_some (at_work (reading o calls))) (is_some (at_work (reading o (calls ++ call ∷ [])))) (capacity_read (reading o (calls ++ call ∷ [])))
 
 -- a core that stood for these calls stands for one more, and comes to what all of them call for
@@ -27,7 +27,7 @@ pub record AnswersUnit (o : SessionNumbers) (calls : List DiskCall) (call : Disk
   pub stands : DiskStands o (calls ++ call ∷ []) new
   pub text : a.text ≡ option_map pdu_text (disk_answer o (reading o calls) call).put
   pub gives : a.gives ≡ is_some (data_range (length (disk_answer o (reading o calls) call).give))
-  pub answered : a.answered ≡ answered_by o calls call
+  pub answered : a.answered ≡ unit_answered_by o calls call
   pub over : a.over ≡ (disk_answer o (reading o calls) call).over
 
 -- the first command of a session

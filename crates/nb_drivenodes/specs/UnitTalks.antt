@@ -12,7 +12,7 @@ use Rattle.nb_conns.specs.ConnEffects.{TookAll, closes_for, received_says}
 use Rattle.nb_conns.specs.Dialogues.{AsksIdly, HandsOnClose}
 use Rattle.nb_iscsipdu.specs.PduTexts.{PduParts, pdu_text}
 use Rattle.nb_disk.specs.Histories.{SessionNumbers, DiskCall, came, asked, stream_ended, reading, at_work}
-use Rattle.nb_disk.specs.DiskAnswers.{disk_answer, has_ended, data_range}
+use Rattle.nb_disk.specs.DiskAnswers.{disk_answer, session_has_ended, data_range}
 use Rattle.nb_disk.specs.DiskStands.{DiskStands, is_out}
 use Rattle.nb_disk.specs.Steps.{KeptNumbers}
 use Rattle.nb_drivenodes.specs.declared.drive_tag.DriveTag.TheVariants as drive
@@ -24,7 +24,7 @@ use Rattle.nb_drivenodes.specs.declared.unit_stage.UnitStage.TheVariants.{Unaske
 use Rattle.nb_drivenodes.specs.DriveTags.{drive_tag_number}
 use Rattle.nb_drivenodes.specs.SessionNotes.{note_in}
 use Rattle.nb_drivenodes.specs.DriveEffects.{TextCarrier, DriveEffects, sends_says, text_emit}
-use Rattle.nb_drivenodes.specs.UnitAnswers.{unit_opened, first_command, answered_by}
+use Rattle.nb_drivenodes.specs.UnitAnswers.{unit_opened, first_command, unit_answered_by}
 
 -- How far a unit is: nothing was asked for; the session was; its commands are at work, with these numbers, by a login
 -- with this kind of CHAP, and after these calls of its core; they have ended so; or it ended otherwise.
@@ -114,7 +114,7 @@ pub data UnitTalks {N L : Type 0} (k : TextCarrier L) : UnitTalk → NodeEntry N
   -- A PDU of the session: what is sent, which bytes of blocks go up, and how it ends, are what all that came calls for.
   unit_takes : (o : SessionNumbers) (chap : ℕ) (calls : List DiskCall) (p : PduParts) (slot : ℕ) (m : Said) (now : ℕ) (fx : Fx N L) → tagged_below (drive_tag_number drive.Pdu) slot m ≡ true → pdu_in m.bytes ≡ Some p → TookAll m fx
       → (let call = came m.rec p in let answer = disk_answer o (reading o calls) call in
-      DriveEffects k m (sends_says m.rec (option_map pdu_text answer.put)) (blocks_says m.rec answer.give ++ answered_says m.rec chap (answered_by o calls call)) (closes_for answer.over) fx)
+      DriveEffects k m (sends_says m.rec (option_map pdu_text answer.put)) (blocks_says m.rec answer.give ++ answered_says m.rec chap (unit_answered_by o calls call)) (closes_for answer.over) fx)
       → UnitTalks k (unit_works o chap calls) (up slot m now true fx) (worked_on o chap (calls ++ came m.rec p ∷ []) (disk_answer o (reading o calls) (came m.rec p)).over)
   -- no further one comes
   unit_lacks : (o : SessionNumbers) (chap : ℕ) (calls : List DiskCall) (slot : ℕ) (m : Said) (now : ℕ) (fx : Fx N L) → tagged_below (stream_tag_number stream.End) slot m ≡ true → TookAll m fx
@@ -136,7 +136,7 @@ UnitTalksTo k d (e ∷ t) f = (g : UnitTalk) × UnitTalks k d e g × UnitTalksTo
 pub data IsUnitAt : UnitStage → UnitTalk → Type 0 where
   before_asking : IsUnitAt Unasked unit_unasked
   while_waiting : IsUnitAt Waiting unit_waits
-  while_working : (k : KeptNumbers) (o : SessionNumbers) (chap : ℕ) (calls : List DiskCall) → DiskStands o calls k → has_ended o calls ≡ false → IsUnitAt (Working k chap) (unit_works o chap calls)
+  while_working : (k : KeptNumbers) (o : SessionNumbers) (chap : ℕ) (calls : List DiskCall) → DiskStands o calls k → session_has_ended o calls ≡ false → IsUnitAt (Working k chap) (unit_works o chap calls)
   once_over : (k : KeptNumbers) (o : SessionNumbers) (chap : ℕ) (calls : List DiskCall) (over : Option Cause) → DiskStands o calls k → IsUnitAt Ended (unit_over o chap calls over)
   once_unit_cut : IsUnitAt Ended unit_cut
 

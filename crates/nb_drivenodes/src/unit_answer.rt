@@ -3,7 +3,7 @@
 ghost use Rattle.std.specs.Prelude.{◌≡◌, List, false, IfOk};
 ghost use Rattle.nb_iscsipdu.specs.PduTexts.{pdu_parts};
 ghost use Rattle.nb_disk.specs.Histories.{SessionNumbers, DiskCall, came, stream_ended};
-ghost use Rattle.nb_disk.specs.DiskAnswers.{has_ended};
+ghost use Rattle.nb_disk.specs.DiskAnswers.{session_has_ended};
 ghost use Rattle.nb_disk.specs.DiskStands.{DiskStands};
 ghost use Rattle.nb_drivenodes.specs.UnitAnswers.{AnswersUnit, unit_opened, StartsUnit, answered_so};
 ghost use Rattle.nb_disk.specs.Steps.{has_work, work_capacity};
@@ -72,7 +72,7 @@ pub(crate) fn serve_pdu(
     pdu: &Pdu<'_>,
     acts: &mut Acts,
 ) -> Result<UnitAnswer, NoMemory>
-    ensures { IfOk result (λ a. (o : SessionNumbers) (calls : List DiskCall) → DiskStands o calls disk.old → has_ended o calls ≡ false
+    ensures { IfOk result (λ a. (o : SessionNumbers) (calls : List DiskCall) → DiskStands o calls disk.old → session_has_ended o calls ≡ false
         → AnswersUnit o calls (came rec (pdu_parts pdu.now)) disk.new a) }
 {
     let was_busy = disk.is_busy();
@@ -98,7 +98,7 @@ fn answered(disk: &Disk, was_busy: bool, is_over: bool) -> Option<u32>
 
 /// No further PDU comes, as this record showed.
 pub(crate) fn serve_end(disk: &mut Disk, rec: u32, acts: &mut Acts) -> UnitAnswer
-    ensures { (o : SessionNumbers) (calls : List DiskCall) → DiskStands o calls disk.old → has_ended o calls ≡ false
+    ensures { (o : SessionNumbers) (calls : List DiskCall) → DiskStands o calls disk.old → session_has_ended o calls ≡ false
         → AnswersUnit o calls (stream_ended rec) disk.new result }
 {
     disk.finish(rec, acts);

@@ -9,7 +9,7 @@ use Rattle.nb_nodes.specs.declared.obj.Obj.{Obj}
 use Rattle.nb_opens.proofs.QuietLemmas.{AreQuiet}
 use Rattle.nb_drivechains.specs.declared.drive_chain.DriveChain.{DriveChain}
 use Rattle.nb_conns.specs.declared.conn_ask.ConnAsk.{ConnAsk}
-use Rattle.nb_conns.specs.Dialogues.{comes_from}
+use Rattle.nb_conns.specs.Dialogues.{comes_from_peer}
 use Rattle.nb_drivechains.specs.DriveChains.{three_of}
 use Rattle.nb_webchains.specs.WebCalls.{segment_said}
 use Rattle.nb_webchains.proofs.Three.{conn_in, fetch_in, web_in}
@@ -24,7 +24,7 @@ use Rattle.nb_drivetalks.proofs.Starting.{begun, started}
 use Rattle.nb_drivetalks.proofs.Tasks.{task_comes}
 use Rattle.nb_drivetalks.proofs.Times.{time_comes}
 
-from_peer : (a : ConnAsk) (rec : ℕ) (came : Arrival) → came.port ≡ a.peer_port → came.source.0 ≡ a.peer.0 → comes_from a 1 (segment_said rec came) ≡ true
+from_peer : (a : ConnAsk) (rec : ℕ) (came : Arrival) → came.port ≡ a.peer_port → came.source.0 ≡ a.peer.0 → comes_from_peer a 1 (segment_said rec came) ≡ true
 from_peer a rec came port source = rw (port, source, eq-eqb a.peer_port a.peer_port refl, eq-eqb a.peer.0 a.peer.0 refl) refl
 
 pub segments : DriveSegmentsCome

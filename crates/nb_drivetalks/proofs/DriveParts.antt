@@ -5,7 +5,7 @@ use Rattle.nb_terms.specs.declared.cause.Cause.{Cause}
 use Rattle.nb_login.specs.declared.info.LoginInfo.{LoginInfo}
 use Rattle.nb_login.specs.declared.session.Session.{Session}
 use Rattle.nb_disk.specs.Histories.{DiskCall, came, asked, stream_ended, DiskReading, nothing_read, reading}
-use Rattle.nb_disk.specs.DiskAnswers.{disk_answer, has_ended, opened_of}
+use Rattle.nb_disk.specs.DiskAnswers.{disk_answer, session_has_ended, opened_of}
 use Rattle.nb_sans.specs.Sessions.{ReadTask, drive_calls, drive_comes, is_call, taken_from, over_or_short, session_come, session_end, session_says, stream_parts, takes_read, text_of_put}
 use Rattle.nb_sans.specs.SessionSteps.{AreAskedBy, said_to, said_to_task}
 use Rattle.nb_sans.specs.RecordNumbers.{brought_by}
@@ -32,17 +32,17 @@ not_short rec (Some x) = refl
 pub record HasHad (i : LoginInfo) (come : List ℕ) (tasks : List (ReadTask × ℕ)) (s : Session) (calls : List DiskCall) : Type 0 where
   pub opens : session_come 0 i come ≡ Some s
   pub same : map (brought_by 0) calls ≡ drive_calls 0 i come tasks s
-  pub lives : has_ended (opened_of s) calls ≡ false
+  pub lives : session_has_ended (opened_of s) calls ≡ false
 
 module _ (i : LoginInfo) (come : List ℕ) (tasks : List (ReadTask × ℕ)) (s : Session) (calls : List DiskCall) (had : HasHad i come tasks s calls) where
   pub reads_so : reading (opened_of s) (drive_calls 0 i come tasks s) ≡ reading (opened_of s) calls
   reads_so = ap (reading (opened_of s)) (sym had.same) ∙ records_show.reads (opened_of s) 0 calls
 
-  first_lives : has_ended (opened_of s) (drive_calls 0 i come tasks s) ≡ false
-  first_lives = ap (has_ended (opened_of s)) (sym had.same) ∙ records_show.ended (opened_of s) 0 calls ∙ had.lives
+  first_lives : session_has_ended (opened_of s) (drive_calls 0 i come tasks s) ≡ false
+  first_lives = ap (session_has_ended (opened_of s)) (sym had.same) ∙ records_show.ended (opened_of s) 0 calls ∙ had.lives
 
-  pub lives_by : (rec : ℕ) → has_ended (opened_of s) (drive_calls rec i come tasks s) ≡ false
-  lives_by rec = ap (has_ended (opened_of s)) (records_show.calls rec i come tasks s) ∙ records_show.ended (opened_of s) rec (drive_calls 0 i come tasks s) ∙ first_lives
+  pub lives_by : (rec : ℕ) → session_has_ended (opened_of s) (drive_calls rec i come tasks s) ≡ false
+  lives_by rec = ap (session_has_ended (opened_of s)) (records_show.calls rec i come tasks s) ∙ records_show.ended (opened_of s) rec (drive_calls 0 i come tasks s) ∙ first_lives
 
   pub opens_by : (rec : ℕ) → session_come rec i come ≡ Some s
   opens_by rec = records_show.session rec i come ∙ had.opens

@@ -10,7 +10,7 @@ use Rattle.nb_login.specs.LoginStands.{session_opened}
 use Rattle.nb_login.specs.Logins.{login_history, login_said}
 use Rattle.nb_login.proofs.LoginRecordLaws.{records_show as logins_alike}
 use Rattle.nb_disk.specs.Histories.{DiskCall, DiskReading, SessionNumbers, after_call, nothing_read}
-use Rattle.nb_disk.specs.DiskAnswers.{disk_answer, ended_from, has_ended, opened_of}
+use Rattle.nb_disk.specs.DiskAnswers.{disk_answer, ended_from, session_has_ended, opened_of}
 use Rattle.nb_sans.specs.Sessions.{ReadTask, comes_from, drive_calls, drive_comes, is_call, login_over, login_so_far, opening_command, over_from, pdus_came, puts_from, said_after_login, session_come, session_end, session_end_by, session_says, taken_from}
 use Rattle.nb_sans.proofs.EndGrowth.{end_stays, of_two}
 use Rattle.nb_sans.proofs.RecordLaws.{records_show}
@@ -93,9 +93,9 @@ module _ (rec : ℕ) (i : LoginInfo) (come : List ℕ) (tasks : List (ReadTask �
     ended : login_ended (login_so_far 0 i come) ≡ true
     ended = opened_ended 0 i come s first
 
-    drive_ended : has_ended (opened_of s) (drive_calls 0 i come tasks s) ≡ true
+    drive_ended : session_has_ended (opened_of s) (drive_calls 0 i come tasks s) ≡ true
     drive_ended =
-        sym (records_show.ended (opened_of s) rec (drive_calls 0 i come tasks s)) ∙ sym (ap (has_ended (opened_of s)) (records_show.calls rec i come tasks s))
+        sym (records_show.ended (opened_of s) rec (drive_calls 0 i come tasks s)) ∙ sym (ap (session_has_ended (opened_of s)) (records_show.calls rec i come tasks s))
         ∙ over_ends (opened_of s) nothing_read (drive_calls rec i come tasks s) x over
 
     calls_stay : (later : List ℕ) → drive_calls 0 i (come ++ later) tasks s ≡ drive_calls 0 i come tasks s

@@ -8,7 +8,7 @@ use Rattle.nb_login.specs.declared.info.LoginInfo.{LoginInfo}
 use Rattle.nb_login.specs.declared.session.Session.{Session}
 use Rattle.nb_disk.specs.Histories.{DiskCall, DiskReading, SessionNumbers, at_work, capacity_read, reading}
 use Rattle.nb_disk.specs.DiskAnswers.{disk_answer, opened_of}
-use Rattle.nb_drivenodes.specs.UnitAnswers.{answered_by, answered_so}
+use Rattle.nb_drivenodes.specs.UnitAnswers.{unit_answered_by, answered_so}
 use Rattle.nb_drivenodes.specs.UnitTalks.{answered_says, blocks_says}
 use Rattle.nb_sans.specs.Sessions.{ReadTask, drive_calls, session_come}
 use Rattle.nb_sans.specs.RecordNumbers.{brought_by}
@@ -100,7 +100,7 @@ module _ (rec : ℕ) (i : LoginInfo) (tasks : List (ReadTask × ℕ)) (come late
 
 -- whichever record brought the call, and those before it
 pub unit_same : (rec chap : ℕ) (i : LoginInfo) (come : List ℕ) (tasks : List (ReadTask × ℕ)) (s : Session) (calls : List DiskCall) → HasHad i come tasks s calls → (call : DiskCall)
-    → unit_says rec chap (opened_of s) (drive_calls 0 i come tasks s) (brought_by 0 call) ≡ blocks_says rec (disk_answer (opened_of s) (reading (opened_of s) calls) call).give ++ answered_says rec chap (answered_by (opened_of s) calls call)
+    → unit_says rec chap (opened_of s) (drive_calls 0 i come tasks s) (brought_by 0 call) ≡ blocks_says rec (disk_answer (opened_of s) (reading (opened_of s) calls) call).give ++ answered_says rec chap (unit_answered_by (opened_of s) calls call)
 unit_same rec chap i come tasks s calls had call =
     let o = opened_of s in
     let before = drive_calls 0 i come tasks s in
@@ -110,11 +110,11 @@ unit_same rec chap i come tasks s calls had call =
     records_show.over o (reading o before) 0 call ∙ ap (λ (z : DiskReading). is_some (disk_answer o z call).over) r in
     let more : reading o (before ++ brought_by 0 call ∷ []) ≡ reading o (calls ++ call ∷ []) =
     ap (λ z. reading o (z ++ brought_by 0 call ∷ [])) (sym had.same) ∙ ap (reading o) (sym (map-append (brought_by 0) calls (call ∷ []))) ∙ records_show.reads o 0 (calls ++ call ∷ []) in
-    let then : answered_by o before (brought_by 0 call) ≡ answered_by o calls call =
+    let then : unit_answered_by o before (brought_by 0 call) ≡ unit_answered_by o calls call =
     ap (λ b. answered_so b (is_some (at_work (reading o before))) (is_some (at_work (reading o (before ++ brought_by 0 call ∷ [])))) (capacity_read (reading o (before ++ brought_by 0 call ∷ [])))) over
     ∙ ap (λ (z : DiskReading). answered_so (is_some (disk_answer o (reading o calls) call).over) (is_some (at_work z)) (is_some (at_work (reading o (before ++ brought_by 0 call ∷ [])))) (capacity_read (reading o (before ++ brought_by 0 call ∷ [])))) r
     ∙ ap (λ (z : DiskReading). answered_so (is_some (disk_answer o (reading o calls) call).over) (is_some (at_work (reading o calls))) (is_some (at_work z)) (capacity_read z)) more in
-    ap (λ z. blocks_says rec z ++ answered_says rec chap (answered_by o before (brought_by 0 call))) give
+    ap (λ z. blocks_says rec z ++ answered_says rec chap (unit_answered_by o before (brought_by 0 call))) give
     ∙ ap (λ z. blocks_says rec (disk_answer o (reading o calls) call).give ++ answered_says rec chap z) then
 
 -- where the stream came no further nothing is

@@ -4,7 +4,7 @@ use Rattle.std.specs.Option.{is_some, option_map_or}
 use Rattle.nb_iscsipdu.specs.PduTexts.{PduParts}
 use Rattle.nb_iscsipdu.specs.Answers.{AnswerParts, login, scsi, data_in, nop_in, other}
 use Rattle.nb_login.specs.declared.info.LoginInfo.{LoginInfo}
-use Rattle.nb_login.specs.LoginHistory.{PduCame, pdu_came, LoginEntry, login_entry, counted, decided_after, decided_at, end_given, expected_of, is_end, last_done, login_ended, repeats, text_put}
+use Rattle.nb_login.specs.LoginHistory.{PduCame, pdu_came, LoginEntry, login_entry, counted_repeats, decided_after, decided_at, end_given, expected_of, is_end, last_done, login_ended, repeats, text_put}
 use Rattle.nb_login.specs.Logins.{after_came, login_history, text_of_entry}
 use Rattle.nb_login.specs.LoginRecords.{pdus_alone}
 use Rattle.nb_login.specs.LoginVerdicts.{by_keys, by_response, decided}
@@ -104,7 +104,7 @@ module _ (i : LoginInfo) (h k : List LoginEntry) (a : AlikeSoFar h k) (on : logi
     added = record {
       ended = ap is_end (last_done-append h entry_of) ∙ does_end ∙ sym (ap is_end (last_done-append k other_of));
       last = λ f. last_done-append h entry_of ∙ does_on (sym (ap is_end (last_done-append h entry_of)) ∙ f) ∙ sym (last_done-append k other_of);
-      repeated = λ f. repeats-append h entry_of ∙ ap (λ c. counted c entry_of.does) (a.repeated on) ∙ ap (counted (repeats k)) (does_on (sym (ap is_end (last_done-append h entry_of)) ∙ f)) ∙ sym (repeats-append k other_of);
+      repeated = λ f. repeats-append h entry_of ∙ ap (λ c. counted_repeats c entry_of.does) (a.repeated on) ∙ ap (counted_repeats (repeats k)) (does_on (sym (ap is_end (last_done-append h entry_of)) ∙ f)) ∙ sym (repeats-append k other_of);
     }
 
 both_on : (i : LoginInfo) (h k : List LoginEntry) (a : AlikeSoFar h k) (m n : ℕ) (p : PduParts) → AlikeSoFar (after_came i h (pdu_came m p)) (after_came i k (pdu_came n p))

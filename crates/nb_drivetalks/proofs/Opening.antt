@@ -24,7 +24,7 @@ use Rattle.nb_drivenodes.specs.DriveAsks.{DriveAskParts}
 use Rattle.nb_drivenodes.specs.DriveTags.{drive_tag_number}
 use Rattle.nb_drivenodes.specs.SessionNotes.{note_bytes, note_in, note_of}
 use Rattle.nb_drivenodes.specs.SessionTalks.{SessionTalk, in_session, session_lives}
-use Rattle.nb_drivenodes.specs.UnitAnswers.{answered_by, first_command, unit_opened}
+use Rattle.nb_drivenodes.specs.UnitAnswers.{unit_answered_by, first_command, unit_opened}
 use Rattle.nb_drivenodes.specs.UnitTalks.{UnitTalk, UnitTalks, answered_says, blocks_says, pdu_in, unit_ends, unit_lacks, unit_over, unit_rests, unit_starts, unit_takes, unit_waits, unit_works, worked_on}
 use Rattle.nb_nodes.specs.declared.load.Load.{Load}
 use Rattle.nb_nodes.specs.declared.obj.Obj.{Obj}
@@ -52,7 +52,7 @@ abbrev pub put_at : SessionNumbers → List DiskCall → DiskCall → Option (Li
 put_at o calls call = option_map pdu_text (disk_answer o (reading o calls) call).put
 
 abbrev pub given_at : ℕ → ℕ → SessionNumbers → List DiskCall → DiskCall → List Said
-given_at rec chap o calls call = blocks_says rec (disk_answer o (reading o calls) call).give ++ answered_says rec chap (answered_by o calls call)
+given_at rec chap o calls call = blocks_says rec (disk_answer o (reading o calls) call).give ++ answered_says rec chap (unit_answered_by o calls call)
 
 abbrev pub over_at : SessionNumbers → List DiskCall → DiskCall → Option Cause
 over_at o calls call = (disk_answer o (reading o calls) call).over

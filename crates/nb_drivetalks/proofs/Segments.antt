@@ -22,7 +22,7 @@ use Rattle.nb_tcpseg.specs.SegmentText.{IsLaidOut, SegmentParts}
 use Rattle.nb_conns.specs.declared.conn_load.Lent.{Lent}
 use Rattle.nb_conns.specs.ConnAsks.{link_of}
 use Rattle.nb_conns.specs.ConnEffects.{downs_for, place_says}
-use Rattle.nb_conns.specs.Dialogues.{ConversesTo, Dialogue, IsConnAt, arriving, comes_from, comes_to_end, is_talking, talked_on, talking, unopened, with_segment_call}
+use Rattle.nb_conns.specs.Dialogues.{ConversesTo, Dialogue, IsConnAt, arriving, comes_from_peer, comes_to_end, is_talking, talked_on, talking, unopened, with_segment_call}
 use Rattle.nb_drivechains.specs.declared.drive_chain.DriveChain.{DriveChain}
 use Rattle.nb_drivechains.specs.DriveChains.{three_of}
 use Rattle.nb_drivenodes.specs.DriveAsks.{DriveAskParts}
@@ -70,7 +70,7 @@ says_last l rec now [] calls = refl
 says_last l rec now (x ∷ xs) calls = ap (λ z. sends_say l rec (said_sends (conn_phase l.isn calls) x) ++ z) (says_last l rec now xs (calls ++ text_to_send x now))
 
 module _ (c : DriveChain) (order : IsInOrder (three_of c)) (g h : Objects Obj) (now : ℕ) (ns : List Notice) (a : DriveAskParts) (start : ℕ) (d : Talk ReadTask) (s : StandsForSession a start d c g) (msg : Said) (sp : SegmentParts)
-    (comes : comes_from a.conn 1 msg ≡ true) (is : IsLaidOut msg.bytes sp) (short : length msg.bytes < 2 ^ 32) (st : Started c order h now (Offers (port_at c.conn.0 1) msg ∷ []) ns s.above s.between s.below) where
+    (comes : comes_from_peer a.conn 1 msg ≡ true) (is : IsLaidOut msg.bytes sp) (short : length msg.bytes < 2 ^ 32) (st : Started c order h now (Offers (port_at c.conn.0 1) msg ∷ []) ns s.above s.between s.below) where
   abbrev m : Arrival
   m = arriving msg.rec sp
 

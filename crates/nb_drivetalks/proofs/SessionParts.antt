@@ -5,7 +5,7 @@ use Rattle.std.proofs.lemmas.List.{length-append, map-append}
 use Rattle.std.proofs.lemmas.List.Sums.{fold-append}
 use Rattle.nb_iscsipdu.specs.declared.pdus.PduState.TheVariants.{More}
 use Rattle.nb_iscsipdu.specs.PduTexts.{PduParts, IsPdu}
-use Rattle.nb_iscsipdu.specs.Streams.{Cut, after_byte, cut, is_refused, is_whole, none_cut, pdu_of, state_of, SpellsPdus, StaysOpen}
+use Rattle.nb_iscsipdu.specs.Streams.{Cut, after_byte, cut, is_refused, is_whole_pdu, none_cut, pdu_of, pdu_state_of, SpellsPdus, StaysOpen}
 use Rattle.nb_iscsipdu.proofs.CutLemmas.{cut-spells}
 use Rattle.nb_iscsipdu.proofs.StreamLemmas.{fold-reached, more-not_refused, more-not_whole, reached}
 use Rattle.nb_login.specs.declared.info.LoginInfo.{LoginInfo}
@@ -110,12 +110,12 @@ module _ (come xs : List ℕ) (stays : StaysOpen (cut come).rest xs) (part later
   shorter : StaysOpen (cut come).rest part
   shorter = λ a b e f. stays a (b ++ later) (is ∙ ap (λ z. z ++ later) e ∙ append_assoc a b later) (omega (arith, length-append b later, some))
 
-  open_first : is_whole (cut come).rest ≡ false
+  open_first : is_whole_pdu (cut come).rest ≡ false
   open_first =
       let all : length xs ≡ length part + length later = ap length is ∙ length-append part later in
-      more-not_whole (cut come).rest (ap state_of (sym (append-nil (cut come).rest)) ∙ stays [] xs refl (omega (arith, all, some)))
+      more-not_whole (cut come).rest (ap pdu_state_of (sym (append-nil (cut come).rest)) ∙ stays [] xs refl (omega (arith, all, some)))
 
-  state_then : state_of ((cut come).rest ++ part) ≡ More
+  state_then : pdu_state_of ((cut come).rest ++ part) ≡ More
   state_then = stays part later is some
 
   cut_then : cut (come ++ part) ≡ reached (cut come) ((cut come).rest ++ part)

@@ -20,7 +20,7 @@ use Rattle.nb_login.specs.Asking.{login_text}
 use Rattle.nb_login.specs.LoginHistory.{LoginEntry, text_put}
 use Rattle.nb_login.specs.LoginStands.{session_after}
 use Rattle.nb_disk.specs.Histories.{DiskCall, came, asked, stream_ended, DiskReading, SessionNumbers, at_work, capacity_of, completes, counted, fits, with_status}
-use Rattle.nb_disk.specs.DiskAnswers.{DiskAnswer, answered, broken, bytes_answer, command_after, commands_put, data_answer, disk_answer, ends, expected, given, gives, no_answer, nop_answer, pdu_answer, puts, refused, response_answer}
+use Rattle.nb_disk.specs.DiskAnswers.{DiskAnswer, command_answered, broken, bytes_answer, command_after, commands_put, data_answer, disk_answer, ends, expected_stat_sn, bytes_given, gives, no_answer, nop_answer, pdu_answer, puts, refused_cause, response_answer}
 use Rattle.nb_drivenodes.specs.declared.session_note.SessionNote.{SessionNote}
 use Rattle.nb_drivenodes.specs.SessionNotes.{note_at, note_bytes, note_in}
 use Rattle.nb_drivenodes.specs.UnitTalks.{pdu_in}
@@ -64,24 +64,24 @@ by_gift bytes = none_put (gives bytes) refl
 by_nothing : HasText no_answer
 by_nothing = none_put no_answer refl
 
-answered_some : (o : SessionNumbers) (r : DiskReading) (rec : ℕ) (command : Command) (bytes : List ℕ) (s : TaskStatus) → HasText (answered o r rec command bytes s)
+answered_some : (o : SessionNumbers) (r : DiskReading) (rec : ℕ) (command : Command) (bytes : List ℕ) (s : TaskStatus) → HasText (command_answered o r rec command bytes s)
 answered_some o r rec TestUnitReady bytes s =
     by_test (s.status == 0) _ _ (by_puts o (with_status r bytes s) (length r.results + 1) ReadCapacity)
-    (by_test ((s.status == 2) && nat_lt (length r.results) 3) _ _ (by_puts o (with_status r bytes s) (length r.results + 1) TestUnitReady) (by_end (refused rec s.status)))
+    (by_test ((s.status == 2) && nat_lt (length r.results) 3) _ _ (by_puts o (with_status r bytes s) (length r.results + 1) TestUnitReady) (by_end (refused_cause rec s.status)))
 answered_some o r rec ReadCapacity bytes s =
-    by_test (s.status == 0) _ _ (by_test (is_some (capacity_of (r.bytes ++ bytes))) _ _ by_nothing (by_end (broken rec))) (by_end (refused rec s.status))
+    by_test (s.status == 0) _ _ (by_test (is_some (capacity_of (r.bytes ++ bytes))) _ _ by_nothing (by_end (broken rec))) (by_end (refused_cause rec s.status))
 answered_some o r rec (Read lba blocks) bytes s =
-    by_test (s.status == 0) _ _ (by_test (length r.bytes + length bytes == 512 * blocks) _ _ (by_gift bytes) (by_end (broken rec))) (by_end (refused rec s.status))
+    by_test (s.status == 0) _ _ (by_test (length r.bytes + length bytes == 512 * blocks) _ _ (by_gift bytes) (by_end (broken rec))) (by_end (refused_cause rec s.status))
 
 abbrev nop_answer_by : SessionNumbers → DiskReading → NopIn → DiskAnswer
-nop_answer_by o r n = puts (nop_pdu (record { lun = n.lun; target_tag = n.target_tag; cmd_sn = counted o.cmd_sn (commands_put r); exp_stat_sn = expected o r }))
+nop_answer_by o r n = puts (nop_pdu (record { lun = n.lun; target_tag = n.target_tag; cmd_sn = counted o.cmd_sn (commands_put r); exp_stat_sn = expected_stat_sn o r }))
 
 nop_some : (o : SessionNumbers) (r : DiskReading) (n : NopIn) → HasText (nop_answer o r n)
 unfolding pdu_text nop_pdu head_of
 nop_some o r n = by_test (n.target_tag == 0xffffffff) _ _ by_nothing (one_put (nop_answer_by o r n) _ refl (omega arith))
 
 bytes_some : (o : SessionNumbers) (r : DiskReading) (rec : ℕ) (command : Command) (bytes : List ℕ) (s : Option TaskStatus) → HasText (bytes_answer o r rec command bytes s)
-bytes_some o r rec command bytes None = by_gift (given command bytes)
+bytes_some o r rec command bytes None = by_gift (bytes_given command bytes)
 bytes_some o r rec command bytes (Some s) = answered_some o r rec command bytes s
 
 data_some : (o : SessionNumbers) (r : DiskReading) (rec : ℕ) (work : Option Command) (d : DataInParts) → HasText (data_answer o r rec work d)

@@ -1,7 +1,7 @@
 -- What the three stand for before a call, and after one by which all go on, whichever runs of theirs are taken.
 use Rattle.std.proofs.Common.{◌≡◌, ℕ, false, List, [], ◌∷◌, ◌++◌, length, Some, None, refl, sym, ap, ◌∙◌, subst}
 use Rattle.std.proofs.lemmas.Option.{none-some}
-use Rattle.nb_disk.specs.DiskAnswers.{has_ended as drive_has_ended, opened_of}
+use Rattle.nb_disk.specs.DiskAnswers.{session_has_ended as drive_has_ended, opened_of}
 use Rattle.nb_disk.specs.Histories.{DiskCall}
 use Rattle.nb_terms.specs.declared.acts.Acts.{Acts}
 use Rattle.nb_graph.specs.Deeds.{Stage, no_memory, told_of}

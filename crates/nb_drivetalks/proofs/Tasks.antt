@@ -25,7 +25,7 @@ use Rattle.nb_opens.specs.Entries.{entries_of}
 use Rattle.nb_opens.specs.Notices.{first_close}
 use Rattle.nb_sans.specs.Sessions.{ReadTask, session_says, session_talker}
 use Rattle.nb_sans.specs.SessionSteps.{AreAskedBy}
-use Rattle.nb_talks.specs.Talking.{Talk, by_task, come_of, ended_of, receives, said, talk_held, talks_on, text_calls, text_to_send, to_say, unsaid}
+use Rattle.nb_talks.specs.Talking.{Talk, by_task, come_of, ended_of, receives, said_in_all, talk_held, talks_on, text_calls, text_to_send, to_say, unsaid}
 use Rattle.nb_talks.specs.TalkPromises.{phase_of, said_sends}
 use Rattle.nb_talks.proofs.TalkLaws.{held_with_texts}
 use Rattle.nb_webchains.specs.WebChains.{IsInOrder}
@@ -50,7 +50,7 @@ asked_more come [] task by = (omega arith, tt)
 asked_more come (t ∷ tasks) task by = (by.0, asked_more come tasks task by.1)
 
 module _ (c : DriveChain) (order : IsInOrder (three_of c)) (g h : Objects Obj) (now : ℕ) (ns : List Notice) (a : DriveAskParts) (start : ℕ) (d : Talk ReadTask) (s : StandsForSession a start d c g) (rec block count : ℕ)
-    (so : said d.calls ≡ to_say (session_talker a.info) a.conn.isn d)
+    (so : said_in_all d.calls ≡ to_say (session_talker a.info) a.conn.isn d)
     (st : Started c order h now (Offers (port_at c.unit.0 0) (read_said rec block count) ∷ []) ns s.above s.between s.below) where
   abbrev task : ReadTask
   task = record { lba = block; blocks = count }

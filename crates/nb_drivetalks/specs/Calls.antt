@@ -17,7 +17,7 @@ use Rattle.nb_nodes.specs.declared.obj.Obj.{Obj}
 use Rattle.nb_nodes.specs.Objects.{rank_of_obj}
 use Rattle.nb_sans.specs.Sessions.{ReadTask, session_talker}
 use Rattle.nb_streams.specs.Sending.{closing_segment, without_try}
-use Rattle.nb_talks.specs.Talking.{Talk, said, to_say}
+use Rattle.nb_talks.specs.Talking.{Talk, said_in_all, to_say}
 use Rattle.nb_talks.specs.TalkPromises.{phase_of}
 use Rattle.nb_tcpseg.specs.SegmentText.{IsLaidOut, SegmentParts}
 use Rattle.nb_webchains.specs.WebCalls.{ClosesFetch, DoesWeb, begins_web, receives_web, ticks_web}
@@ -63,7 +63,7 @@ DriveTimesCome = (a : DriveAskParts) (start : ℕ) (d : Talk ReadTask) (c : Driv
 -- The user asks for so many blocks, from this one on, once all was said that was to be said.
 abbrev pub DriveTasksCome : Type 0
 DriveTasksCome = (a : DriveAskParts) (start : ℕ) (d : Talk ReadTask) (c : DriveChain) (g h : Objects Obj) (rec now block count : ℕ) (before after : Heard) (k : DoesWeb (three_of c) now (reads_drive c rec block count) None g h before after)
-    → DriveIsCalled c g h → StandsForSession a start d c g → said d.calls ≡ to_say (session_talker a.info) a.conn.isn d → DriveTaskComes a start d c h (let task : ReadTask = record { lba = block; blocks = count } in task) rec now k.ns
+    → DriveIsCalled c g h → StandsForSession a start d c g → said_in_all d.calls ≡ to_say (session_talker a.info) a.conn.isn d → DriveTaskComes a start d c h (let task : ReadTask = record { lba = block; blocks = count } in task) rec now k.ns
 
 -- The user closes them.
 abbrev pub DriveClosesCome : Type 0

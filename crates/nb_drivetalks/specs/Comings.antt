@@ -9,7 +9,7 @@ use Rattle.nb_disk.specs.Histories.{DiskCall, SessionNumbers, asked, came, readi
 use Rattle.nb_disk.specs.DiskAnswers.{disk_answer, opened_of}
 use Rattle.nb_drivechains.specs.declared.drive_chain.DriveChain.{DriveChain}
 use Rattle.nb_drivenodes.specs.DriveAsks.{DriveAskParts}
-use Rattle.nb_drivenodes.specs.UnitAnswers.{answered_by}
+use Rattle.nb_drivenodes.specs.UnitAnswers.{unit_answered_by}
 use Rattle.nb_drivenodes.specs.UnitTalks.{answered_says, blocks_says}
 use Rattle.nb_graph.specs.Deeds.{no_memory}
 use Rattle.nb_graph.specs.Trace.{Said}
@@ -65,7 +65,7 @@ session_segment_says a d m now =
 
 -- what a unit hands up at a call, after these: bytes of the blocks that were read, and that its command was answered
 abbrev pub unit_says : ℕ → ℕ → SessionNumbers → List DiskCall → DiskCall → List Said
-unit_says rec chap o before call = blocks_says rec (disk_answer o (reading o before) call).give ++ answered_says rec chap (answered_by o before call)
+unit_says rec chap o before call = blocks_says rec (disk_answer o (reading o before) call).give ++ answered_says rec chap (unit_answered_by o before call)
 
 abbrev pub units_say : ℕ → ℕ → SessionNumbers → List DiskCall → List DiskCall → List Said
 units_say rec chap o before [] = []

@@ -2,7 +2,7 @@
 -- the stream that has come by them, and the unit had each PDU of an open session, and each task that it takes. Our own.
 use Rattle.std.specs.Prelude.{◌≡◌, ℕ, false, List, length, map, Some, None}
 use Rattle.nb_conns.specs.Dialogues.{Dialogue, unopened, ConversesTo}
-use Rattle.nb_disk.specs.DiskAnswers.{has_ended as drive_has_ended, opened_of}
+use Rattle.nb_disk.specs.DiskAnswers.{session_has_ended as drive_has_ended, opened_of}
 use Rattle.nb_drivechains.specs.declared.drive_chain.DriveChain.{DriveChain}
 use Rattle.nb_drivechains.specs.DriveChains.{three_of}
 use Rattle.nb_drivenodes.specs.DriveAsks.{DriveAskParts}

@@ -13,8 +13,8 @@ use Rattle.nb_effects.specs.Trace.{Nature, NodeEntry}
 use Rattle.nb_effects.specs.Deeds.{writes, calls}
 use Rattle.nb_effects.specs.Whole.{IsLinked}
 use Rattle.nb_effects.specs.Calm.{HalfCloses}
-use Rattle.nb_effects.specs.Accounts.{Account, JoinedEnds, joined, parted, after_call, rests, enters, is_same_port, sent_by, taken_by}
-use Rattle.nb_effects.specs.Flows.{Still, Asking, IsShut, own, counted, by_no_slot}
+use Rattle.nb_effects.specs.Accounts.{Account, JoinedEnds, joined, parted, account_after_call, rests, enters, is_same_port, sent_by_entry, taken_by}
+use Rattle.nb_effects.specs.Flows.{Still, Asking, IsShut, own, counted_taken, by_no_slot}
 use Rattle.nb_effects.specs.Moves.{Asks, Calms}
 use Rattle.nb_effects.proofs.LinkLemmas.{cases_port, port_but-same, port_but-other}
 use Rattle.nb_effects.proofs.CalmLemmas.{linked-apart}
@@ -27,24 +27,24 @@ Joined-call {s = s} {t = t} {w = w} bs bt v e n (joined a b c d h) = joined a b 
 Joined-call {s = s} {t = t} bs bt v e n (parted a b c d r h) = parted a b c d (r ++ bs) (ap (λ z. z ++ bs) h ∙ append_assoc t r bs ∙ ap (λ z. z ++ (r ++ bs)) (sym (append-nil t) ∙ ap (λ z. t ++ z) (sym (n d))))
 
 module _ {N L : Type 0} (known : Nature N L) (e : NodeEntry N L) where
-  call-peer : (c : Bool) (p : Port) (a : Account) → (cond c (after_call known p a e) (rests a)).peer ≡ a.peer
+  call-peer : (c : Bool) (p : Port) (a : Account) → (cond c (account_after_call known p a e) (rests a)).peer ≡ a.peer
   call-peer true p a = refl
   call-peer false p a = refl
 
-  call-entered : (c : Bool) (p : Port) (a : Account) → (cond c (after_call known p a e) (rests a)).entered ≡ a.entered
+  call-entered : (c : Bool) (p : Port) (a : Account) → (cond c (account_after_call known p a e) (rests a)).entered ≡ a.entered
   call-entered true p a = refl
   call-entered false p a = refl
 
-  call-sent : (c : Bool) (p : Port) (a : Account) (sent : ℕ → List ℕ) → ((k : ℕ) → sent_by known k e ≡ sent k) → (cond c (after_call known p a e) (rests a)).sent ≡ a.sent ++ cond c (sent p.slot) []
+  call-sent : (c : Bool) (p : Port) (a : Account) (sent : ℕ → List ℕ) → ((k : ℕ) → sent_by_entry known k e ≡ sent k) → (cond c (account_after_call known p a e) (rests a)).sent ≡ a.sent ++ cond c (sent p.slot) []
   call-sent true p a sent h = ap (λ z. a.sent ++ z) (h p.slot)
   call-sent false p a sent h = sym (append-nil a.sent)
 
-  call-taken : (c : Bool) (q : Port) (b : Account) (taken : ℕ → List ℕ) → ((k : ℕ) → taken_by k e ≡ taken k) → (cond c (after_call known q b e) (rests b)).taken ≡ b.taken ++ cond c (cond b.entered (taken q.slot) []) []
+  call-taken : (c : Bool) (q : Port) (b : Account) (taken : ℕ → List ℕ) → ((k : ℕ) → taken_by k e ≡ taken k) → (cond c (account_after_call known q b e) (rests b)).taken ≡ b.taken ++ cond c (cond b.entered (taken q.slot) []) []
   call-taken true q b taken h = ap (λ z. b.taken ++ cond b.entered z []) (h q.slot)
   call-taken false q b taken h = sym (append-nil b.taken)
 
 -- the node of y is called
-pub Calms-call : {N L : Type 0} (known : Nature N L) (l : Ledger) (y : ℕ) (e : NodeEntry N L) (sent taken : ℕ → List ℕ) → ((k : ℕ) → sent_by known k e ≡ sent k) → ((k : ℕ) → taken_by k e ≡ taken k) → Calms known l l (Asking l y sent taken) (calls y e ∷ [])
+pub Calms-call : {N L : Type 0} (known : Nature N L) (l : Ledger) (y : ℕ) (e : NodeEntry N L) (sent taken : ℕ → List ℕ) → ((k : ℕ) → sent_by_entry known k e ≡ sent k) → ((k : ℕ) → taken_by k e ≡ taken k) → Calms known l l (Asking l y sent taken) (calls y e ∷ [])
 Calms-call known l y e sent taken hs ht = record {
   same_made = refl;
   links = λ x k q h. h;
@@ -52,8 +52,8 @@ Calms-call known l y e sent taken hs ht = record {
   peers = λ p a. call-peer known e (eqb p.obj.0 y) p a;
   enters = λ q b h. call-entered known e (eqb q.obj.0 y) q b ∙ h;
   quiet = λ q b o h. call-entered known e (eqb q.obj.0 y) q b ∙ h;
-  joins = λ p q a b w v f j. rw (call-sent known e (eqb p.obj.0 y) p a sent hs, call-taken known e (eqb q.obj.0 y) q b taken ht) (Joined-call (own y sent p) (counted y taken q b) v f.0 f.1 j);
-  midway = λ p q a b w v f j. (λ _. start-joined j, λ _. rw (call-sent known e (eqb p.obj.0 y) p a sent hs, call-taken known e (eqb q.obj.0 y) q b taken ht) (start-joined (Joined-call (own y sent p) (counted y taken q b) v f.0 f.1 j)));
+  joins = λ p q a b w v f j. rw (call-sent known e (eqb p.obj.0 y) p a sent hs, call-taken known e (eqb q.obj.0 y) q b taken ht) (Joined-call (own y sent p) (counted_taken y taken q b) v f.0 f.1 j);
+  midway = λ p q a b w v f j. (λ _. start-joined j, λ _. rw (call-sent known e (eqb p.obj.0 y) p a sent hs, call-taken known e (eqb q.obj.0 y) q b taken ht) (start-joined (Joined-call (own y sent p) (counted_taken y taken q b) v f.0 f.1 j)));
   apart = λ p q a b n. (λ i. absurd (n i), λ i. absurd (n (sym (call-peer known e (eqb p.obj.0 y) p a) ∙ i)));
 }
 
@@ -149,5 +149,5 @@ half-left {p} {q} b0 b3 half = half.ports_set q.obj.0 q.slot ∙ port_but-same q
 pub half-gone : {b0 b3 : Ledger} {p q : Port} → IsLinked (port b0) (rank b0) → port b0 p.obj.0 p.slot ≡ Linked q → HalfCloses b0 b3 p q → port b3 p.obj.0 p.slot ≡ Leaving q
 half-gone {b0} {b3} {p} {q} l h half = half.ports_set p.obj.0 p.slot ∙ port_but-other q (Leaving p) (port_but p (Leaving q) (port b0)) p.obj.0 p.slot (λ i. linked-apart b0 p q l h i.0) ∙ port_but-same p (Leaving q) (port b0) p.obj.0 p.slot refl refl
 
-pub Asks-call : {N L : Type 0} (known : Nature N L) (y : ℕ) (e : NodeEntry N L) (sent : ℕ → List ℕ) → ((k : ℕ) → sent_by known k e ≡ sent k) → Asks known y sent (calls y e ∷ [])
+pub Asks-call : {N L : Type 0} (known : Nature N L) (y : ℕ) (e : NodeEntry N L) (sent : ℕ → List ℕ) → ((k : ℕ) → sent_by_entry known k e ≡ sent k) → Asks known y sent (calls y e ∷ [])
 Asks-call known y e sent h p a i = rw (eq-eqb p.obj.0 y i) (h p.slot)

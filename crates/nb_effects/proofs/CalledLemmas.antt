@@ -10,7 +10,7 @@ use Rattle.nb_effects.specs.Trace.{Nature, Said, NodeEntry, up, down, closed, ti
 use Rattle.nb_effects.specs.Deeds.{calls, Stage, MustHear, Holds, Returns, rest, runs_of}
 use Rattle.nb_effects.specs.Scene.{Scene}
 use Rattle.nb_effects.specs.Follows.{Becomes, peer_hears, returns, takes, takes_down, takes_time}
-use Rattle.nb_effects.specs.Accounts.{Account, after_call, rests, sent_by, taken_by, fx_bytes}
+use Rattle.nb_effects.specs.Accounts.{Account, account_after_call, rests, sent_by_entry, taken_by, fx_bytes}
 use Rattle.nb_effects.specs.Drained.{LinkWatch}
 use Rattle.nb_effects.proofs.LinkLemmas.{cases_port}
 use Rattle.nb_effects.proofs.DueLemmas.{Is, Bears, Bars, Due, Fit, Order, entered, bump-own, due-none, due-less, due-push, fit-rest, order-runs, entered-append, entered-runs, due-runs, due-fails}
@@ -31,11 +31,11 @@ called-grows true a z more e = let l : length z.taken ≡ length (a.taken ++ mor
 called-grows false a z more e = omega arith
 
 -- what its object sends and takes counts
-regain-sent : {N L : Type 0} (known : Nature N L) (c : Bool) (p : Port) (a : Account) (load : L) → length (cond c (after_call known p a (regain load)) (rests a)).sent ≡ length a.sent
+regain-sent : {N L : Type 0} (known : Nature N L) (c : Bool) (p : Port) (a : Account) (load : L) → length (cond c (account_after_call known p a (regain load)) (rests a)).sent ≡ length a.sent
 regain-sent known true p a load = ap length (append-nil a.sent)
 regain-sent known false p a load = refl
 
-taken-more : {N L : Type 0} (known : Nature N L) (q : Port) (b : Account) (x : ℕ) (e : NodeEntry N L) (bytes : List ℕ) → q.obj.0 ≡ x → b.entered ≡ true → taken_by q.slot e ≡ bytes → length (cond (eqb q.obj.0 x) (after_call known q b e) (rests b)).taken ≡ length b.taken + length bytes
+taken-more : {N L : Type 0} (known : Nature N L) (q : Port) (b : Account) (x : ℕ) (e : NodeEntry N L) (bytes : List ℕ) → q.obj.0 ≡ x → b.entered ≡ true → taken_by q.slot e ≡ bytes → length (cond (eqb q.obj.0 x) (account_after_call known q b e) (rests b)).taken ≡ length b.taken + length bytes
 taken-more known q b x e bytes i counts is = rw (eq-eqb q.obj.0 x i, counts, is) (length-append b.taken bytes)
 
 bump-zero : (x y h : ℕ) → x ≡ y → cond (eqb x y) (h + 1) h ≤ 1 → h ≡ 0
@@ -49,9 +49,9 @@ module _ {N L : Type 0} (known : Nature N L) (p q : Port) where
   module _ (now : ℕ) (apart : p.obj.0 ≡ q.obj.0 → ⊥) (slots : q.slot ≤ 3) where
     -- the node of p's object is called
     called-own : (s : Scene) (n : ℕ) (a b : Account) (x slot : ℕ) (by : Way) (o : Option Said) (m : Said) (done : Bool) (fx : Fx N L) (e : NodeEntry N L) (gs : List (Stage N L)) (k : ℕ)
-        → x ≡ p.obj.0 → sent_by known p.slot e ≡ cond done (fx_bytes known p.slot m.bytes fx) []
+        → x ≡ p.obj.0 → sent_by_entry known p.slot e ≡ cond done (fx_bytes known p.slot m.bytes fx) []
         → Tied p q s → a.peer ≡ Some q → entered {N = N} {L = L} p.obj.0 (Holds (port_at x slot) by o ∷ gs) ≤ n → Order p q b.entered gs → Due p q k gs → length a.sent ≤ length b.taken + k
-        → Fair p q s n (cond (eqb p.obj.0 x) (after_call known p a e) (rests a)) (cond (eqb q.obj.0 x) (after_call known q b e) (rests b)) ((runs_of known x m done fx ++ Holds (port_at x slot) by o ∷ []) ++ gs)
+        → Fair p q s n (cond (eqb p.obj.0 x) (account_after_call known p a e) (rests a)) (cond (eqb q.obj.0 x) (account_after_call known q b e) (rests b)) ((runs_of known x m done fx ++ Holds (port_at x slot) by o ∷ []) ++ gs)
     called-own s n a b x slot by o m done fx e gs k own sends tied peer runs order due short =
         let hold : Stage N L = Holds (port_at x slot) by o in
         let far : x ≡ q.obj.0 → ⊥ = λ z. apart (sym own ∙ z) in
@@ -67,23 +67,23 @@ module _ {N L : Type 0} (known : Nature N L) (p q : Port) where
               (fit-other known p q b.entered (port_at x slot) by o gs (λ t. far t.0), order);
           missing = k + length bytes;
           due = subst (λ y. Due p q (k + length bytes) (runs_of known y m done fx ++ hold ∷ gs)) (sym own) (due-runs known p q m done fx (hold ∷ gs) k (inr (inr due)));
-          short = let l = length-append a.sent (sent_by known p.slot e) in let i = ap length sends in omega (arith, l, i, short);
+          short = let l = length-append a.sent (sent_by_entry known p.slot e) in let i = ap length sends in omega (arith, l, i, short);
         })
 
     -- the node of another object is called
     called-other : (s : Scene) (n : ℕ) (a b : Account) (x slot : ℕ) (by : Way) (o : Option Said) (m : Said) (done : Bool) (fx : Fx N L) (e : NodeEntry N L) (gs : List (Stage N L)) (k : ℕ)
         → (x ≡ p.obj.0 → ⊥) → Tied p q s → a.peer ≡ Some q → entered {N = N} {L = L} p.obj.0 (Holds (port_at x slot) by o ∷ gs) ≤ n → Order p q b.entered (Holds (port_at x slot) by o ∷ gs)
-        → Due p q k (runs_of known x m done fx ++ Holds (port_at x slot) by o ∷ gs) → length a.sent ≤ length (cond (eqb q.obj.0 x) (after_call known q b e) (rests b)).taken + k
-        → Fair p q s n (cond (eqb p.obj.0 x) (after_call known p a e) (rests a)) (cond (eqb q.obj.0 x) (after_call known q b e) (rests b)) ((runs_of known x m done fx ++ Holds (port_at x slot) by o ∷ []) ++ gs)
+        → Due p q k (runs_of known x m done fx ++ Holds (port_at x slot) by o ∷ gs) → length a.sent ≤ length (cond (eqb q.obj.0 x) (account_after_call known q b e) (rests b)).taken + k
+        → Fair p q s n (cond (eqb p.obj.0 x) (account_after_call known p a e) (rests a)) (cond (eqb q.obj.0 x) (account_after_call known q b e) (rests b)) ((runs_of known x m done fx ++ Holds (port_at x slot) by o ∷ []) ++ gs)
     called-other s n a b x slot by o m done fx e gs k far tied peer runs order due short =
         let hold : Stage N L = Holds (port_at x slot) by o in
         let run : List (Stage N L) = runs_of known x m done fx in
-        let b2 = cond (eqb q.obj.0 x) (after_call known q b e) (rests b) in
-        subst (Fair p q s n (cond (eqb p.obj.0 x) (after_call known p a e) (rests a)) b2) (sym (append_assoc run (hold ∷ []) gs)) (rw (ne_eqb p.obj.0 x (λ z. far (sym z))) (record {
+        let b2 = cond (eqb q.obj.0 x) (account_after_call known q b e) (rests b) in
+        subst (Fair p q s n (cond (eqb p.obj.0 x) (account_after_call known p a e) (rests a)) b2) (sym (append_assoc run (hold ∷ []) gs)) (rw (ne_eqb p.obj.0 x (λ z. far (sym z))) (record {
           tied = tied;
           peer = peer;
           runs = rw (entered-runs known p q x m done fx (hold ∷ gs)) runs;
-          order = subst (λ z. Order p q z (run ++ hold ∷ gs)) (sym (called-entered (eqb q.obj.0 x) b (after_call known q b e) refl))
+          order = subst (λ z. Order p q z (run ++ hold ∷ gs)) (sym (called-entered (eqb q.obj.0 x) b (account_after_call known q b e) refl))
               (order-runs known p q b.entered x m done fx (hold ∷ gs) apart (λ i. absurd (far i)) (λ i. absurd (far i)) order);
           missing = k;
           due = due;
@@ -93,9 +93,9 @@ module _ {N L : Type 0} (known : Nature N L) (p q : Port) where
     -- one that isn't entered by q just then
     called-aside : (s : Scene) (n : ℕ) (a b : Account) (x slot : ℕ) (by : Way) (o : Option Said) (m : Said) (done : Bool) (fx : Fx N L) (e : NodeEntry N L) (g : Stage N L) (gs : List (Stage N L))
         → (x ≡ p.obj.0 → ⊥) → ((k : ℕ) → Bears p q g k → ⊥) → (Bars q g → ⊥) → entered {N = N} {L = L} p.obj.0 (Holds (port_at x slot) by o ∷ gs) ≤ n → Fit p q b.entered (Holds (port_at x slot) by o) gs → Fair p q s n a b (g ∷ gs)
-        → Fair p q s n (cond (eqb p.obj.0 x) (after_call known p a e) (rests a)) (cond (eqb q.obj.0 x) (after_call known q b e) (rests b)) ((runs_of known x m done fx ++ Holds (port_at x slot) by o ∷ []) ++ gs)
+        → Fair p q s n (cond (eqb p.obj.0 x) (account_after_call known p a e) (rests a)) (cond (eqb q.obj.0 x) (account_after_call known q b e) (rests b)) ((runs_of known x m done fx ++ Holds (port_at x slot) by o ∷ []) ++ gs)
     called-aside s n a b x slot by o m done fx e g gs far none nor runs fit f =
-        let grows = called-grows (eqb q.obj.0 x) b (after_call known q b e) (cond b.entered (taken_by q.slot e) []) refl in
+        let grows = called-grows (eqb q.obj.0 x) b (account_after_call known q b e) (cond b.entered (taken_by q.slot e) []) refl in
         let short = f.short in
         called-other s n a b x slot by o m done fx e gs f.missing far f.tied f.peer runs (fit, f.order.1)
         (due-push known p q (runs_of known x m done fx) (Holds (port_at x slot) by o ∷ gs) f.missing (inr (inr (popped known p q g gs f.missing none nor f.due))))
@@ -104,10 +104,10 @@ module _ {N L : Type 0} (known : Nature N L) (p q : Port) where
     -- q's object runs out of memory: it closes q next
     called-fails : (s : Scene) (n : ℕ) (a b : Account) (x slot : ℕ) (by : Way) (m : Said) (fx : Fx N L) (e : NodeEntry N L) (gs : List (Stage N L))
         → (x ≡ p.obj.0 → ⊥) → Is q (port_at x slot) → Fair p q s n a b (Holds (port_at x slot) by (Some m) ∷ gs)
-        → Fair p q s n (cond (eqb p.obj.0 x) (after_call known p a e) (rests a)) (cond (eqb q.obj.0 x) (after_call known q b e) (rests b)) ((runs_of known x m false fx ++ Holds (port_at x slot) by None ∷ []) ++ gs)
+        → Fair p q s n (cond (eqb p.obj.0 x) (account_after_call known p a e) (rests a)) (cond (eqb q.obj.0 x) (account_after_call known q b e) (rests b)) ((runs_of known x m false fx ++ Holds (port_at x slot) by None ∷ []) ++ gs)
     called-fails s n a b x slot by m fx e gs far here f =
         let hold : Stage N L = Holds (port_at x slot) by None in
-        let grows = called-grows (eqb q.obj.0 x) b (after_call known q b e) (cond b.entered (taken_by q.slot e) []) refl in
+        let grows = called-grows (eqb q.obj.0 x) b (account_after_call known q b e) (cond b.entered (taken_by q.slot e) []) refl in
         let short = f.short in
         let inside = (f.order.0 here).1 in
         let more = entered-append known p q p.obj.0 (hold ∷ []) gs in
@@ -146,7 +146,7 @@ module _ {N L : Type 0} (known : Nature N L) (p q : Port) where
     -- a message from below enters q's object by q
     takes-up : (s : Scene) (n : ℕ) (a b : Account) (x slot : ℕ) (m : Said) (done : Bool) (fx : Fx N L) (gs : List (Stage N L))
         → (x ≡ p.obj.0 → ⊥) → Is q (port_at x slot) → Fair p q s n a b (Holds (port_at x slot) way.Up (Some m) ∷ gs)
-        → Fair p q s n (cond (eqb p.obj.0 x) (after_call known p a (up slot m now done fx)) (rests a)) (cond (eqb q.obj.0 x) (after_call known q b (up slot m now done fx)) (rests b)) ((runs_of known x m done fx ++ Holds (port_at x slot) way.Up (rest m done fx) ∷ []) ++ gs)
+        → Fair p q s n (cond (eqb p.obj.0 x) (account_after_call known p a (up slot m now done fx)) (rests a)) (cond (eqb q.obj.0 x) (account_after_call known q b (up slot m now done fx)) (rests b)) ((runs_of known x m done fx ++ Holds (port_at x slot) way.Up (rest m done fx) ∷ []) ++ gs)
     takes-up s n a b x slot m true fx gs far here f =
         let bytes = take fx.took m.bytes in
         let k = f.missing - length bytes in
@@ -161,7 +161,7 @@ module _ {N L : Type 0} (known : Nature N L) (p q : Port) where
     -- and one from above
     takes-below : (s : Scene) (n : ℕ) (a b : Account) (x : ℕ) (m : Said) (done : Bool) (fx : Fx N L) (gs : List (Stage N L))
         → (x ≡ p.obj.0 → ⊥) → Is q (port_at x 0) → Fair p q s n a b (Holds (port_at x 0) way.Down (Some m) ∷ gs)
-        → Fair p q s n (cond (eqb p.obj.0 x) (after_call known p a (down m now done fx)) (rests a)) (cond (eqb q.obj.0 x) (after_call known q b (down m now done fx)) (rests b)) ((runs_of known x m done fx ++ Holds (port_at x 0) way.Down None ∷ []) ++ gs)
+        → Fair p q s n (cond (eqb p.obj.0 x) (account_after_call known p a (down m now done fx)) (rests a)) (cond (eqb q.obj.0 x) (account_after_call known q b (down m now done fx)) (rests b)) ((runs_of known x m done fx ++ Holds (port_at x 0) way.Down None ∷ []) ++ gs)
     takes-below s n a b x m true fx gs far here f =
         let k = f.missing - length m.bytes in
         let short = f.short in
@@ -179,7 +179,7 @@ module _ {N L : Type 0} (known : Nature N L) (p q : Port) where
 
     -- a node is called, or has a load back
     pub called : (s : Scene) (w : LinkWatch) (a b : Account) (gs : List (Stage N L)) {g : Stage N L} {x : ℕ} {e : NodeEntry N L} {more : List (Stage N L)} → Becomes known now s g (calls x e) more → Seen p q w s a b (g ∷ gs)
-        → Seen p q w s (cond (eqb p.obj.0 x) (after_call known p a e) (rests a)) (cond (eqb q.obj.0 x) (after_call known q b e) (rests b)) (more ++ gs)
+        → Seen p q w s (cond (eqb p.obj.0 x) (account_after_call known p a e) (rests a)) (cond (eqb q.obj.0 x) (account_after_call known q b e) (rests b)) (more ++ gs)
     called s w a b gs (peer_hears x slot c fx) seen z =
         let f = seen z in
         elim (cases_eq x p.obj.0) [
@@ -189,13 +189,13 @@ module _ {N L : Type 0} (known : Nature N L) (p q : Port) where
     called s w a b gs (returns x l) seen z =
         let f = seen z in
         let sent = regain-sent known (eqb p.obj.0 x) p a l in
-        let grows = called-grows (eqb q.obj.0 x) b (after_call known q b (regain l)) (cond b.entered [] []) refl in
+        let grows = called-grows (eqb q.obj.0 x) b (account_after_call known q b (regain l)) (cond b.entered [] []) refl in
         let short = f.short in
         record {
           tied = f.tied;
-          peer = called-peer (eqb p.obj.0 x) a (after_call known p a (regain l)) refl ∙ f.peer;
+          peer = called-peer (eqb p.obj.0 x) a (account_after_call known p a (regain l)) refl ∙ f.peer;
           runs = f.runs;
-          order = subst (λ y. Order p q y gs) (sym (called-entered (eqb q.obj.0 x) b (after_call known q b (regain l)) refl)) f.order.1;
+          order = subst (λ y. Order p q y gs) (sym (called-entered (eqb q.obj.0 x) b (account_after_call known q b (regain l)) refl)) f.order.1;
           missing = f.missing;
           due = popped known p q (Returns x l) gs f.missing (λ k y. y) (λ y. y) f.due;
           short = omega (arith, sent, grows, short);

@@ -9,7 +9,7 @@ use Rattle.nb_ledger.specs.declared.port.PortState.{PortState}
 use Rattle.nb_ledger.specs.declared.port.PortState.TheVariants.{Open, Linked, Leaving, Closed}
 use Rattle.nb_ledger.specs.declared.event.Way.{Way}
 use Rattle.nb_ledger.specs.declared.event.GraphEvent.TheVariants as event
-use Rattle.nb_ledger.specs.GraphRun.{OnStack, Running, Step, owed, entries, but_at, port_but, link_count}
+use Rattle.nb_ledger.specs.GraphRun.{OnStack, Running, Step, owed, running_entries, but_at, port_but, link_count}
 use Rattle.nb_ledger.specs.Flat.{Tells}
 use Rattle.nb_ledger.specs.Ledger.{Ledger, busy, rank, port, leaves, open_count, run_state}
 use Rattle.nb_ledger.specs.Changes.{SetsBusy, SetsPort}
@@ -72,11 +72,11 @@ owed-port l st x k v h n u =
     owed-some (run_state l st) x (omega arith)
 
 -- flags after an entry begins
-pub agrees-enter : (f : ℕ → Bool) (st : List OnStack) (y : ℕ) → ((x : ℕ) → f x ≡ nat_lt 0 (entries st x)) → (x : ℕ) → but_at y true f x ≡ nat_lt 0 (cond (eqb x y) 1 0 + entries st x)
+pub agrees-enter : (f : ℕ → Bool) (st : List OnStack) (y : ℕ) → ((x : ℕ) → f x ≡ nat_lt 0 (running_entries st x)) → (x : ℕ) → but_at y true f x ≡ nat_lt 0 (cond (eqb x y) 1 0 + running_entries st x)
 agrees-enter f st y e x = let a = e x in grind (arith, nat_tests)
 
 -- and after it ends
-pub agrees-leave : (f g : ℕ → Bool) (st : List OnStack) (y : ℕ) (was : Bool) → was ≡ f y → ((x : ℕ) → (x ≡ y → ⊥) → g x ≡ f x) → ((x : ℕ) → f x ≡ nat_lt 0 (entries st x)) → (x : ℕ) → but_at y was g x ≡ nat_lt 0 (entries st x)
+pub agrees-leave : (f g : ℕ → Bool) (st : List OnStack) (y : ℕ) (was : Bool) → was ≡ f y → ((x : ℕ) → (x ≡ y → ⊥) → g x ≡ f x) → ((x : ℕ) → f x ≡ nat_lt 0 (running_entries st x)) → (x : ℕ) → but_at y was g x ≡ nat_lt 0 (running_entries st x)
 agrees-leave f g st y was h e a x = elim (cases_eq x y) [
   | inl i ↦ but_same y was g x i ∙ h ∙ ap f (sym i) ∙ a x
   | inr n ↦ but_other y was g x n ∙ e x n ∙ a x

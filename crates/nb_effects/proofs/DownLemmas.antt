@@ -12,7 +12,7 @@ use Rattle.nb_ledger.specs.Ledger.{Ledger, port, rank, open_count}
 use Rattle.nb_effects.specs.Deeds.{Deed, writes}
 use Rattle.nb_effects.specs.Whole.{IsLinked, port_at}
 use Rattle.nb_effects.specs.Accounts.{Account, JoinedEnds, joined, parted, account, enters, rests, is_same_port}
-use Rattle.nb_effects.specs.Flows.{IsClear, IsShut, Still, Giving, Following, Asking, own, counted}
+use Rattle.nb_effects.specs.Flows.{IsClear, IsShut, Still, Giving, Following, Asking, own, counted_taken}
 use Rattle.nb_effects.specs.Moves.{Calms}
 use Rattle.nb_effects.proofs.LivensLemmas.{port-eq}
 use Rattle.nb_effects.proofs.AccountLemmas.{Calms-then}
@@ -43,7 +43,7 @@ module _ (l : Ledger) (at : Port) (zero : at.slot ≡ 0) (opened : IsOpen (port 
   not_at : (q : Port) → (q ≡ at → ⊥) → q ≡ port_at at.obj.0 0 → ⊥
   not_at q n e = n (e ∙ sym (port-eq at (port_at at.obj.0 0) refl zero))
 
-  elsewhere : (q : Port) (b : Account) → (q ≡ at → ⊥) → counted at.obj.0 whole q b ≡ []
+  elsewhere : (q : Port) (b : Account) → (q ≡ at → ⊥) → counted_taken at.obj.0 whole q b ≡ []
   elsewhere q b n = counted-else at.obj.0 whole q b (λ e. only q.slot (λ z. n (port-eq q at e (z ∙ sym zero))))
 
   not-shut : (q : Port) → q ≡ at → IsShut l q → ⊥
@@ -73,7 +73,7 @@ module _ (l : Ledger) (at : Port) (zero : at.slot ≡ 0) (opened : IsOpen (port 
   takes p q y z s t w v (inr (clr, inr (n, h))) (joined a b c d e) =
       (w ++ own at.obj.0 sent p, (ap (λ x. x ++ (w ++ own at.obj.0 sent p)) (sym free), λ _. free), goes)
     where
-      free : counted at.obj.0 whole q y ≡ []
+      free : counted_taken at.obj.0 whole q y ≡ []
       free = elsewhere q y n
 
       goes : Following l (port_at at.obj.0 0) left sent p q z (w ++ own at.obj.0 sent p) v

@@ -13,8 +13,8 @@ use Rattle.nb_effects.specs.Trace.{Nature, NodeEntry}
 use Rattle.nb_effects.specs.Deeds.{events_of, Deed, writes, begins, calls, turns, Turn, Stage, MustHear, Holds, Makes, MustBegin, Closes, MustShut, Ends, Sends, Gives, Ticks, Wants, Settles, LetsAllGo, all_closes, no_place}
 use Rattle.nb_effects.specs.Scene.{Scene, scene_of, after_noted}
 use Rattle.nb_effects.specs.Follows.{Becomes, UsesStack, closes_none, keeps, passes, leaves, ticks_none, finds_none, has_begun, next, none_left, lets, lets_none}
-use Rattle.nb_effects.specs.Accounts.{account, Account, Balanced, JoinedEnds, Midway, joined, parted, after_note, after_call, rests}
-use Rattle.nb_effects.specs.Drained.{LinkWatch, watched, IsDrained, IsFromOutside, AreFromOutside, watch_event, watch}
+use Rattle.nb_effects.specs.Accounts.{account, Account, Balanced, JoinedEnds, Midway, joined, parted, after_note, account_after_call, rests}
+use Rattle.nb_effects.specs.Drained.{LinkWatch, link_watch_begun, IsDrained, IsFromOutside, AreFromOutside, watch_event, watch}
 use Rattle.nb_effects.specs.Went.{Midways, WentOne, all_of}
 use Rattle.nb_effects.proofs.Laws.{only_call}
 use Rattle.nb_effects.proofs.DueLemmas.{Bears, Due, Fit, Order, order-full, entered, order-closes}
@@ -106,7 +106,7 @@ module _ {N L : Type 0} (known : Nature N L) (p q : Port) where
     drained s t (g ∷ gs) (begins x n ∷ ds) w a b (more, row, h) mid seen = drained s t (more ++ gs) ds w a b h mid (begun s w a b gs row seen)
     drained s t (g ∷ gs) (turns u ∷ ds) w a b (more, row, h) mid seen = drained s t (more ++ gs) ds w a b h mid (turned s w a b gs row seen)
     drained s t (g ∷ gs) (calls x e ∷ ds) w a b (more, row, h) mid seen =
-        drained s t (more ++ gs) ds w (cond (eqb p.obj.0 x) (after_call known p a e) (rests a)) (cond (eqb q.obj.0 x) (after_call known q b e) (rests b)) h mid.1 (called known p q now apart slots s w a b gs row seen)
+        drained s t (more ++ gs) ds w (cond (eqb p.obj.0 x) (account_after_call known p a e) (rests a)) (cond (eqb q.obj.0 x) (account_after_call known q b e) (rests b)) h mid.1 (called known p q now apart slots s w a b gs row seen)
 
   -- what is asked for from outside brings nothing
   outside-entered : (asks : List (Stage N L)) → AreFromOutside asks → entered p.obj.0 asks ≡ 0
@@ -153,7 +153,7 @@ module _ {N L : Type 0} (known : Nature N L) (p q : Port) where
 
   -- the ends of a link of a graph
   pub drains : (now : ℕ) (l : Ledger) (t : Scene) (asks : List (Stage N L)) (ds : List (Deed N L)) (a b : Account) → AreFromOutside asks → IsLinked (port l) (rank l) → Balanced l p q a b → a.peer ≡ Some q → port l p.obj.0 p.slot ≡ Linked q
-      → UsesStack known now (scene_of l) asks ds t → Midway known p q (rests a) (rests b) ds → IsDrained known p q (rests a) (rests b) watched ds
+      → UsesStack known now (scene_of l) asks ds t → Midway known p q (rests a) (rests b) ds → IsDrained known p q (rests a) (rests b) link_watch_begun ds
   drains now l t asks ds a b out links bal peer linked h mid =
       let back : port l q.obj.0 q.slot ≡ Linked p = links.back p.obj.0 p.slot q linked in
       let ends = bal peer in
@@ -161,7 +161,7 @@ module _ {N L : Type 0} (known : Nature N L) (p q : Port) where
       let apart : p.obj.0 ≡ q.obj.0 → ⊥ = ends-apart l p q links linked back in
       let four = (live_by l q.obj.0 q.slot (Linked p) tt back).1 in
       let slots : q.slot ≤ 3 = omega (arith, four) in
-      drained now apart slots (scene_of l) t asks ds watched (rests a) (rests b) h mid (λ _. record {
+      drained now apart slots (scene_of l) t asks ds link_watch_begun (rests a) (rests b) h mid (λ _. record {
         tied = record {
           first = linked;
           second = back;
@@ -180,12 +180,12 @@ module _ {N L : Type 0} (known : Nature N L) (p q : Port) where
 
 -- in one call
 pub went-drained : {N L : Type 0} (stands : N → List (NodeEntry N L) → Type 0) (known : Nature N L) (now : ℕ) (asks : List (Stage N L)) (old new : Objects N) (before after : Heard) (p q : Port) (a b : Account) → AreFromOutside asks → IsLinked (port old.book) (rank old.book) → Balanced old.book p q a b
-    → (k : WentOne stands known now asks old new before after) → a.peer ≡ Some q → port old.book p.obj.0 p.slot ≡ Linked q → IsDrained known p q (rests a) (rests b) watched (all_of k.deeds)
+    → (k : WentOne stands known now asks old new before after) → a.peer ≡ Some q → port old.book p.obj.0 p.slot ≡ Linked q → IsDrained known p q (rests a) (rests b) link_watch_begun (all_of k.deeds)
 went-drained stands known now asks old new before after p q a b out links bal k peer linked =
     let one = only_call known (scene_of old.book) (scene_of new.book) (record { now = now; asks = asks }) k.deeds k.each in
     let mid = subst (Midways known p q a b) one.1 (k.midway p q a b bal) in
     let ds = drains known p q now old.book (scene_of new.book) asks one.0 a b out links bal peer linked one.2 mid.0 in
-    subst (λ dss. IsDrained known p q (rests a) (rests b) watched (all_of dss)) (sym one.1) (subst (IsDrained known p q (rests a) (rests b) watched) (sym (append-nil one.0)) ds)
+    subst (λ dss. IsDrained known p q (rests a) (rests b) link_watch_begun (all_of dss)) (sym one.1) (subst (IsDrained known p q (rests a) (rests b) link_watch_begun) (sym (append-nil one.0)) ds)
 
 -- where what happens is so many deeds, and then the close of p
 at-close : {N L : Type 0} (known : Nature N L) (p q : Port) (a b : Account) (w : LinkWatch) (us vs : List (Deed N L)) (c : Cause) → c ≢ no_place → IsDrained known p q a b w (us ++ writes (Closed p c) ∷ vs) → (watch p q w (events_of us)).ended ≡ false → (watch p q w (events_of us)).running ≤ 1
@@ -194,7 +194,7 @@ at-close known p q a b w [] vs c n d = λ e le. d.0 (refl, n) e le
 at-close known p q a b w (writes e ∷ us) vs c n d = at-close known p q (after_note p a e) (after_note q b e) (watch_event p q w e) us vs c n d.1
 at-close known p q a b w (begins x y ∷ us) vs c n d = at-close known p q a b w us vs c n d
 at-close known p q a b w (turns u ∷ us) vs c n d = at-close known p q a b w us vs c n d
-at-close known p q a b w (calls y e ∷ us) vs c n d = at-close known p q (cond (eqb p.obj.0 y) (after_call known p a e) (rests a)) (cond (eqb q.obj.0 y) (after_call known q b e) (rests b)) w us vs c n d
+at-close known p q a b w (calls y e ∷ us) vs c n d = at-close known p q (cond (eqb p.obj.0 y) (account_after_call known p a e) (rests a)) (cond (eqb q.obj.0 y) (account_after_call known q b e) (rests b)) w us vs c n d
 
 pub drained-at : {N L : Type 0} (known : Nature N L) (p q : Port) (a b : Account) (w : LinkWatch) (ds us vs : List (Deed N L)) (c : Cause) → c ≢ no_place → IsDrained known p q a b w ds → ds ≡ us ++ writes (Closed p c) ∷ vs → (watch p q w (events_of us)).ended ≡ false → (watch p q w (events_of us)).running ≤ 1
     → (account known p a us).sent ≡ (account known q b us).taken

@@ -11,7 +11,7 @@ use Rattle.nb_ledger.specs.declared.event.Way.TheVariants.{Close}
 use Rattle.nb_ledger.specs.Ledger.{Ledger, port, open_count, object_lives}
 use Rattle.nb_effects.specs.Whole.{IsQuiet, Runs}
 use Rattle.nb_effects.specs.Calm.{Starts}
-use Rattle.nb_effects.specs.Order.{IsFrom, ClosesInOrder, ClosesOne, LetsHoldsGo, EndsLink, ClosesOnce, linked, none, one, frees}
+use Rattle.nb_effects.specs.Order.{IsFrom, ClosesInOrder, ClosesOnePort, LetsHoldsGo, EndsLink, ClosesOnce, linked, none, one, frees}
 use Rattle.nb_effects.proofs.ShutLemmas.{no-object, no-slot}
 use Rattle.nb_effects.proofs.RunsLemmas.{Agrees-quiet}
 use Rattle.std.proofs.lemmas.List.{map-append}
@@ -54,7 +54,7 @@ Shuts-link {p = p} {q = q} {cause = cause} s nested {es} e h = record {
 }
 
 -- where no entry runs
-pub ClosesOne-shuts : {l m : Ledger} {b c : Heard} {p : Port} {cause : Cause} → IsQuiet l → ClosesOnce l m b c p cause → ClosesOne cause p l m b c
+pub ClosesOne-shuts : {l m : Ledger} {b c : Heard} {p : Port} {cause : Cause} → IsQuiet l → ClosesOnce l m b c p cause → ClosesOnePort cause p l m b c
 ClosesOne-shuts {l} {p = p} {cause = cause} q s = (Closed p cause ∷ s.starts.rest, record { told = s.starts.told; run = s.starts.run [] tt (Agrees-quiet l q) }, s.one)
 
 -- the next port of an object, open or not

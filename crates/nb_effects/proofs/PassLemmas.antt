@@ -11,7 +11,7 @@ use Rattle.nb_ledger.specs.Ledger.{Ledger, port, rank}
 use Rattle.nb_effects.specs.Deeds.{Deed, writes}
 use Rattle.nb_effects.specs.Whole.{IsLinked, port_at}
 use Rattle.nb_effects.specs.Accounts.{Account, JoinedEnds, joined, parted, account, enters, rests, is_same_port}
-use Rattle.nb_effects.specs.Flows.{Reaches, over, IsClear, IsShut, Still, Closing, Downs, Asking, own, counted, by_no_slot}
+use Rattle.nb_effects.specs.Flows.{Reaches, over, IsClear, IsShut, Still, Closing, Downs, Asking, own, counted_taken, by_no_slot}
 use Rattle.nb_effects.specs.Moves.{Calms}
 use Rattle.nb_effects.proofs.ForestLemmas.{Reaches-map, apart-without, the-port}
 use Rattle.nb_effects.proofs.AccountLemmas.{Calms-then, Joined-mild}
@@ -24,7 +24,7 @@ own-at y sent p e = rw (eq-eqb p.obj.0 y e) refl
 pub own-else : (y : ℕ) (sent : ℕ → List ℕ) (p : Port) → (p.obj.0 ≡ y → ⊥) → own y sent p ≡ []
 own-else y sent p n = rw (ne_eqb p.obj.0 y n) refl
 
-pub counted-else : (y : ℕ) (taken : ℕ → List ℕ) (q : Port) (b : Account) → (q.obj.0 ≡ y → taken q.slot ≡ []) → counted y taken q b ≡ []
+pub counted-else : (y : ℕ) (taken : ℕ → List ℕ) (q : Port) (b : Account) → (q.obj.0 ≡ y → taken q.slot ≡ []) → counted_taken y taken q b ≡ []
 counted-else y taken q b n = elim (cases_eq q.obj.0 y) [
   | inl e ↦ rw (eq-eqb q.obj.0 y e, n e) (same b.entered)
   | inr e ↦ rw (ne_eqb q.obj.0 y e) refl
@@ -34,7 +34,7 @@ counted-else y taken q b n = elim (cases_eq q.obj.0 y) [
     same true = refl
     same false = refl
 
-pub counted-at : (y : ℕ) (taken : ℕ → List ℕ) (q : Port) (b : Account) → q.obj.0 ≡ y → b.entered ≡ true → counted y taken q b ≡ taken q.slot
+pub counted-at : (y : ℕ) (taken : ℕ → List ℕ) (q : Port) (b : Account) → q.obj.0 ≡ y → b.entered ≡ true → counted_taken y taken q b ≡ taken q.slot
 counted-at y taken q b e h = rw (eq-eqb q.obj.0 y e, h) refl
 
 -- the object that is entered may be disturbed
@@ -46,7 +46,7 @@ hears : (l : Ledger) (x : ℕ) (sent m : ℕ → List ℕ) → ((k : ℕ) → se
 hears l x sent m same none p q y z w v h =
     (w ++ own x sent p, (ap (λ t. t ++ (w ++ own x sent p)) (sym free), λ _. free), goes h)
   where
-    free : counted x by_no_slot q y ≡ []
+    free : counted_taken x by_no_slot q y ≡ []
     free = counted-else x by_no_slot q y (λ _. refl)
 
     goes : Hearing l x p q y w v → Downs l x m p q z (w ++ own x sent p) v

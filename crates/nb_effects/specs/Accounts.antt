@@ -26,12 +26,12 @@ abbrev pub fx_bytes : {N L : Type 0} → Nature N L → ℕ → List ℕ → Fx 
 fx_bytes known k bytes fx = few_bytes known k bytes fx.downs ++ few_bytes known k bytes fx.ups
 
 -- What an entry sends by slot k. One that ran out of memory sends nothing.
-abbrev pub sent_by : {N L : Type 0} → Nature N L → ℕ → NodeEntry N L → List ℕ
-sent_by known k (up slot msg now done fx) = if done then fx_bytes known k msg.bytes fx else []
-sent_by known k (down msg now done fx) = if done then fx_bytes known k msg.bytes fx else []
-sent_by known k (closed slot cause now fx) = fx_bytes known k [] fx
-sent_by known k (time now done fx) = if done then fx_bytes known k [] fx else []
-sent_by known k (regain load) = []
+abbrev pub sent_by_entry : {N L : Type 0} → Nature N L → ℕ → NodeEntry N L → List ℕ
+sent_by_entry known k (up slot msg now done fx) = if done then fx_bytes known k msg.bytes fx else []
+sent_by_entry known k (down msg now done fx) = if done then fx_bytes known k msg.bytes fx else []
+sent_by_entry known k (closed slot cause now fx) = fx_bytes known k [] fx
+sent_by_entry known k (time now done fx) = if done then fx_bytes known k [] fx else []
+sent_by_entry known k (regain load) = []
 
 -- What an entry takes by slot k. One from above takes its whole message.
 abbrev pub taken_by : {N L : Type 0} → ℕ → NodeEntry N L → List ℕ
@@ -86,8 +86,8 @@ after_note p a (Unplugged u l) = rests a
 after_note p a (Freed x) = rests a
 
 -- A call of its object. What it takes of a message that had entered before the link was plugged doesn't count.
-abbrev pub after_call : {N L : Type 0} → Nature N L → Port → Account → NodeEntry N L → Account
-after_call known p a e = record a { sent = a.sent ++ sent_by known p.slot e; taken = a.taken ++ (if a.entered then taken_by p.slot e else []); asked = sent_by known p.slot e }
+abbrev pub account_after_call : {N L : Type 0} → Nature N L → Port → Account → NodeEntry N L → Account
+account_after_call known p a e = record a { sent = a.sent ++ sent_by_entry known p.slot e; taken = a.taken ++ (if a.entered then taken_by p.slot e else []); asked = sent_by_entry known p.slot e }
 
 -- the account of the port p, after what happens
 abbrev pub account : {N L : Type 0} → Nature N L → Port → Account → List (Deed N L) → Account
@@ -95,7 +95,7 @@ account known p a [] = a
 account known p a (writes e ∷ ds) = account known p (after_note p a e) ds
 account known p a (begins x n ∷ ds) = account known p a ds
 account known p a (turns u ∷ ds) = account known p a ds
-account known p a (calls y e ∷ ds) = account known p (if p.obj.0 == y then after_call known p a e else rests a) ds
+account known p a (calls y e ∷ ds) = account known p (if p.obj.0 == y then account_after_call known p a e else rests a) ds
 
 -- where p was plugged to q, q took the first of what p sent
 abbrev pub Covers : Port → Account → Account → Type 0
@@ -107,7 +107,7 @@ Midway known p q a b [] = Covers q a b
 Midway known p q a b (writes e ∷ ds) = Covers q a b × Midway known p q (after_note p a e) (after_note q b e) ds
 Midway known p q a b (begins x n ∷ ds) = Midway known p q a b ds
 Midway known p q a b (turns u ∷ ds) = Midway known p q a b ds
-Midway known p q a b (calls y e ∷ ds) = Covers q a b × Midway known p q (if p.obj.0 == y then after_call known p a e else rests a) (if q.obj.0 == y then after_call known q b e else rests b) ds
+Midway known p q a b (calls y e ∷ ds) = Covers q a b × Midway known p q (if p.obj.0 == y then account_after_call known p a e else rests a) (if q.obj.0 == y then account_after_call known q b e else rests b) ds
 
 -- Two ends of one link: p sent s, and q took t. While the link is open they are linked, and `due` is what p sent and
 -- q has still to take. Where it is closed, q took the first of what p sent.

@@ -6,7 +6,7 @@ use Rattle.nb_ledger.specs.declared.port.Port.{Port}
 use Rattle.nb_ledger.specs.declared.port.PortState.{PortState}
 use Rattle.nb_ledger.specs.declared.port.PortState.TheVariants.{Leaving}
 use Rattle.nb_ledger.specs.declared.event.GraphEvent.{GraphEvent}
-use Rattle.nb_ledger.specs.GraphRun.{OnStack, IsIdle, GraphRunOf, owed, entries, but_at, port_but}
+use Rattle.nb_ledger.specs.GraphRun.{OnStack, IsIdle, GraphRunOf, owed, running_entries, but_at, port_but}
 use Rattle.nb_ledger.specs.Flat.{Tells}
 use Rattle.nb_ledger.specs.Ledger.{Ledger, object_lives, rank, port, busy, place, leaves, opens, open_count, run_state, Agrees}
 use Rattle.nb_effects.specs.Whole.{IsBookWhole, IsManned}
@@ -60,7 +60,7 @@ pub record HalfCloses (old new : Ledger) (at peer : Port) : Type 0 where
 pub record EndsEntry (old new : Ledger) (before after : Heard) (x : ℕ) (was : Bool) (opened : List OnStack → List OnStack) (f : ℕ → ℕ → PortState) : Type 0 where
   pub added : List GraphEvent
   pub told : Tells before after added
-  pub run : (st : List OnStack) → ((y : ℕ) → but_at x was (busy old) y ≡ nat_lt 0 (entries st y)) → GraphRunOf (run_state old (opened st)) added (run_state new st)
+  pub run : (st : List OnStack) → ((y : ℕ) → but_at x was (busy old) y ≡ nat_lt 0 (running_entries st y)) → GraphRunOf (run_state old (opened st)) added (run_state new st)
   pub same_made : new.made ≡ old.made
   pub same_room : new.room ≡ old.room
   pub fewer : length new.objects ≤ length old.objects

@@ -3,12 +3,12 @@ use Rattle.std.specs.Prelude.{Bool, true, false, ℕ, List, count_by}
 use Rattle.nb_effects.specs.Trace.{NodeEntry, up, down, closed, time, regain}
 
 -- an entry by a message from below
-abbrev pub is_up : {N L : Type 0} → NodeEntry N L → Bool
-is_up (up slot msg now done fx) = true
-is_up (down msg now done fx) = false
-is_up (closed slot cause now fx) = false
-is_up (time now done fx) = false
-is_up (regain load) = false
+abbrev pub is_up_entry : {N L : Type 0} → NodeEntry N L → Bool
+is_up_entry (up slot msg now done fx) = true
+is_up_entry (down msg now done fx) = false
+is_up_entry (closed slot cause now fx) = false
+is_up_entry (time now done fx) = false
+is_up_entry (regain load) = false
 
 -- a load that came back
 abbrev pub is_regain : {N L : Type 0} → NodeEntry N L → Bool
@@ -20,7 +20,7 @@ is_regain (regain load) = true
 
 -- how often the trace has one from below, and how many loads came back
 abbrev pub ups : {N L : Type 0} → List (NodeEntry N L) → ℕ
-ups t = count_by is_up t
+ups t = count_by is_up_entry t
 
 abbrev pub regains : {N L : Type 0} → List (NodeEntry N L) → ℕ
 regains t = count_by is_regain t

@@ -5,7 +5,7 @@ use Rattle.nb_ledger.specs.declared.event.GraphEvent.{GraphEvent}
 use Rattle.nb_ledger.specs.declared.event.GraphEvent.TheVariants.{Made, Held, LetGo, Plugged, Entered, Left, Dropped, Closed, Unplugged, Freed}
 use Rattle.nb_effects.specs.Trace.{Nature}
 use Rattle.nb_effects.specs.Deeds.{Deed, writes, begins, calls, turns, no_place, Stage, Shut, MustHear, Holds, Makes, MustMake, MustBegin, MustPlug, Closes, MustShut, Ends, Sends, Gives, Offers, Ticks, Returns, Wants, MustUnplug, Settles, LetsAllGo}
-use Rattle.nb_effects.specs.Accounts.{Account, after_note, after_call, rests, is_same_port}
+use Rattle.nb_effects.specs.Accounts.{Account, after_note, account_after_call, rests, is_same_port}
 
 -- This event closes the port p, with another cause than where a make of its object found no place.
 abbrev pub IsClosedBy : Port → GraphEvent → Type 0
@@ -53,8 +53,8 @@ pub record LinkWatch : Type 0 where
   pub ended : Bool
 
 -- where a call begins
-abbrev pub watched : LinkWatch
-watched = record { running = 0; ended = false }
+abbrev pub link_watch_begun : LinkWatch
+link_watch_begun = record { running = 0; ended = false }
 
 abbrev pub watch_event : Port → Port → LinkWatch → GraphEvent → LinkWatch
 watch_event p q w e = record { running = running_after p.obj.0 w.running e; ended = w.ended || (leaves_closed p e || leaves_closed q e) }
@@ -79,7 +79,7 @@ IsDrained known p q a b w (writes e ∷ ds) =
 IsDrained known p q a b w (begins x n ∷ ds) = IsDrained known p q a b w ds
 IsDrained known p q a b w (turns u ∷ ds) = IsDrained known p q a b w ds
 IsDrained known p q a b w (calls y e ∷ ds) =
-    IsDrained known p q (if p.obj.0 == y then after_call known p a e else rests a) (if q.obj.0 == y then after_call known q b e else rests b) w ds
+    IsDrained known p q (if p.obj.0 == y then account_after_call known p a e else rests a) (if q.obj.0 == y then account_after_call known q b e else rests b) w ds
 
 -- what may be asked for from outside: nothing of it is a message on its way, or an entry
 abbrev pub IsFromOutside : {N L : Type 0} → Stage N L → Type 0

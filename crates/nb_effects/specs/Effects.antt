@@ -38,8 +38,8 @@ abbrev pub AreUps : {L : Type 0} → ℕ → Few (Emit L) → Type 0
 AreUps len f = IsFew f × IfSome f.first (IsUp len) × IfSome f.second (IsUp len)
 
 -- closes name slots 0 to 3
-abbrev pub AreCloses : List (ℕ × Cause) → Type 0
-AreCloses xs = All (λ c. c.0 ≤ 3) xs
+abbrev pub AreCloseSlots : List (ℕ × Cause) → Type 0
+AreCloseSlots xs = All (λ c. c.0 ≤ 3) xs
 
 -- an object made has a lower rank, is plugged to a slot 1 to 3, and its node stands for the empty trace
 abbrev pub IsMake : {N L : Type 0} → (N → ℕ) → (N → List (NodeEntry N L) → Type 0) → ℕ → Make N → Type 0
@@ -50,7 +50,7 @@ pub record MayAsk {N L : Type 0} (rank_of : N → ℕ) (stands : N → List (Nod
   pub make : IfSome fx.makes (IsMake rank_of stands rank)
   pub downs : AreDowns len fx.downs
   pub ups : AreUps len fx.ups
-  pub closes : AreCloses fx.closes.items
+  pub closes : AreCloseSlots fx.closes.items
 
 -- what an entry from above or by a close may ask for: downs and closes
 pub record MayAskBelow {N L : Type 0} (len : ℕ) (fx : Fx N L) : Type 0 where
@@ -58,7 +58,7 @@ pub record MayAskBelow {N L : Type 0} (len : ℕ) (fx : Fx N L) : Type 0 where
   pub no_up : fx.ups.first ≡ None
   pub no_ups : fx.ups.second ≡ None
   pub downs : AreDowns len fx.downs
-  pub closes : AreCloses fx.closes.items
+  pub closes : AreCloseSlots fx.closes.items
 
 -- a close of this slot is asked for
 abbrev pub ClosesSlot : ℕ → List (ℕ × Cause) → Type 0

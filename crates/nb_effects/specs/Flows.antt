@@ -64,12 +64,12 @@ Following l at m sent p q b w v =
 abbrev pub own : ℕ → (ℕ → List ℕ) → Port → List ℕ
 own y sent p = if p.obj.0 == y then sent p.slot else []
 
-abbrev pub counted : ℕ → (ℕ → List ℕ) → Port → Account → List ℕ
-counted y taken q b = if q.obj.0 == y then (if b.entered then taken q.slot else []) else []
+abbrev pub counted_taken : ℕ → (ℕ → List ℕ) → Port → Account → List ℕ
+counted_taken y taken q b = if q.obj.0 == y then (if b.entered then taken q.slot else []) else []
 
 -- the node of y is called, and what it sends and takes changes what is pending
 abbrev pub Asking : Ledger → ℕ → (ℕ → List ℕ) → (ℕ → List ℕ) → Port → Port → Account → List ℕ → List ℕ → Type 0
-Asking l y sent taken p q b w v = (w ++ own y sent p ≡ counted y taken q b ++ v) × (IsShut l q → counted y taken q b ≡ [])
+Asking l y sent taken p q b w v = (w ++ own y sent p ≡ counted_taken y taken q b ++ v) × (IsShut l q → counted_taken y taken q b ≡ [])
 
 -- nothing by no slot
 abbrev pub by_no_slot : ℕ → List ℕ

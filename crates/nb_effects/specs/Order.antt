@@ -21,8 +21,8 @@ pub data OneClose (p : Port) (cause : Cause) (es : List GraphEvent) : Type 0 whe
   linked : (q : Port) (nested : List GraphEvent) (gone : List ObjId) → es ≡ Closed p cause ∷ nested ++ Unplugged p q ∷ frees gone → OneClose p cause es
 
 -- what happens is one close of this port
-abbrev pub ClosesOne : Cause → Port → Ledger → Ledger → Heard → Heard → Type 0
-ClosesOne cause p old new before after = (es : List GraphEvent) × Runs old new before after es × OneClose p cause es
+abbrev pub ClosesOnePort : Cause → Port → Ledger → Ledger → Heard → Heard → Type 0
+ClosesOnePort cause p old new before after = (es : List GraphEvent) × Runs old new before after es × OneClose p cause es
 
 -- slot j of the object y is slot k of x, or comes later: it has a higher serial, or the same and a higher slot
 abbrev pub IsFrom : ℕ → ℕ → ℕ → ℕ → Type 0
@@ -39,7 +39,7 @@ abbrev pub ClosesInOrder : Cause → ℕ → ℕ → Ledger → Ledger → Heard
 ClosesInOrder cause x k old new before after [] =
     ((y j : ℕ) → IsFrom x k y j → 0 < open_count (port old y j) → ⊥) × (new ≡ old) × (after ≡ before)
 ClosesInOrder cause x k old new before after (p ∷ ps) =
-    (mid : Ledger) × (told : Heard) × IsNextPort old x k p × ClosesOne cause p old mid before told × ClosesInOrder cause p.obj.0 (p.slot + 1) mid new told after ps
+    (mid : Ledger) × (told : Heard) × IsNextPort old x k p × ClosesOnePort cause p old mid before told × ClosesInOrder cause p.obj.0 (p.slot + 1) mid new told after ps
 
 -- holds are let go, one after another, and objects freed by that; nothing else happens
 pub data LetsHoldsGo : List GraphEvent → Type 0 where

@@ -11,32 +11,32 @@ use Rattle.nb_graph.specs.Hosts.{Hosts, Suited}
 use Rattle.nb_graph.specs.Scene.{Scene, scene_of}
 use Rattle.nb_graph.specs.Trace.{Nature, NodeEntry}
 use Rattle.nb_graph.specs.Whole.{Objects}
-use Rattle.nb_frames.specs.Frames.{is_one_of, last_of, graph_of}
+use Rattle.nb_frames.specs.Frames.{is_one_of, last_among, graph_of}
 use Rattle.nb_frames.proofs.WithinLemmas.{IsDeedWithin}
 use Rattle.nb_frames.proofs.MaskLemmas.{mask, mask_port, own_scene, own_state}
 use Rattle.nb_frames.proofs.OwnLemmas.{AreThere, as_many, own_lives, own_holds, own_port}
 
 -- what is seen of the graph of some objects
-pub scene_alone : {N : Type 0} (ids : List ℕ) (g : Objects N) → AreThere ids g → own_scene (is_one_of ids) (length ids) (length ids + 1) (last_of ids) (scene_of g.book) ≡ scene_of (graph_of ids g).book
+pub scene_alone : {N : Type 0} (ids : List ℕ) (g : Objects N) → AreThere ids g → own_scene (is_one_of ids) (length ids) (length ids + 1) (last_among ids) (scene_of g.book) ≡ scene_of (graph_of ids g).book
 scene_alone ids g there =
     let h : Ledger = (graph_of ids g).book in
     let ports : mask_port (is_one_of ids) (port_in g.book) ≡ port_in h = fun_ext (λ x. fun_ext (λ k. sym (own_port g ids there x k))) in
     let lives : mask (is_one_of ids) false (object_lives g.book) ≡ object_lives h = fun_ext (λ x. sym (own_lives g ids there x)) in
     let many : length ids ≡ length h.objects = sym (as_many g ids there) in
-    ap (λ (f : ℕ → ℕ → PortState). let z : Scene = record { port = f; live = mask (is_one_of ids) false (object_lives g.book); number = length ids; room = length ids + 1; made = last_of ids } in z) ports
-    ∙ (ap (λ (f : ℕ → Bool). let z : Scene = record { port = port_in h; live = f; number = length ids; room = length ids + 1; made = last_of ids } in z) lives
-    ∙ ap (λ (n : ℕ). let z : Scene = record { port = port_in h; live = object_lives h; number = n; room = length ids + 1; made = last_of ids } in z) many)
+    ap (λ (f : ℕ → ℕ → PortState). let z : Scene = record { port = f; live = mask (is_one_of ids) false (object_lives g.book); number = length ids; room = length ids + 1; made = last_among ids } in z) ports
+    ∙ (ap (λ (f : ℕ → Bool). let z : Scene = record { port = port_in h; live = f; number = length ids; room = length ids + 1; made = last_among ids } in z) lives
+    ∙ ap (λ (n : ℕ). let z : Scene = record { port = port_in h; live = object_lives h; number = n; room = length ids + 1; made = last_among ids } in z) many)
 
-pub state_alone : {N : Type 0} (ids : List ℕ) (g : Objects N) → AreThere ids g → own_state (is_one_of ids) (last_of ids) (run_state g.book []) ≡ run_state (graph_of ids g).book []
+pub state_alone : {N : Type 0} (ids : List ℕ) (g : Objects N) → AreThere ids g → own_state (is_one_of ids) (last_among ids) (run_state g.book []) ≡ run_state (graph_of ids g).book []
 state_alone ids g there =
     let h : Ledger = (graph_of ids g).book in
     let own : ℕ → Bool = is_one_of ids in
     let ports : mask_port own (port_in g.book) ≡ port_in h = fun_ext (λ x. fun_ext (λ k. sym (own_port g ids there x k))) in
     let lives : mask own false (object_lives g.book) ≡ object_lives h = fun_ext (λ x. sym (own_lives g ids there x)) in
     let held : mask own 0 (holds g.book) ≡ holds h = fun_ext (λ x. sym (own_holds g ids there x)) in
-    ap (λ (f : ℕ → ℕ → PortState). let z : GraphState = record { made = last_of ids; live = mask own false (object_lives g.book); holds = mask own 0 (holds g.book); port = f; stack = [] } in z) ports
-    ∙ (ap (λ (f : ℕ → Bool). let z : GraphState = record { made = last_of ids; live = f; holds = mask own 0 (holds g.book); port = port_in h; stack = [] } in z) lives
-    ∙ ap (λ (f : ℕ → ℕ). let z : GraphState = record { made = last_of ids; live = object_lives h; holds = f; port = port_in h; stack = [] } in z) held)
+    ap (λ (f : ℕ → ℕ → PortState). let z : GraphState = record { made = last_among ids; live = mask own false (object_lives g.book); holds = mask own 0 (holds g.book); port = f; stack = [] } in z) ports
+    ∙ (ap (λ (f : ℕ → Bool). let z : GraphState = record { made = last_among ids; live = f; holds = mask own 0 (holds g.book); port = port_in h; stack = [] } in z) lives
+    ∙ ap (λ (f : ℕ → ℕ). let z : GraphState = record { made = last_among ids; live = object_lives h; holds = f; port = port_in h; stack = [] } in z) held)
 
 -- the nodes of these objects through what happens to them
 module _ {N L : Type 0} (known : Nature N L) (stands : N → List (NodeEntry N L) → Type 0) (own : ℕ → Bool) where

@@ -19,7 +19,7 @@ use Rattle.nb_graph.specs.Went.{Each, WentOne, Midways, all_of, accounts}
 use Rattle.nb_graph.specs.Whole.{Objects, port_at, node_at}
 use Rattle.nb_graph.proofs.AccountLemmas.{start-joined}
 use Rattle.nb_graph.proofs.Laws.{only_call}
-use Rattle.nb_frames.specs.Frames.{is_one_of, last_of, graph_of, IsOwnCall, GoesAlone}
+use Rattle.nb_frames.specs.Frames.{is_one_of, last_among, graph_of, IsOwnCall, GoesAlone}
 use Rattle.nb_frames.proofs.WithinLemmas.{IsDeedWithin, asks_none, run_within}
 use Rattle.nb_frames.proofs.MaskLemmas.{own_scene, own_state}
 use Rattle.nb_frames.proofs.AloneLemmas.{IsPlainDeed, frees_other, run_alone, states_alone, run_shuts, run_counts, run_links}
@@ -36,9 +36,9 @@ or_true true c e = refl
 or_true false c e = e
 
 -- the last of some is one of them
-last_in : (x : ℕ) (xs : List ℕ) → is_one_of (x ∷ xs) (last_of (x ∷ xs)) ≡ true
+last_in : (x : ℕ) (xs : List ℕ) → is_one_of (x ∷ xs) (last_among (x ∷ xs)) ≡ true
 last_in x [] = rw (eq-eqb x x refl) refl
-last_in x (y ∷ ys) = or_true (last_of (y ∷ ys) == x) (is_one_of (y ∷ ys) (last_of (y ∷ ys))) (last_in y ys)
+last_in x (y ∷ ys) = or_true (last_among (y ∷ ys) == x) (is_one_of (y ∷ ys) (last_among (y ∷ ys))) (last_in y ys)
 
 module _ {N : Type 0} (ids : List ℕ) (g : Objects N) (there : AreThere ids g) where
   pub port_own : (x k : ℕ) → is_one_of ids x ≡ true → port_in (graph_of ids g).book x k ≡ port_in g.book x k
@@ -66,12 +66,12 @@ module _ {N : Type 0} (ids : List ℕ) (g : Objects N) (there : AreThere ids g) 
   ]
 
   -- two ends of a link of these objects
-  joined_out : (p q : Port) (s t : List ℕ) → last_of ids ≤ g.book.made → is_one_of ids p.obj.0 ≡ true → is_one_of ids q.obj.0 ≡ true → JoinedEnds (graph_of ids g).book p q s t [] → JoinedEnds g.book p q s t []
+  joined_out : (p q : Port) (s t : List ℕ) → last_among ids ≤ g.book.made → is_one_of ids p.obj.0 ≡ true → is_one_of ids q.obj.0 ≡ true → JoinedEnds (graph_of ids g).book p q s t [] → JoinedEnds g.book p q s t []
   joined_out p q s t low i j (joined a b c d e) = joined (omega (arith, a, low)) (omega (arith, b, low)) (sym (port_own p.obj.0 p.slot i) ∙ c) (sym (port_own q.obj.0 q.slot j) ∙ d) e
   joined_out p q s t low i j (parted a b c d rest e) =
       parted (omega (arith, a, low)) (omega (arith, b, low)) (ap open_count (sym (port_own p.obj.0 p.slot i)) ∙ c) (ap open_count (sym (port_own q.obj.0 q.slot j)) ∙ d) rest e
 
-  joined_in : (p q : Port) (s t : List ℕ) → p.obj.0 ≤ last_of ids → q.obj.0 ≤ last_of ids → is_one_of ids p.obj.0 ≡ true → is_one_of ids q.obj.0 ≡ true → JoinedEnds g.book p q s t [] → JoinedEnds (graph_of ids g).book p q s t []
+  joined_in : (p q : Port) (s t : List ℕ) → p.obj.0 ≤ last_among ids → q.obj.0 ≤ last_among ids → is_one_of ids p.obj.0 ≡ true → is_one_of ids q.obj.0 ≡ true → JoinedEnds g.book p q s t [] → JoinedEnds (graph_of ids g).book p q s t []
   joined_in p q s t l m i j (joined a b c d e) = joined l m (port_own p.obj.0 p.slot i ∙ c) (port_own q.obj.0 q.slot j ∙ d) e
   joined_in p q s t l m i j (parted a b c d rest e) = parted l m (ap open_count (port_own p.obj.0 p.slot i) ∙ c) (ap open_count (port_own q.obj.0 q.slot j) ∙ d) rest e
 
@@ -101,7 +101,7 @@ apart_other l p q s t d shut (parted a b c e rest f) = (c, e, rest, f)
 
 -- the bytes on the links of these objects
 module _ {N L : Type 0} (known : Nature N L) (ids : List ℕ) (g h : Objects N) (here : AreThere ids g) (there : AreThere ids h) (now : ℕ) (asks : List (Stage N L)) (ds : List (Deed N L))
-    (plain : AllByRecursion IsPlainDeed ds) (within : AllByRecursion (IsDeedWithin (is_one_of ids)) ds) (uses : UsesStack known now (scene_of g.book) asks ds (scene_of h.book)) (low : last_of ids ≤ g.book.made) where
+    (plain : AllByRecursion IsPlainDeed ds) (within : AllByRecursion (IsDeedWithin (is_one_of ids)) ds) (uses : UsesStack known now (scene_of g.book) asks ds (scene_of h.book)) (low : last_among ids ≤ g.book.made) where
   abbrev own : ℕ → Bool
   own = is_one_of ids
 
@@ -175,33 +175,33 @@ module _ {N L : Type 0} (known : Nature N L) (ids : List ℕ) (g h : Objects N) 
       ]
 
 module _ {N L : Type 0} (known : Nature N L) (stands : N → List (NodeEntry N L) → Type 0) (rank_of : N → ℕ) (ids : List ℕ) (now : ℕ) (asks : List (Stage N L)) (g h : Objects N) (m n : Heard) where
-  low_last : (xs : List ℕ) (made : ℕ) → ((x : ℕ) → is_one_of xs x ≡ true → x ≤ made) → last_of xs ≤ made
+  low_last : (xs : List ℕ) (made : ℕ) → ((x : ℕ) → is_one_of xs x ≡ true → x ≤ made) → last_among xs ≤ made
   low_last [] made given = omega arith
-  low_last (x ∷ xs) made given = given (last_of (x ∷ xs)) (last_in x xs)
+  low_last (x ∷ xs) made given = given (last_among (x ∷ xs)) (last_in x xs)
 
   pub goes_alone : AreNoded rank_of g → AreNoded rank_of h → (k : WentOne stands known now asks g h m n) → IsOwnCall ids asks g h (all_of k.deeds) → GoesAlone stands known ids now asks g h m n (all_of k.deeds)
   goes_alone noded hosted k c =
       let own : ℕ → Bool = is_one_of ids in
       let here : AreThere ids g = are_there ids g c.lives (λ x o. let z = noded x (c.lives x o) in (z.node, z.is_node)) in
       let there : AreThere ids h = are_there ids h c.stays (λ x o. let z = hosted x (c.stays x o) in (z.node, z.is_node)) in
-      let low : last_of ids ≤ g.book.made = low_last ids g.book.made c.given in
+      let low : last_among ids ≤ g.book.made = low_last ids g.book.made c.given in
       let one = only_call known (scene_of g.book) (scene_of h.book) (record { now = now; asks = asks }) k.deeds k.each in
       let ds : List (Deed N L) = one.0 in
       let all : all_of k.deeds ≡ ds = ap all_of one.1 ∙ append-nil ds in
       let none = asks_none own (all_of k.deeds) c.makes in
       let uses1 : UsesStack known now (scene_of g.book) asks (all_of k.deeds) (scene_of h.book) = subst (λ z. UsesStack known now (scene_of g.book) asks z (scene_of h.book)) (sym all) one.2 in
       let within1 = run_within known own now (scene_of g.book) (scene_of h.book) asks (all_of k.deeds) c.within c.links none uses1 in
-      let alone1 = run_alone known own (length ids) (length ids + 1) (last_of ids) now (scene_of g.book) (scene_of h.book) asks (all_of k.deeds) c.within c.plain c.links none (frees_other own (all_of k.deeds) c.frees) uses1 in
+      let alone1 = run_alone known own (length ids) (length ids + 1) (last_among ids) now (scene_of g.book) (scene_of h.book) asks (all_of k.deeds) c.within c.plain c.links none (frees_other own (all_of k.deeds) c.frees) uses1 in
       let within : AllByRecursion (IsDeedWithin own) ds = subst (λ z. AllByRecursion (IsDeedWithin own) z) all within1 in
       let plain : AllByRecursion IsPlainDeed ds = subst (λ z. AllByRecursion IsPlainDeed z) all alone1.1 in
-      let before : Scene = own_scene own (length ids) (length ids + 1) (last_of ids) (scene_of g.book) in
-      let after : Scene = own_scene own (length ids) (length ids + 1) (last_of ids) (scene_of h.book) in
+      let before : Scene = own_scene own (length ids) (length ids + 1) (last_among ids) (scene_of g.book) in
+      let after : Scene = own_scene own (length ids) (length ids + 1) (last_among ids) (scene_of h.book) in
       let uses2 : UsesStack known now before asks ds after = subst (λ z. UsesStack known now before asks z after) all alone1.0 in
       let uses3 : UsesStack known now (scene_of (graph_of ids g).book) asks ds after = subst (λ z. UsesStack known now z asks ds after) (scene_alone ids g here) uses2 in
       let uses : UsesStack known now (scene_of (graph_of ids g).book) asks ds (scene_of (graph_of ids h).book) = subst (λ z. UsesStack known now (scene_of (graph_of ids g).book) asks ds z) (scene_alone ids h there) uses3 in
-      let run1 = states_alone known own (length ids) (length ids + 1) (last_of ids) (all_of k.deeds) (run_state g.book []) (run_state h.book []) alone1.1 within1 (subst (λ z. GraphRunOf (run_state g.book []) z (run_state h.book [])) (sym k.events) k.runs.run) in
-      let run2 : GraphRunOf (run_state (graph_of ids g).book []) (events_of (all_of k.deeds)) (own_state own (last_of ids) (run_state h.book [])) =
-      subst (λ z. GraphRunOf z (events_of (all_of k.deeds)) (own_state own (last_of ids) (run_state h.book []))) (state_alone ids g here) run1 in
+      let run1 = states_alone known own (length ids) (length ids + 1) (last_among ids) (all_of k.deeds) (run_state g.book []) (run_state h.book []) alone1.1 within1 (subst (λ z. GraphRunOf (run_state g.book []) z (run_state h.book [])) (sym k.events) k.runs.run) in
+      let run2 : GraphRunOf (run_state (graph_of ids g).book []) (events_of (all_of k.deeds)) (own_state own (last_among ids) (run_state h.book [])) =
+      subst (λ z. GraphRunOf z (events_of (all_of k.deeds)) (own_state own (last_among ids) (run_state h.book []))) (state_alone ids g here) run1 in
       let run3 : GraphRunOf (run_state (graph_of ids g).book []) (events_of (all_of k.deeds)) (run_state (graph_of ids h).book []) =
       subst (λ z. GraphRunOf (run_state (graph_of ids g).book []) (events_of (all_of k.deeds)) z) (state_alone ids h there) run2 in
       let up : (x : ℕ) (t : List (NodeEntry N L)) → own x ≡ true → ObjectStands stands (graph_of ids g) x t → ObjectStands stands g x t = λ x t o f i e. f i (node_own ids g here x o ∙ e) in

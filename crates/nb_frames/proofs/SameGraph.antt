@@ -7,7 +7,7 @@ use Rattle.nb_ledger.specs.Ledger.{Ledger, object_lives, holds, port, rank}
 use Rattle.nb_graph.specs.Noded.{AreNoded}
 use Rattle.nb_graph.specs.Trace.{in_list}
 use Rattle.nb_graph.specs.Whole.{Objects, node_at}
-use Rattle.nb_frames.specs.Frames.{KeepsObject, is_one_of, last_of, object_of, objects_of, nodes_of, graph_of}
+use Rattle.nb_frames.specs.Frames.{KeepsObject, is_one_of, last_among, object_of, objects_of, nodes_of, graph_of}
 
 object_same : (a b : Ledger) (x : ℕ) → rank b x ≡ rank a x → holds b x ≡ holds a x → ((k : ℕ) → port b x k ≡ port a x k) → object_of b x ≡ object_of a x
 object_same a b x r h p =
@@ -46,5 +46,5 @@ module _ {N : Type 0} (rank_of : N → ℕ) (g h : Objects N) (hosted : AreNoded
 
   pub same_graph : (ids : List ℕ) → ((x : ℕ) → is_one_of ids x ≡ true → object_lives g.book x ≡ true) → ((x : ℕ) → is_one_of ids x ≡ true → KeepsObject g h x) → graph_of ids h ≡ graph_of ids g
   same_graph ids l k =
-      let with_objects : List Object → List N → Objects N = λ os ns. record { book = record { made = last_of ids; room = length ids + 1; objects = os }; nodes = ns } in
+      let with_objects : List Object → List N → Objects N = λ os ns. record { book = record { made = last_among ids; room = length ids + 1; objects = os }; nodes = ns } in
       ap (λ (os : List Object). with_objects os (nodes_of ids h)) (objects_same ids k) ∙ ap (λ (ns : List N). with_objects (objects_of ids g.book) ns) (nodes_same ids l k)

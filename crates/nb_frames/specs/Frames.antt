@@ -29,10 +29,10 @@ is_one_of [] x = false
 is_one_of (y ∷ ys) x = (x == y) || is_one_of ys x
 
 -- the last of these
-abbrev pub last_of : List ℕ → ℕ
-last_of [] = 0
-last_of (x ∷ []) = x
-last_of (x ∷ (y ∷ ys)) = last_of (y ∷ ys)
+abbrev pub last_among : List ℕ → ℕ
+last_among [] = 0
+last_among (x ∷ []) = x
+last_among (x ∷ (y ∷ ys)) = last_among (y ∷ ys)
 
 -- the object x by what is seen of it, between calls
 abbrev pub object_of : Ledger → ℕ → Object
@@ -51,7 +51,7 @@ nodes_of (x ∷ xs) g = in_list (node_at g x) ++ nodes_of xs g
 -- These objects as a graph of their own, in which nothing else lives: its last serial is the last of them, and there is
 -- room for one more.
 abbrev pub graph_of : {N : Type 0} → List ℕ → Objects N → Objects N
-graph_of ids g = record { book = record { made = last_of ids; room = length ids + 1; objects = objects_of ids g.book }; nodes = nodes_of ids g }
+graph_of ids g = record { book = record { made = last_among ids; room = length ids + 1; objects = objects_of ids g.book }; nodes = nodes_of ids g }
 
 -- A call on these objects: no link leaves them, nothing is asked for but of them, they live before it and after it, and
 -- none of them asks for a make or is freed.

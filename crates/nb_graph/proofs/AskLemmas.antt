@@ -15,7 +15,7 @@ use Rattle.nb_ledger.specs.Ledger.{Ledger, port, rank, busy, open_count}
 use Rattle.nb_effects.specs.Deeds.{Deed, writes}
 use Rattle.nb_effects.specs.Whole.{IsLinked}
 use Rattle.nb_effects.specs.Accounts.{Account, JoinedEnds, joined, parted, account, after_note, enters, is_same_port, rests}
-use Rattle.nb_effects.specs.Flows.{IsShut, Still, Asking, Delivering, DoesEffects, by_no_slot, own, counted}
+use Rattle.nb_effects.specs.Flows.{IsShut, Still, Asking, Delivering, DoesEffects, by_no_slot, own, counted_taken}
 use Rattle.nb_effects.specs.Moves.{Calms, Livens, Asks, HasAsked, always, none_due}
 use Rattle.nb_effects.proofs.LivensLemmas.{cases_peer, port-eq}
 use Rattle.nb_effects.proofs.AccountLemmas.{Joined-mild, account-append}
@@ -37,7 +37,7 @@ not-shut l at q o e i = open-not-shut (port l at.obj.0 at.slot) o (sym (ap (λ z
 -- the node that a message from below is given to is called, and what follows
 module _ (l : Ledger) (at : Port) (sent taken : ℕ → List ℕ) (got behind m : List ℕ) (one : 1 ≤ at.slot) (opened : IsOpen (port l at.obj.0 at.slot)) (links : IsLinked (port l) (rank l)) (there : taken at.slot ≡ got) (only : (k : ℕ) → (k ≡ at.slot → ⊥) → taken k ≡ []) (all : got ++ behind ≡ m) where
   -- at the other ports by_no_slot is taken
-  elsewhere : (q : Port) (b : Account) → ((q ≡ at) × (b.entered ≡ true) → ⊥) → counted at.obj.0 taken q b ≡ []
+  elsewhere : (q : Port) (b : Account) → ((q ≡ at) × (b.entered ≡ true) → ⊥) → counted_taken at.obj.0 taken q b ≡ []
   elsewhere q b n = elim (cases_Bool b.entered) [
     | inl t ↦ counted-else at.obj.0 taken q b (λ e. only q.slot (λ z. n (port-eq q at e z, t)))
     | inr f ↦ rw f (none (eqb q.obj.0 at.obj.0))
@@ -108,7 +108,7 @@ Livens-time {known = known} {l = l} {ds = ds} {es = es} x sent k asked r = recor
     asks : (p q : Port) (y z : Account) (w v : List ℕ) → DoesEffects l x by_no_slot p q y w v → (u : List ℕ) × Asking l x sent by_no_slot p q y w u × DoesEffects l x sent p q z u v
     asks p q y z w v i = go (counted-else x by_no_slot q y (λ _. refl)) i
       where
-        go : counted x by_no_slot q y ≡ [] → DoesEffects l x by_no_slot p q y w v → (u : List ℕ) × Asking l x sent by_no_slot p q y w u × DoesEffects l x sent p q z u v
+        go : counted_taken x by_no_slot q y ≡ [] → DoesEffects l x by_no_slot p q y w v → (u : List ℕ) × Asking l x sent by_no_slot p q y w u × DoesEffects l x sent p q z u v
         go free (inl (o, e, h)) = (own x sent p, (ap (λ g. g ++ own x sent p) (e ∙ sym free), λ _. free), inl (o, own-at x sent p o, h))
         go free (inr (n, quiet, h)) = (w, (ap (λ u. w ++ u) (own-else x sent p n) ∙ append-nil w ∙ ap (λ u. u ++ w) (sym free), λ _. free), inr (n, quiet, h))
 

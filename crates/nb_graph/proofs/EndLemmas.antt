@@ -12,7 +12,7 @@ use Rattle.nb_ledger.specs.Changes.{SetsHolds}
 use Rattle.nb_ledger.specs.Settled.{Settles}
 use Rattle.nb_effects.specs.Whole.{IsQuiet, IsGraph, KeepsRanks}
 use Rattle.nb_effects.specs.Calm.{Shrinks, IsSteady}
-use Rattle.nb_graph.specs.Ending.{LetsGo}
+use Rattle.nb_graph.specs.Ending.{OnlyLetsGo}
 use Rattle.nb_effects.proofs.WholeLemmas.{but_same, but_other}
 use Rattle.nb_effects.proofs.AgesLemmas.{Ages-refl, Ages-same, Ages-settle, Ages-trans}
 use Rattle.nb_effects.proofs.ShrinkLemmas.{Shrinks-settle}
@@ -35,10 +35,10 @@ IsGraph-calm {N} {rank_of} {old} {new} {nodes} {more} {cap} {big} s t g = record
 pub IsSteady-graph : {N : Type 0} {rank_of : N → ℕ} {l : Ledger} {nodes : List N} {cap : ℕ} → IsGraph rank_of l nodes cap → IsSteady rank_of l nodes cap
 IsSteady-graph {N} {rank_of} {l} {nodes} {cap} g = record { whole = g.whole; manned = g.manned }
 
-pub LetsGo-refl : (l : Ledger) → LetsGo l l
+pub LetsGo-refl : (l : Ledger) → OnlyLetsGo l l
 LetsGo-refl l = record { same_made = refl; ages = Ages-refl l; holds_fall = λ x. omega arith; closes = λ x k. omega arith }
 
-pub LetsGo-trans : {a b c : Ledger} → LetsGo a b → LetsGo b c → LetsGo a c
+pub LetsGo-trans : {a b c : Ledger} → OnlyLetsGo a b → OnlyLetsGo b c → OnlyLetsGo a c
 LetsGo-trans {a} {b} {c} p q = record {
   same_made = q.same_made ∙ p.same_made;
   ages = Ages-trans p.ages q.ages;
@@ -57,7 +57,7 @@ holds-settle {old} {new} {before} {after} {id} s x = elim s.how [
 ]
 
 -- a hold goes
-pub LetsGo-let_go : {old mid new : Ledger} {before after : Heard} {id : ObjId} → 0 < holds old id.0 → SetsHolds old mid id.0 (holds old id.0 - 1) → Settles mid new before after id → LetsGo old new
+pub LetsGo-let_go : {old mid new : Ledger} {before after : Heard} {id : ObjId} → 0 < holds old id.0 → SetsHolds old mid id.0 (holds old id.0 - 1) → Settles mid new before after id → OnlyLetsGo old new
 LetsGo-let_go {old} {mid} {new} {before} {after} {id} h s t = record {
   same_made = (Shrinks-settle t).same_made ∙ s.objects.same_made;
   ages = Ages-trans (Ages-same s.objects) (Ages-settle t);

@@ -7,7 +7,7 @@ ghost use Rattle.nb_effects.specs.Trace.{nature};
 ghost use Rattle.nb_effects.specs.Flows.{Empty};
 ghost use Rattle.nb_effects.specs.Calm.{IsSteady};
 ghost use Rattle.nb_graph.specs.Lives.{here, CalmFor, RunFor, Same};
-ghost use Rattle.nb_graph.specs.Ending.{LetsGo};
+ghost use Rattle.nb_graph.specs.Ending.{OnlyLetsGo};
 ghost use Rattle.nb_effects.specs.Deeds.{Ends, LetsAllGo};
 ghost use Rattle.nb_effects.specs.Whole.{IsGraph, IsQuiet};
 ghost use Rattle.nb_effects.specs.Order.{ClosesInOrder};
@@ -57,7 +57,7 @@ impl<N: Node> Inner<N> {
             self.new.book self.old.nodes.items self.new.nodes.items (λ st. LetsAllGo ∷ st)
             (λ st. LetsAllGo ∷ st) (O.events out.old)
             (O.events out.new) }
-        ensures lets { LetsGo self.old.book self.new.book }
+        ensures lets { OnlyLetsGo self.old.book self.new.book }
         ensures none { holds self.new.book id.0 ≡ 0 }
     {
         while self.book.is_held(id) {
@@ -75,7 +75,7 @@ impl<N: Node> Inner<N> {
             self.new.book self.old.nodes.items self.new.nodes.items (λ st. LetsAllGo ∷ st) here
             (O.events out.old)
             (O.events out.new) }
-        ensures lets { LetsGo self.old.book self.new.book }
+        ensures lets { OnlyLetsGo self.old.book self.new.book }
         ensures none { (x : ℕ) → after < x → holds self.new.book x ≡ 0 }
         ensures first { object_lives self.new.book 0 ≡ false }
     {

@@ -13,7 +13,7 @@ ghost use Rattle.nb_effects.specs.Trace.{said, nature};
 ghost use Rattle.nb_effects.specs.Deeds.{Closes, Ends, LetsAllGo, MustMake, MustPlug, Offers, Ticks, Wants};
 ghost use Rattle.nb_effects.specs.Lived.{KeepsTraces};
 ghost use Rattle.nb_graph.specs.Noded.{AreNoded};
-ghost use Rattle.nb_effects.specs.Order.{ClosesOne, EndsInOrder, LetsOneGo};
+ghost use Rattle.nb_effects.specs.Order.{ClosesOnePort, EndsInOrder, LetsOneGo};
 ghost use Rattle.nb_effects.specs.Whole.{Harvests, IsLinked, IsMade, KeepsRanks, OnlyDrops, node_at, node_of};
 ghost use Rattle.nb_effects.specs.Whole.{StaysSame};
 
@@ -215,7 +215,7 @@ impl<N: Node> Graph<N> {
         ensures went { WentOne N.stands (nature N.kind_of N.mark_of N.Load.first N.Load.second)
             now (Closes at cause.now ∷ []) self.old self.new (O.events out.old) (O.events out.new) }
         ensures one { 0 < open_count (port self.old.book at.obj.0 at.slot)
-            → ClosesOne cause.now at self.old.book self.new.book (O.events out.old)
+            → ClosesOnePort cause.now at self.old.book self.new.book (O.events out.old)
             (O.events out.new) }
         ensures shut { open_count (port self.new.book at.obj.0 at.slot) ≡ 0 }
         ensures not { open_count (port self.old.book at.obj.0 at.slot) ≡ 0 → StaysSame O.events

@@ -144,7 +144,7 @@ impl<N: Node> Inner<N> {
         ensures one { LetsOneGo id self.old.book self.new.book (O.events out.old)
             (O.events out.new) }
         ensures ranks { KeepsRanks self.old.book self.new.book }
-        ensures lets { LetsGo self.old.book self.new.book }
+        ensures lets { OnlyLetsGo self.old.book self.new.book }
         ensures falls { holds self.new.book id.0 < holds self.old.book id.0 }
         ensures graph { IsGraph N.rank_of self.new.book self.new.nodes.items
             (vec_capacity self.new.nodes) }
@@ -158,7 +158,7 @@ impl<N: Node> Inner<N> {
 ghost use Rattle.std.specs.Prelude.{Some};
 ghost use Rattle.nb_ledger.specs.declared.event.GraphEvent.TheVariants.{Held};
 ghost use Rattle.nb_ledger.specs.Ledger.{holds};
-ghost use Rattle.nb_graph.specs.Ending.{LetsGo};
+ghost use Rattle.nb_graph.specs.Ending.{OnlyLetsGo};
 ghost use Rattle.nb_effects.specs.Whole.{IsGraph, IsMade, KeepsRanks, Runs};
 ghost use Rattle.std.specs.Prelude.{List, ◌≤◌, vec_len};
 ghost use Rattle.nb_ledger.specs.declared.event.GraphEvent.TheVariants.{Freed};

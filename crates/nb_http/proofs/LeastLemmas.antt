@@ -17,7 +17,7 @@ use Rattle.nb_httpmsg.proofs.FeedLemmas.{kept_front}
 use Rattle.nb_httpmsg.proofs.LeastLemmas.{less}
 use Rattle.nb_http.specs.declared.state.State.TheVariants.{Head, Sized, Chunked, ToEnd}
 use Rattle.nb_http.specs.declared.head_step.HeadStep.{HeadStep}
-use Rattle.nb_http.specs.Standing.{Core, AtHead, AtSized, AtChunked, AtToEnd, LiveAt, IsReading, HasRead, DecidesLast, is_over}
+use Rattle.nb_http.specs.Standing.{Core, AtHead, AtSized, AtChunked, AtToEnd, LiveAt, IsReading, HasReadStream, DecidesLast, is_over}
 use Rattle.nb_http.specs.HeadReading.{IsHeadRead}
 use Rattle.nb_http.proofs.StandsLemmas.{Undecided, with_more, body_reads, sized_reads, to_end_reads, unlimited, read_by}
 

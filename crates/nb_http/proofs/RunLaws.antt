@@ -3,13 +3,13 @@ use Rattle.std.proofs.Common.{◌≡◌, ◌≢◌, ℕ, List, [], ◌++◌, Boo
 use Rattle.std.proofs.lemmas.Bool.{false≢true}
 use Rattle.nb_terms.specs.declared.cause.Cause.{Cause}
 use Rattle.nb_responses.specs.Chunks.{Verdict, more, open_body, body, moved, status, broken, large, long, many, Response, response}
-use Rattle.nb_responses.specs.Responses.{at_end, before_end}
+use Rattle.nb_responses.specs.Responses.{verdict_at_end, before_end}
 use Rattle.nb_responses.proofs.Cases.{either}
 use Rattle.nb_readings.specs.Readings.{read_so_far, response_read}
 use Rattle.nb_readings.specs.Ends.{verdict_end, is_decided, text_of}
 use Rattle.nb_readings.proofs.EndLemmas.{undecided_ends_nothing}
 use Rattle.nb_readings.proofs.ReadingLemmas.{reading_stays, reading_goes_on}
-use Rattle.nb_http.specs.Standing.{Core, HasRead, EndsStream, is_over}
+use Rattle.nb_http.specs.Standing.{Core, HasReadStream, EndsStream, is_over}
 use Rattle.nb_http.specs.Runs.{Ran, started, took, EndedAlike, Alike, EndsAsRead}
 
 -- what a verdict says before the stream's end
@@ -31,7 +31,7 @@ so_says many = record { causes = λ rec. refl; decided = refl; moves = refl }
 
 -- a core that ran stands for what it took and gave
 ran_stands : (rec : ℕ) (c : Core) (stream given : List ℕ) (over : Option Cause) → Ran rec c stream given over
-    → HasRead c stream given × (over ≡ verdict_end rec (read_so_far stream).verdict)
+    → HasReadStream c stream given × (over ≡ verdict_end rec (read_so_far stream).verdict)
 ran_stands _ _ _ _ _ (started rec c s live) = (s, sym (undecided_ends_nothing rec (read_so_far []).verdict (sym s.decided ∙ live)))
 ran_stands _ _ _ _ _ (took before rec old new stream given taken gave last over ran live takes) = takes stream given (ran_stands before old stream given last ran).0 live
 
@@ -109,7 +109,7 @@ goes_on_undecided rec c stream given over ran off =
     )
 
 -- at the stream's end no move comes to be
-no_move_at_end : (v : Verdict) → is_decided v ≡ false → None ≡ text_of (at_end v)
+no_move_at_end : (v : Verdict) → is_decided v ≡ false → None ≡ text_of (verdict_at_end v)
 no_move_at_end more e = refl
 no_move_at_end open_body e = refl
 no_move_at_end body e = absurd (false≢true (sym e))

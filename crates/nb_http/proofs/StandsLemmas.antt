@@ -19,7 +19,7 @@ use Rattle.nb_httpmsg.specs.Feeding.{StandsForBody, verdict_of, is_open}
 use Rattle.nb_http.specs.declared.state.State.{State}
 use Rattle.nb_http.specs.declared.state.State.TheVariants.{Head, Sized, Chunked, ToEnd, Over}
 use Rattle.nb_readings.specs.Ends.{verdict_end, is_decided, text_of}
-use Rattle.nb_http.specs.Standing.{Core, is_over, range_of, moved_text, IsBodyHead, AtHead, AtSized, AtChunked, AtToEnd, LiveAt, IsReading, HasRead, TakesBytes, GoesOnOrEnds, goes_on, skips, ends, StepsBy, EndsStream, end_at, state_at_end}
+use Rattle.nb_http.specs.Standing.{Core, is_over, range_of, moved_text, IsBodyHead, AtHead, AtSized, AtChunked, AtToEnd, LiveAt, IsReading, HasReadStream, TakesBytes, GoesOnOrEnds, goes_on, skips, ends, StepsBy, EndsStream, end_at, state_at_end}
 use Rattle.nb_http.specs.Giving.{range_given, range_to}
 use Rattle.nb_responses.proofs.Cases.{either}
 
@@ -93,7 +93,7 @@ pub read_by : (skipped : List (List ℕ)) (rest stream : List ℕ) (r : Response
 read_by skipped rest stream r all e reads = sym (reading_only stream r (record { skipped = skipped; rest = rest; all = all; stands = e; ends = reads }))
 
 stands_live : (rec : ℕ) (c : Core) (skipped : List (List ℕ)) (rest stream given : List ℕ) (over : Option Cause) → AllByRecursion IsInterim skipped → stream ≡ concat skipped ++ rest
-    → LiveAt c.state c rest given → over ≡ None → HasRead c stream given × (over ≡ verdict_end rec (read_so_far stream).verdict)
+    → LiveAt c.state c rest given → over ≡ None → HasReadStream c stream given × (over ≡ verdict_end rec (read_so_far stream).verdict)
 stands_live rec c skipped rest stream given over all e at none =
     let u : Undecided rest given = undecided c.state c rest given at in
     let n : (is_over c.state ≡ false) × (range_of c.state ≡ None) = not_over c.state c rest given at in
@@ -116,7 +116,7 @@ concat_one_more [] x = append-nil x
 concat_one_more (y ∷ ys) x = ap (λ t. y ++ t) (concat_one_more ys x) ∙ sym (append_assoc y (concat ys) x)
 
 outcome_stands : (rec : ℕ) (c : Core) (skipped : List (List ℕ)) (rest stream given : List ℕ) (over : Option Cause) → AllByRecursion IsInterim skipped → stream ≡ concat skipped ++ rest
-    → GoesOnOrEnds rec c rest given over → HasRead c stream given × (over ≡ verdict_end rec (read_so_far stream).verdict)
+    → GoesOnOrEnds rec c rest given over → HasReadStream c stream given × (over ≡ verdict_end rec (read_so_far stream).verdict)
 outcome_stands rec c skipped rest stream given over all e (goes_on at none) = stands_live rec c skipped rest stream given over all e at none
 outcome_stands rec c skipped rest stream given over all e (skips interim at none) =
     stands_live rec c (skipped ++ rest ∷ []) [] stream given over (all_one_more skipped rest all interim)
@@ -140,7 +140,7 @@ takes rec old new taken gave over step = λ stream given s live.
     (ap (λ t. t ++ taken) l.is_stream ∙ append_assoc (concat l.skipped) l.rest taken) (step l.rest given l.at)
 
 -- a core that has taken nothing
-pub at_start : (c : Core) → c.head ≡ [] → c.state ≡ Head → StandsForBody c.chunks.place c.chunks.line [] [] → is_open c.chunks.place ≡ true → HasRead c [] []
+pub at_start : (c : Core) → c.head ≡ [] → c.state ≡ Head → StandsForBody c.chunks.place c.chunks.line [] [] → is_open c.chunks.place ≡ true → HasReadStream c [] []
 at_start c empty at fresh unread =
     (stands_live 0 c [] [] [] [] None tt refl (subst (λ s. LiveAt s c [] []) (sym at) (record { is_rest = sym empty; none_given = refl; block = ap head_block empty; fresh = fresh; unread = unread })) refl).0
 

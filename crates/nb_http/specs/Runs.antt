@@ -4,12 +4,12 @@ use Rattle.nb_terms.specs.declared.cause.Cause.{Cause}
 use Rattle.nb_responses.specs.Chunks.{Verdict, more, Response, response}
 use Rattle.nb_readings.specs.Readings.{response_read}
 use Rattle.nb_readings.specs.Ends.{verdict_end, is_decided, text_of}
-use Rattle.nb_http.specs.Standing.{Core, HasRead, TakesBytes, EndsStream, is_over, moved_text}
+use Rattle.nb_http.specs.Standing.{Core, HasReadStream, TakesBytes, EndsStream, is_over, moved_text}
 
 -- A core that was started and took a stream, in whatever pieces, has given these bytes of the body, and
 -- its last call, which record rec brought, ended so.
 pub data Ran : ℕ → Core → List ℕ → List ℕ → Option Cause → Type 0 where
-  started : (rec : ℕ) (c : Core) → HasRead c [] [] → is_over c.state ≡ false → Ran rec c [] [] None
+  started : (rec : ℕ) (c : Core) → HasReadStream c [] [] → is_over c.state ≡ false → Ran rec c [] [] None
   took : (before rec : ℕ) (old new : Core) (stream given taken gave : List ℕ)
       (last over : Option Cause) → Ran before old stream given last
       → is_over old.state ≡ false → TakesBytes rec old new taken gave over

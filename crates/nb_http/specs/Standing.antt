@@ -106,7 +106,7 @@ pub record IsReading (c : Core) (stream given : List ℕ) : Type 0 where
 
 -- A core stands for the bytes of the stream that it took and those of the body that it gave: they are
 -- the stream's reading, which is decided exactly where the core has ended.
-pub record HasRead (c : Core) (stream given : List ℕ) : Type 0 where
+pub record HasReadStream (c : Core) (stream given : List ℕ) : Type 0 where
   pub bytes : (read_so_far stream).bytes ≡ given
   pub decided : is_over c.state ≡ is_decided (read_so_far stream).verdict
   pub moves : moved_text c.head c.state ≡ text_of (read_so_far stream).verdict
@@ -115,14 +115,14 @@ pub record HasRead (c : Core) (stream given : List ℕ) : Type 0 where
 -- A call takes bytes of the stream and gives bytes of the body: where it decides the response, it ends
 -- with its cause.
 abbrev pub TakesBytes : ℕ → Core → Core → List ℕ → List ℕ → Option Cause → Type 0
-TakesBytes rec old new taken gave over = (stream given : List ℕ) → HasRead old stream given
+TakesBytes rec old new taken gave over = (stream given : List ℕ) → HasReadStream old stream given
     → is_over old.state ≡ false
-    → HasRead new (stream ++ taken) (given ++ gave) × (over ≡ verdict_end rec (read_so_far (stream ++ taken)).verdict)
+    → HasReadStream new (stream ++ taken) (given ++ gave) × (over ≡ verdict_end rec (read_so_far (stream ++ taken)).verdict)
 
 -- Only the last byte that a call takes can decide the response: after each shorter part of what it takes
 -- more of the response is to come.
 abbrev pub DecidesLast : Core → List ℕ → Type 0
-DecidesLast old taken = (stream given part later : List ℕ) → HasRead old stream given
+DecidesLast old taken = (stream given part later : List ℕ) → HasReadStream old stream given
     → is_over old.state ≡ false → taken ≡ part ++ later → 0 < length later
     → (some : List ℕ) × (response_read (stream ++ part) false ≡ response more (given ++ some))
 
@@ -142,7 +142,7 @@ StepsBy rec old new taken gave over = (rest given : List ℕ) → LiveAt old.sta
 -- The stream's end decides what isn't decided: a body to the stream's end is whole, all else is broken.
 -- A core that has ended stays as it is.
 pub record EndsStream (rec : ℕ) (old new : Core) (over : Option Cause) : Type 0 where
-  pub live : (stream given : List ℕ) → HasRead old stream given → is_over old.state ≡ false
+  pub live : (stream given : List ℕ) → HasReadStream old stream given → is_over old.state ≡ false
       → ((response_read stream true).bytes ≡ given) × (over ≡ verdict_end rec (response_read stream true).verdict)
       × (is_decided (response_read stream true).verdict ≡ true)
   pub silent : is_over old.state ≡ true → (over ≡ None) × (new ≡ old)

@@ -81,12 +81,12 @@ impl Http {
     ghost use Rattle.std.specs.Prelude.{◌≡◌, ◌≤◌, ◌<◌, ◌+◌, ◌^◌, ◌++◌, [], ℕ, List, length, take, IfOk, true, false, slice_range, None};
     ghost use Rattle.std.specs.Option.{option_map, option_copied};
     ghost use Rattle.nb_responses.specs.Requests.{request_text, IsSendable, IsOneRequest};
-    ghost use Rattle.nb_http.specs.Standing.{HasRead, DecidesLast, EndsStream, is_over, moved_text};
+    ghost use Rattle.nb_http.specs.Standing.{HasReadStream, DecidesLast, EndsStream, is_over, moved_text};
     ghost use Rattle.nb_http.specs.Giving.{gives_none, took_nothing, HandsUp, SendsNothing, TakesFirst, TakesSo};
 
     /// Starts with an empty stream, and returns the request's text.
     pub fn start(alloc: Global, target: &HttpTarget) -> Result<(Http, Text), NoMemory>
-        ensures stands { IfOk result (λ r. HasRead r.0.core [] [] × (is_over r.0.core.state ≡ false)) }
+        ensures stands { IfOk result (λ r. HasReadStream r.0.core [] [] × (is_over r.0.core.state ≡ false)) }
         ensures fresh { IfOk result (λ r. r.0.waiting ≡ 0) }
         ensures request { IfOk result
             (λ r. r.1 ≡ request_text target.now.host target.now.port target.now.path) }

@@ -20,7 +20,7 @@ use Rattle.nb_httpmsg.specs.declared.line.LineRead.{LineRead}
 use Rattle.nb_httpmsg.proofs.BlockLemmas.{take_within}
 use Rattle.nb_httpmsg.proofs.LeastLemmas.{line_shorter, open_shorter, broken_shorter, broken_longer}
 use Rattle.nb_httpmsg.specs.Leasts.{IsBrokenAt}
-use Rattle.nb_httpmsg.specs.Feeding.{InChunk, InSize, InBytes, InEnd, InTrailer, StandsAt, verdict_of, place_after, kept_within, place_after_bytes, place_after_end, StandsForBody, Feeds, IsSizeRead, IsLast, IsTrailerRead}
+use Rattle.nb_httpmsg.specs.Feeding.{InChunk, InSize, InBytes, InEnd, InTrailer, StandsAt, verdict_of, place_after_size, kept_within, place_after_bytes, place_after_end, StandsForBody, Feeds, IsSizeRead, IsLast, IsTrailerRead}
 
 pub line_of : (text : List ℕ) (l : ChunkLine) (rest : List ℕ) → text ≡ print_chunk_line l ++ rest → InChunk l → IsLineOf text l rest
 line_of text l rest e c = record { reads = (c.is, e); short = c.short }
@@ -256,7 +256,7 @@ no_lines_yet : (k : ℕ) → first_block (k + 1) [] ≡ unfinished
 no_lines_yet k = ap (λ n. first_block n []) (add-one k)
 
 -- a whole size line
-after_size_line : (len size : ℕ) (l : ChunkLine) → InChunk l → len ≡ length (print_chunk_line l) → size ≡ chunk_size l → StandsAt (place_after len size) (print_chunk_line l) (print_chunk_line l) []
+after_size_line : (len size : ℕ) (l : ChunkLine) → InChunk l → len ≡ length (print_chunk_line l) → size ≡ chunk_size l → StandsAt (place_after_size len size) (print_chunk_line l) (print_chunk_line l) []
 after_size_line len size l c exact says = either (ltb 0 size)
     (λ on. rw on (record { line = l; chunk = c; is_tail = sym (append-nil (print_chunk_line l)); size = omega (arith, says); more = ltb-true 0 size on }))
     (λ off.
@@ -280,7 +280,7 @@ after_size_line len size l c exact says = either (ltb 0 size)
     ending_last (length (print_chunk_line l)) (chunk_size l) [] nothing (omega arith) ∙ ap (λ n. Some (response (trailer_verdict (found_by n [] (first_block (n + 1) []))) [])) full in
     rw (off, far) (after_line l [] (response long []) (line_of (print_chunk_line l) l [] (sym (append-nil (print_chunk_line l))) c) ends)))
 
-pub after_size_fits : (len size : ℕ) (l : ChunkLine) → len ≡ length (print_chunk_line l) → FitsPlace (place_after len size) (print_chunk_line l)
+pub after_size_fits : (len size : ℕ) (l : ChunkLine) → len ≡ length (print_chunk_line l) → FitsPlace (place_after_size len size) (print_chunk_line l)
 after_size_fits len size l exact = either (ltb 0 size)
     (λ on. rw on (ltb-true 0 size on))
     (λ off. either (ltb len limit)
@@ -295,15 +295,15 @@ pub no_longer : (line before added : List ℕ) → line ≡ before ++ added → 
 no_longer line before added e l = omega (arith, ap length e, length-append before added, l)
 
 -- a whole size line
-pub size_whole : (line : List ℕ) (len size : ℕ) (l : ChunkLine) → IsChunkLineAt line len size l → length line ≤ limit → IsSizeRead line (record { len = len; place = place_after len size })
+pub size_whole : (line : List ℕ) (len size : ℕ) (l : ChunkLine) → IsChunkLineAt line len size l → length line ≤ limit → IsSizeRead line (record { len = len; place = place_after_size len size })
 size_whole line len size l is short =
     let whole_line : length line ≡ length (print_chunk_line l) + length (drop len line) = ap length is.reads.1 ∙ length-append (print_chunk_line l) (drop len line) in
     let c : InChunk l = record { is = is.reads.0; short = omega (arith, short, whole_line) } in
     let kept : take len line ≡ print_chunk_line l = ap (λ n. take n line) is.len_is ∙ ap (take (length (print_chunk_line l))) is.reads.1 ∙ take_at (print_chunk_line l) (drop len line) (length (print_chunk_line l)) refl in
     record {
       within = omega (arith, is.len_is, whole_line);
-      stands = subst (λ t. StandsAt (place_after len size) t t []) (sym kept) (after_size_line len size l c is.len_is is.size_is);
-      fits = subst (FitsPlace (place_after len size)) (sym kept) (after_size_fits len size l is.len_is);
+      stands = subst (λ t. StandsAt (place_after_size len size) t t []) (sym kept) (after_size_line len size l c is.len_is is.size_is);
+      fits = subst (FitsPlace (place_after_size len size)) (sym kept) (after_size_fits len size l is.len_is);
       longer = λ before added e l' unread. omega (arith, is.len_is, line_longer before added l (drop len line) unread.none (is.reads.0, sym e ∙ is.reads.1));
       least = λ before later e some. line_shorter l before later c (sym kept ∙ e) some;
     }

@@ -9,7 +9,7 @@ use Rattle.std.proofs.lemmas.Str.{digit_value_digit}
 use Rattle.std.specs.Bool.{Decides}
 use Rattle.std.specs.Str.{bytes_eq}
 use Rattle.std.proofs.lemmas.Slice.Eq.{bytes_eq-Decides}
-use Rattle.nb_responses.specs.Heads.{is_decimal, has_value}
+use Rattle.nb_responses.specs.Heads.{is_decimal, has_decimal_value}
 
 abbrev AreDigits : List ℕ → Type 0
 AreDigits ds = list_all is_ascii_digit ds ≡ true
@@ -112,7 +112,7 @@ digit_here (d ∷ ds) zero are l = first_digit d ds are
 digit_here (d ∷ ds) (suc i) are l = digit_here ds i (more_digits d ds are) (omega (arith, l))
 
 pub same_number : (text number xs ys : List ℕ) (r : Bool) → is_decimal text ≡ true → AreDigits xs → AreDigits ys → (get_or xs 0 0 ≡ 48 → ⊥) → (get_or ys 0 0 ≡ 48 → ⊥)
-    → digits_value 10 xs ≡ digits_value 10 text → digits_value 10 ys ≡ digits_value 10 number → r ≡ bytes_eq xs ys → r ≡ has_value (digits_value 10 number) text
+    → digits_value 10 xs ≡ digits_value 10 text → digits_value 10 ys ≡ digits_value 10 number → r ≡ bytes_eq xs ys → r ≡ has_decimal_value (digits_value 10 number) text
 same_number text number xs ys r decimal are also first first_too value value_too is =
     let decides : Decides (bytes_eq xs ys) (xs ≡ ys) = bytes_eq-Decides xs ys in
     is ∙ either (bytes_eq xs ys)

@@ -94,8 +94,8 @@ abbrev pub kept_within : ℕ → Place → Place
 kept_within len place = cond (nat_lt len limit) place TooLong
 
 -- the place after a size line of so many bytes, which says this size
-abbrev pub place_after : ℕ → ℕ → Place
-place_after len size = cond (nat_lt 0 size) (Bytes size) (kept_within len (Trailer len))
+abbrev pub place_after_size : ℕ → ℕ → Place
+place_after_size len size = cond (nat_lt 0 size) (Bytes size) (kept_within len (Trailer len))
 
 -- the place after bytes of a chunk of which so many are left
 abbrev pub place_after_bytes : ℕ → Place

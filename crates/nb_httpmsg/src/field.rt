@@ -6,7 +6,7 @@ ghost use Rattle.std.specs.List.{list_all};
 ghost use Rattle.std.specs.Str.Parse.{digits_value};
 ghost use Rattle.httparse.specs.declared.spans.HeaderSpan.{HeaderSpan};
 ghost use Rattle.httparse.specs.Spans.{IsHeaderWithin, span_bytes};
-ghost use Rattle.nb_responses.specs.Heads.{is_same_word, framing_by, has_value, is_decimal, moves_to_first};
+ghost use Rattle.nb_responses.specs.Heads.{is_same_word, framing_by, has_decimal_value, is_decimal, moves_to_first};
 ghost use Rattle.nb_httpmsg.specs.Fields.{covered, named};
 ghost use Rattle.nb_httpmsg.specs.HeadInfos.{body_kind};
 
@@ -98,7 +98,7 @@ fn number_of(block: &[u8], first: &[u8], later: &[HeaderSpan]) -> BodyKind
 fn all_repeat(block: &[u8], fields: &[HeaderSpan], number: &[u8]) -> bool
     requires within { All (IsHeaderWithin (length block.now)) fields.now }
     requires decimal { is_decimal number.now ≡ true }
-    ensures { result ≡ list_all (has_value (digits_value 10 number.now))
+    ensures { result ≡ list_all (has_decimal_value (digits_value 10 number.now))
         (named (codes "content-length") (covered block.now fields.now)) }
 {
     for i in 0..fields.len() {

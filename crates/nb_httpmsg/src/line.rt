@@ -2,7 +2,7 @@
 
 ghost use Rattle.std.specs.Prelude.{◌≡◌, ◌≤◌, length, true, false};
 ghost use Rattle.httparse.specs.Grammar.{NeverHasChunkLine};
-ghost use Rattle.nb_httpmsg.specs.Feeding.{place_after, kept_within, IsSizeRead, IsTrailerRead};
+ghost use Rattle.nb_httpmsg.specs.Feeding.{place_after_size, kept_within, IsSizeRead, IsTrailerRead};
 ghost use Rattle.nb_httpmsg.specs.Leasts.{IsBrokenAt};
 
 use crate::block::{BlockEnd, find_block};
@@ -19,7 +19,7 @@ pub(crate) struct LineRead {
 
 /// The place after a size line of so many bytes.
 fn after_size(len: usize, size: u64) -> Place
-    ensures { result ≡ place_after len size }
+    ensures { result ≡ place_after_size len size }
 {
     if size > 0 {
         return Place::Bytes(size);

@@ -4,7 +4,7 @@ ghost use Rattle.std.specs.Prelude.{◌≡◌, ◌≢◌, ◌-◌, ◌^◌, ◌=
 ghost use Rattle.std.specs.List.{list_all};
 ghost use Rattle.std.specs.Char.{is_ascii_digit};
 ghost use Rattle.std.specs.Str.Parse.{digits_value};
-ghost use Rattle.nb_responses.specs.Heads.{is_decimal, has_value};
+ghost use Rattle.nb_responses.specs.Heads.{is_decimal, has_decimal_value};
 
 /// Whether each byte is a digit.
 fn are_digits(text: &[u8]) -> bool
@@ -41,7 +41,7 @@ fn significant(digits: &[u8]) -> &[u8]
 /// Whether a text is a decimal of the same number, however long both are.
 pub(crate) fn is_same_number(text: &[u8], number: &[u8]) -> bool
     requires { is_decimal number.now ≡ true }
-    ensures { result ≡ has_value (digits_value 10 number.now) text.now }
+    ensures { result ≡ has_decimal_value (digits_value 10 number.now) text.now }
 {
     if !is_decimal(text) {
         return false;

@@ -3,7 +3,7 @@ use Rattle.std.proofs.Common.{◌≡◌, ℕ, ◌+◌, ◌≤◌, List, [], ◌�
 use Rattle.std.proofs.lemmas.List.{length-append}
 use Rattle.nb_wire.proofs.BytesLaws.{append_one}
 use Rattle.nb_ibft.specs.Infos.{Target, Info, IsInfo, AreTargets, info_texts}
-use Rattle.nb_ibft.specs.Tables.{ibft, table_text, check_byte, header_text, control_text, initiator_text, addresses_text, host_text, targets_text, parts_text, texts_text, texts_place, host_place, disks_place, total_length}
+use Rattle.nb_ibft.specs.Tables.{ibft, table_text, check_byte, table_header_text, control_text, initiator_text, addresses_text, host_text, targets_text, parts_text, texts_text, texts_place, host_place, disks_place, total_length}
 use Rattle.nb_ibft.specs.Places.{AllStandAt}
 use Rattle.nb_ibft.proofs.TextLemmas.{all_stand}
 use Rattle.nb_ibft.proofs.TargetLemmas.{parts_length}
@@ -34,9 +34,9 @@ checksum i = check_byte (table_text i 0)
 nested : (h c n a m o t x : List ℕ) → h ++ ((c ++ (n ++ (a ++ (m ++ (o ++ t))))) ++ x) ≡ h ++ (c ++ (n ++ (a ++ (m ++ (o ++ (t ++ x))))))
 nested h c n a m o t x = simp append_assoc
 
-pub opened : (i : Info) → ibft i ≡ header_text (total_length i) (checksum i) ++ after_header i
+pub opened : (i : Info) → ibft i ≡ table_header_text (total_length i) (checksum i) ++ after_header i
 unfolding ibft table_text
-opened i = nested (header_text (total_length i) (checksum i)) (control_text i.targets) (initiator_text (texts_place i) i.initiator) (addresses_text i) i.mac (host_text (host_place i) i.host) (targets_text 0 (disks_place i) i.targets) (texts_text i)
+opened i = nested (table_header_text (total_length i) (checksum i)) (control_text i.targets) (initiator_text (texts_place i) i.initiator) (addresses_text i) i.mac (host_text (host_place i) i.host) (targets_text 0 (disks_place i) i.targets) (texts_text i)
 
 pub control_length : (targets : List Target) → length (control_text targets) ≡ 32
 control_length [] = refl
@@ -45,7 +45,7 @@ control_length (t ∷ u ∷ ts) = refl
 
 -- all that stands before the texts
 abbrev pub before_texts : Info → List ℕ
-before_texts i = header_text (total_length i) (checksum i) ++ parts_text i
+before_texts i = table_header_text (total_length i) (checksum i) ++ parts_text i
 
 pub parts_are : (i : Info) → AreTargets i.targets → length i.mac ≡ 6 → 48 + length (parts_text i) ≡ texts_place i
 parts_are i valid mac =
@@ -65,8 +65,8 @@ pub texts_stand : (i : Info) (bytes : List ℕ) → IsInfo i → bytes ≡ ibft 
 unfolding ibft table_text
 texts_stand i bytes valid e =
     all_stand bytes (before_texts i) [] (info_texts i) (texts_place i)
-    (e ∙ sym (append_assoc (header_text (total_length i) (checksum i)) (parts_text i) (texts_text i)) ∙ ap (λ x. before_texts i ++ x) (sym (append-nil (texts_text i))))
-    (length-append (header_text (total_length i) (checksum i)) (parts_text i) ∙ parts_are i valid.targets valid.mac)
+    (e ∙ sym (append_assoc (table_header_text (total_length i) (checksum i)) (parts_text i) (texts_text i)) ∙ ap (λ x. before_texts i ++ x) (sym (append-nil (texts_text i))))
+    (length-append (table_header_text (total_length i) (checksum i)) (parts_text i) ∙ parts_are i valid.targets valid.mac)
 
 abbrev made : List ℕ → List ℕ → List ℕ → ℕ → ℕ → ℕ → ℕ → ℕ → ℕ → List Target → Info
 made initiator host mac address prefix gateway first_dns second_dns dhcp_server targets = record { initiator = initiator; host = host; mac = mac; address = address; prefix = prefix; gateway = gateway; first_dns = first_dns; second_dns = second_dns; dhcp_server = dhcp_server; targets = targets }
@@ -88,10 +88,10 @@ info_same i j a b c d e f g h k l =
 -- a table is what stands before its texts, and they
 pub cut_at_texts : (i : Info) → ibft i ≡ before_texts i ++ texts_text i
 unfolding ibft table_text
-cut_at_texts i = sym (append_assoc (header_text (total_length i) (checksum i)) (parts_text i) (texts_text i))
+cut_at_texts i = sym (append_assoc (table_header_text (total_length i) (checksum i)) (parts_text i) (texts_text i))
 
 pub before_length : (i : Info) → IsInfo i → length (before_texts i) ≡ texts_place i
-before_length i valid = length-append (header_text (total_length i) (checksum i)) (parts_text i) ∙ parts_are i valid.targets valid.mac
+before_length i valid = length-append (table_header_text (total_length i) (checksum i)) (parts_text i) ∙ parts_are i valid.targets valid.mac
 
 -- bytes that are a table have its texts at their place
 pub texts_cut : (i : Info) (bytes before texts : List ℕ) → IsInfo i → bytes ≡ before ++ texts → length before ≡ texts_place i → bytes ≡ ibft i → texts ≡ texts_text i

@@ -4,7 +4,7 @@ use Rattle.std.specs.Prelude.{sum}
 use Rattle.std.specs.Int.{to_le_bytes, w32}
 use Rattle.std.proofs.lemmas.List.Sums.{sum_by-append}
 use Rattle.nb_ibft.specs.Infos.{Info}
-use Rattle.nb_ibft.specs.Tables.{ibft, table_text, header_text, parts_text, texts_text, total_length, check_of, check_byte}
+use Rattle.nb_ibft.specs.Tables.{ibft, table_text, table_header_text, parts_text, texts_text, total_length, check_of, check_byte}
 
 sum-append : (a b : List ℕ) → sum (a ++ b) ≡ sum a + sum b
 sum-append a b = sum_by-append (λ x. x) a b
@@ -14,7 +14,7 @@ abbrev rest : List ℕ
 rest = codes "NETBT NETBOOT " ++ replicate 24 0
 
 -- a header's sum counts its checksum once
-header_sum : (total check : ℕ) → sum (header_text total check) ≡ sum (codes "iBFT") + (sum (to_le_bytes w32 total) + (1 + (check + sum rest)))
+header_sum : (total check : ℕ) → sum (table_header_text total check) ≡ sum (codes "iBFT") + (sum (to_le_bytes w32 total) + (1 + (check + sum rest)))
 header_sum total check =
     let first = sum-append (codes "iBFT") (to_le_bytes w32 total ++ (1 ∷ check ∷ rest)) in
     let second = sum-append (to_le_bytes w32 total) (1 ∷ check ∷ rest) in
@@ -30,8 +30,8 @@ table_sum i check =
       arith,
       header_sum (total_length i) check,
       header_sum (total_length i) 0,
-      sum-append (header_text (total_length i) check) after,
-      sum-append (header_text (total_length i) 0) after,
+      sum-append (table_header_text (total_length i) check) after,
+      sum-append (table_header_text (total_length i) 0) after,
     )
 
 closes : (n : ℕ) → (n + check_of (n % 256)) % 256 ≡ 0

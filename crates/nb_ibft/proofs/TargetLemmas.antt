@@ -2,43 +2,43 @@
 use Rattle.std.proofs.Common.{◌≡◌, ℕ, ◌+◌, ◌*◌, ◌≤◌, List, [], ◌∷◌, ◌++◌, length, slice_index, refl, sym, ap, subst, ◌∙◌, append_assoc, arith}
 use Rattle.std.proofs.lemmas.List.{length-append}
 use Rattle.nb_ibft.specs.Infos.{Target, IsTarget, AreTargets, AreShortTexts, target_texts, targets_texts}
-use Rattle.nb_ibft.specs.Tables.{kept, joined, portal_text, login_text, targets_text, control_text}
+use Rattle.nb_ibft.specs.Tables.{kept, texts_joined, portal_text, target_login_text, targets_text, control_text}
 use Rattle.nb_ibft.specs.Places.{AllStandAt}
 use Rattle.nb_ibft.proofs.TextLemmas.{kept_short}
 
 -- what a disk's part is read as, wherever it stands
 abbrev pub Reads : (bytes parts : List ℕ) → (Target → List ℕ → Type 0) → Type 0
-Reads bytes parts R = (index at : ℕ) (t : Target) (after : List ℕ) → IsTarget t → AreShortTexts (target_texts t) → AllStandAt bytes at (target_texts t) → at ≤ 8023 → parts ≡ portal_text index t ++ (t.lun ++ (login_text at t ++ after)) → R t after
+Reads bytes parts R = (index at : ℕ) (t : Target) (after : List ℕ) → IsTarget t → AreShortTexts (target_texts t) → AllStandAt bytes at (target_texts t) → at ≤ 8023 → parts ≡ portal_text index t ++ (t.lun ++ (target_login_text at t ++ after)) → R t after
 
 inside : (a b c d e : List ℕ) → (a ++ (b ++ (c ++ d))) ++ e ≡ a ++ (b ++ (c ++ (d ++ e)))
 inside a b c d e = simp append_assoc
 
 -- the first of several
-pub first_read : (bytes parts : List ℕ) (R : Target → List ℕ → Type 0) (t : Target) (ts : List Target) (index at : ℕ) (after : List ℕ) → Reads bytes parts R → IsTarget t → AreShortTexts (targets_texts (t ∷ ts)) → AllStandAt bytes at (targets_texts (t ∷ ts)) → at ≤ 8023 → parts ≡ targets_text index at (t ∷ ts) ++ after → R t (targets_text (index + 1) (at + length (joined (target_texts t))) ts ++ after)
+pub first_read : (bytes parts : List ℕ) (R : Target → List ℕ → Type 0) (t : Target) (ts : List Target) (index at : ℕ) (after : List ℕ) → Reads bytes parts R → IsTarget t → AreShortTexts (targets_texts (t ∷ ts)) → AllStandAt bytes at (targets_texts (t ∷ ts)) → at ≤ 8023 → parts ≡ targets_text index at (t ∷ ts) ++ after → R t (targets_text (index + 1) (at + length (texts_joined (target_texts t))) ts ++ after)
 first_read bytes parts R t ts index at after reads valid short stand most e =
-    reads index at t (targets_text (index + 1) (at + length (joined (target_texts t))) ts ++ after) valid
+    reads index at t (targets_text (index + 1) (at + length (texts_joined (target_texts t))) ts ++ after) valid
     (short.0, (short.1.0, (short.1.1.0, (short.1.1.1.0, (short.1.1.1.1.0, tt)))))
     (stand.0, (stand.1.0, (stand.1.1.0, (stand.1.1.1.0, (stand.1.1.1.1.0, tt)))))
     most
-    (e ∙ inside (portal_text index t) t.lun (login_text at t) (targets_text (index + 1) (at + length (joined (target_texts t))) ts) after)
+    (e ∙ inside (portal_text index t) t.lun (target_login_text at t) (targets_text (index + 1) (at + length (texts_joined (target_texts t))) ts) after)
 
 -- how long a disk's texts are
-pub joined_length : (at : ℕ) (t : Target) → at + length (joined (target_texts t)) ≡ at + length (kept t.name) + length (kept t.user) + length (kept t.secret) + length (kept t.reverse_user) + length (kept t.reverse_secret)
+pub joined_length : (at : ℕ) (t : Target) → at + length (texts_joined (target_texts t)) ≡ at + length (kept t.name) + length (kept t.user) + length (kept t.secret) + length (kept t.reverse_user) + length (kept t.reverse_secret)
 joined_length at t =
     omega (
       arith,
-      length-append (kept t.name) (joined (t.user ∷ t.secret ∷ t.reverse_user ∷ t.reverse_secret ∷ [])),
-      length-append (kept t.user) (joined (t.secret ∷ t.reverse_user ∷ t.reverse_secret ∷ [])),
-      length-append (kept t.secret) (joined (t.reverse_user ∷ t.reverse_secret ∷ [])),
-      length-append (kept t.reverse_user) (joined (t.reverse_secret ∷ [])),
+      length-append (kept t.name) (texts_joined (t.user ∷ t.secret ∷ t.reverse_user ∷ t.reverse_secret ∷ [])),
+      length-append (kept t.user) (texts_joined (t.secret ∷ t.reverse_user ∷ t.reverse_secret ∷ [])),
+      length-append (kept t.secret) (texts_joined (t.reverse_user ∷ t.reverse_secret ∷ [])),
+      length-append (kept t.reverse_user) (texts_joined (t.reverse_secret ∷ [])),
       length-append (kept t.reverse_secret) [],
     )
 
-pub joined_most : (at : ℕ) (t : Target) → AreShortTexts (target_texts t) → at + length (joined (target_texts t)) ≤ at + 5445
+pub joined_most : (at : ℕ) (t : Target) → AreShortTexts (target_texts t) → at + length (texts_joined (target_texts t)) ≤ at + 5445
 joined_most at t short = omega (arith, joined_length at t, kept_short t.name short.0, kept_short t.user short.1.0, kept_short t.secret short.1.1.0, kept_short t.reverse_user short.1.1.1.0, kept_short t.reverse_secret short.1.1.1.1.0)
 
 -- the texts of the other disks stand after those of the first
-pub others_stand : (bytes : List ℕ) (t : Target) (ts : List Target) (at : ℕ) → AllStandAt bytes at (targets_texts (t ∷ ts)) → AllStandAt bytes (at + length (joined (target_texts t))) (targets_texts ts)
+pub others_stand : (bytes : List ℕ) (t : Target) (ts : List Target) (at : ℕ) → AllStandAt bytes at (targets_texts (t ∷ ts)) → AllStandAt bytes (at + length (texts_joined (target_texts t))) (targets_texts ts)
 others_stand bytes t ts at stand = subst (λ n. AllStandAt bytes n (targets_texts ts)) (sym (joined_length at t)) stand.1.1.1.1.1
 
 -- the first byte of the places says that there is a disk
@@ -66,7 +66,7 @@ two_read bytes parts control rest one Q (t ∷ u ∷ []) at after first second v
     let r = first_read bytes parts (λ t more. (one ≡ t) × (rest ≡ more)) t (u ∷ []) 0 at after first valid.0 short stand (omega arith) e in
     let five : AreShortTexts (target_texts t) = (short.0, (short.1.0, (short.1.1.0, (short.1.1.1.0, (short.1.1.1.1.0, tt))))) in
     subst (λ x. Q (x ∷ u ∷ [])) r.0
-    (first_read bytes rest (λ u more. Q (one ∷ u ∷ [])) u [] 1 (at + length (joined (target_texts t))) after second valid.1.0 short.1.1.1.1.1 (others_stand bytes t (u ∷ []) at stand) (omega (arith, joined_most at t five)) r.1)
+    (first_read bytes rest (λ u more. Q (one ∷ u ∷ [])) u [] 1 (at + length (texts_joined (target_texts t))) after second valid.1.0 short.1.1.1.1.1 (others_stand bytes t (u ∷ []) at stand) (omega (arith, joined_most at t five)) r.1)
 two_read bytes parts control rest one Q (t ∷ u ∷ v ∷ ts) at after first second valid few short is nz nz2 stand most e = absurd (omega (arith, few))
 
 -- how long the disks' parts are
@@ -76,8 +76,8 @@ parts_length index at (t ∷ ts) valid =
     omega (
       arith,
       valid.0.lun,
-      length-append (portal_text index t) (t.lun ++ (login_text at t ++ targets_text (index + 1) (at + length (joined (target_texts t))) ts)),
-      length-append t.lun (login_text at t ++ targets_text (index + 1) (at + length (joined (target_texts t))) ts),
-      length-append (login_text at t) (targets_text (index + 1) (at + length (joined (target_texts t))) ts),
-      parts_length (index + 1) (at + length (joined (target_texts t))) ts valid.1,
+      length-append (portal_text index t) (t.lun ++ (target_login_text at t ++ targets_text (index + 1) (at + length (texts_joined (target_texts t))) ts)),
+      length-append t.lun (target_login_text at t ++ targets_text (index + 1) (at + length (texts_joined (target_texts t))) ts),
+      length-append (target_login_text at t) (targets_text (index + 1) (at + length (texts_joined (target_texts t))) ts),
+      parts_length (index + 1) (at + length (texts_joined (target_texts t))) ts valid.1,
     )

@@ -2,7 +2,7 @@
 use Rattle.std.proofs.Common.{◌≡◌, ℕ, ◌+◌, ◌<◌, ◌≤◌, List, [], ◌∷◌, ◌++◌, length, Option, Some, None, MatchOption, IfSome, IsSomeAnd, ◌≢◌, refl, sym, ap, ◌∙◌, append_assoc, append-nil, arith, Bor, ◌↔◌}
 use Rattle.std.proofs.lemmas.List.{length-append}
 use Rattle.nb_wire.proofs.BytesLaws.{append_one}
-use Rattle.nb_ibft.specs.Tables.{kept, joined}
+use Rattle.nb_ibft.specs.Tables.{kept, texts_joined}
 use Rattle.nb_ibft.specs.Infos.{IsShortText}
 use Rattle.nb_ibft.specs.Places.{AllStandAt}
 
@@ -17,12 +17,12 @@ after_is s p None h = (tt, λ rest e. absurd (h rest e))
 after_is s p (Some x) h = (h, λ rest e. (append_one p x.now p rest refl (sym h ∙ e)).1)
 
 -- texts that are joined stand one after another
-pub all_stand : (bytes before after : List ℕ) (texts : List (List ℕ)) (at : ℕ) → bytes ≡ before ++ (joined texts ++ after) → length before ≡ at → AllStandAt bytes at texts
+pub all_stand : (bytes before after : List ℕ) (texts : List (List ℕ)) (at : ℕ) → bytes ≡ before ++ (texts_joined texts ++ after) → length before ≡ at → AllStandAt bytes at texts
 all_stand bytes before after [] at e l = tt
 all_stand bytes before after (t ∷ ts) at e l =
-    let first : bytes ≡ before ++ (kept t ++ (joined ts ++ after)) = e ∙ ap (λ x. before ++ x) (append_assoc (kept t) (joined ts) after) in (
-      record { before = before; after = joined ts ++ after; spelled = first; place = l },
-      all_stand bytes (before ++ kept t) after ts (at + length (kept t)) (first ∙ sym (append_assoc before (kept t) (joined ts ++ after))) (length-append before (kept t) ∙ ap (λ n. n + length (kept t)) l),
+    let first : bytes ≡ before ++ (kept t ++ (texts_joined ts ++ after)) = e ∙ ap (λ x. before ++ x) (append_assoc (kept t) (texts_joined ts) after) in (
+      record { before = before; after = texts_joined ts ++ after; spelled = first; place = l },
+      all_stand bytes (before ++ kept t) after ts (at + length (kept t)) (first ∙ sym (append_assoc before (kept t) (texts_joined ts ++ after))) (length-append before (kept t) ∙ ap (λ n. n + length (kept t)) l),
     )
 
 -- a short text takes at most 1,089 bytes
@@ -36,6 +36,6 @@ ends_there s p None sound complete = (λ h. absurd h, λ e. complete [] (e ∙ s
 ends_there s p (Some x) sound complete = (λ h. sound ∙ ap (λ y. p ++ y) h ∙ append-nil p, λ e. complete [] (e ∙ sym (append-nil p)))
 
 -- texts of two lists, one after another
-pub joined-append : (xs ys : List (List ℕ)) → joined (xs ++ ys) ≡ joined xs ++ joined ys
+pub joined-append : (xs ys : List (List ℕ)) → texts_joined (xs ++ ys) ≡ texts_joined xs ++ texts_joined ys
 joined-append [] ys = refl
-joined-append (x ∷ xs) ys = ap (λ l. kept x ++ l) (joined-append xs ys) ∙ sym (append_assoc (kept x) (joined xs) (joined ys))
+joined-append (x ∷ xs) ys = ap (λ l. kept x ++ l) (joined-append xs ys) ∙ sym (append_assoc (kept x) (texts_joined xs) (texts_joined ys))

@@ -17,17 +17,17 @@ kept [] = []
 kept (x ∷ xs) = x ∷ (xs ++ 0 ∷ [])
 
 -- texts one after another
-abbrev pub joined : List (List ℕ) → List ℕ
-joined [] = []
-joined (text ∷ texts) = kept text ++ joined texts
+abbrev pub texts_joined : List (List ℕ) → List ℕ
+texts_joined [] = []
+texts_joined (text ∷ texts) = kept text ++ texts_joined texts
 
 -- where a text that stands at a place is said to be: its length and its place, or zeros where it has no bytes
-abbrev pub place : List ℕ → ℕ → ℕ
-place [] at = 0
-place (x ∷ xs) at = at
+abbrev pub place_or_zero : List ℕ → ℕ → ℕ
+place_or_zero [] at = 0
+place_or_zero (x ∷ xs) at = at
 
 abbrev pub reference : ℕ → List ℕ → List ℕ
-reference at text = to_le_bytes w16 (length text) ++ to_le_bytes w16 (place text at)
+reference at text = to_le_bytes w16 (length text) ++ to_le_bytes w16 (place_or_zero text at)
 
 -- the same of texts one after another, the first at this place
 abbrev pub references : ℕ → List (List ℕ) → List ℕ
@@ -35,8 +35,8 @@ references at [] = []
 references at (text ∷ texts) = reference at text ++ references (at + length (kept text)) texts
 
 -- the header: the signature, the total length, revision 1, the checksum, who made it
-abbrev pub header_text : ℕ → ℕ → List ℕ
-header_text total checksum = codes "iBFT" ++ (to_le_bytes w32 total ++ (1 ∷ checksum ∷ (codes "NETBT NETBOOT " ++ replicate 24 0)))
+abbrev pub table_header_text : ℕ → ℕ → List ℕ
+table_header_text total checksum = codes "iBFT" ++ (to_le_bytes w32 total ++ (1 ∷ checksum ∷ (codes "NETBT NETBOOT " ++ replicate 24 0)))
 
 -- where the disks' parts stand; the second interface has none
 abbrev pub target_places : List Target → List ℕ
@@ -73,14 +73,14 @@ abbrev pub portal_text : ℕ → Target → List ℕ
 portal_text index t = 4 ∷ 1 ∷ 54 ∷ 0 ∷ index ∷ 3 ∷ (address_text t.address ++ to_le_bytes w16 t.port)
 
 -- the rest of it after the unit's number: how the client logs in, on interface 0, and the texts
-abbrev pub login_text : ℕ → Target → List ℕ
-login_text at t = t.chap ∷ 0 ∷ (references at (target_texts t) ++ replicate 10 0)
+abbrev pub target_login_text : ℕ → Target → List ℕ
+target_login_text at t = t.chap ∷ 0 ∷ (references at (target_texts t) ++ replicate 10 0)
 
 -- the parts of disks, whose texts stand from this place on
 abbrev pub targets_text : ℕ → ℕ → List Target → List ℕ
 targets_text index at [] = []
 targets_text index at (t ∷ ts) =
-    portal_text index t ++ (t.lun ++ (login_text at t ++ targets_text (index + 1) (at + length (joined (target_texts t))) ts))
+    portal_text index t ++ (t.lun ++ (target_login_text at t ++ targets_text (index + 1) (at + length (texts_joined (target_texts t))) ts))
 
 -- where the texts begin: after the last part
 abbrev pub texts_place : Info → ℕ
@@ -101,7 +101,7 @@ parts_text i =
 
 -- all texts
 abbrev pub texts_text : Info → List ℕ
-texts_text i = joined (info_texts i)
+texts_text i = texts_joined (info_texts i)
 
 abbrev pub total_length : Info → ℕ
 total_length i = texts_place i + length (texts_text i)
@@ -116,7 +116,7 @@ check_byte bytes = check_of (sum bytes % 256)
 
 -- a table with this byte in the place of its checksum
 unfoldable pub table_text : Info → ℕ → List ℕ
-table_text i checksum = header_text (total_length i) checksum ++ (parts_text i ++ texts_text i)
+table_text i checksum = table_header_text (total_length i) checksum ++ (parts_text i ++ texts_text i)
 
 -- the table: all its bytes sum to 0 modulo 256
 unfoldable pub ibft : Info → List ℕ

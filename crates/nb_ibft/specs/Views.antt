@@ -17,12 +17,12 @@ abbrev pub boot_targets : List BootTarget → List Target
 boot_targets = map boot_target
 
 -- the number of an address in a list of them
-abbrev pub address_in : List Ip4 → ℕ → ℕ
-address_in addresses k = (slice_index_or addresses k (record { 0 = 0 })).0
+abbrev pub listed_address : List Ip4 → ℕ → ℕ
+listed_address addresses k = (slice_index_or addresses k (record { 0 = 0 })).0
 
 -- what is to be said
 abbrev pub boot_info : BootInfo → Info
-boot_info b = record { initiator = b.initiator; host = b.host; mac = b.mac.0; address = b.address.0; prefix = b.prefix; gateway = b.gateway.0; first_dns = address_in b.dns 0; second_dns = address_in b.dns 1; dhcp_server = b.dhcp_server.0; targets = boot_targets b.targets.items }
+boot_info b = record { initiator = b.initiator; host = b.host; mac = b.mac.0; address = b.address.0; prefix = b.prefix; gateway = b.gateway.0; first_dns = listed_address b.dns 0; second_dns = listed_address b.dns 1; dhcp_server = b.dhcp_server.0; targets = boot_targets b.targets.items }
 
 -- the texts of a disk, in their order
 abbrev pub lent_texts : LentTexts → List (List ℕ)

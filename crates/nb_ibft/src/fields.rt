@@ -3,7 +3,7 @@
 ghost use Rattle.std.specs.Prelude.{◌≡◌, ℕ, ◌+◌, ◌*◌, ◌≤◌, ◌<◌, ◌^◌, ◌++◌, ◌∷◌, List, [], length, slice_index, IfSome, IsSomeAnd};
 ghost use Rattle.std.specs.Int.{w16, w32, from_be_bytes, from_le_bytes};
 ghost use Rattle.nb_ibft.specs.Infos.{Info, Target, IsInfo, IsTarget, AreTargets, IsShortText, AreShortTexts, target_texts, targets_texts};
-ghost use Rattle.nb_ibft.specs.Tables.{ibft, reference, control_text, portal_text, login_text, targets_text};
+ghost use Rattle.nb_ibft.specs.Tables.{ibft, reference, control_text, portal_text, target_login_text, targets_text};
 ghost use Rattle.nb_ibft.specs.Places.{IsTextKeptAt, AllStandAt, slots};
 ghost use Rattle.nb_ibft.specs.Views.{lent_info, lent_texts, lent_target, lent_targets};
 
@@ -84,7 +84,7 @@ impl<'a> LentTarget<'a> {
         ensures short { IfSome result (λ r. AreShortTexts (target_texts (lent_target r.0))) }
         ensures complete { (index at : ℕ) (t : Target) (after : List ℕ) → IsTarget t → AreShortTexts (target_texts t)
             → AllStandAt bytes.now at (target_texts t) → at ≤ 8023
-            → parts.now ≡ portal_text index t ++ (t.lun ++ (login_text at t ++ after))
+            → parts.now ≡ portal_text index t ++ (t.lun ++ (target_login_text at t ++ after))
             → IsSomeAnd result (λ r. (lent_target r.0 ≡ t) × (r.1.now ≡ after)) }
     {
         let (portal, after_portal) = cut(parts, 24)?;
@@ -107,7 +107,7 @@ fn texts_at<'a>(bytes: &'a [u8], login: &[u8]) -> Option<LentTexts<'a>>
     requires { length login.now ≡ 32 }
     ensures short { IfSome result (λ x. AreShortTexts (lent_texts x)) }
     ensures complete { (at : ℕ) (t : Target) → AreShortTexts (target_texts t) → AllStandAt bytes.now at (target_texts t)
-        → at ≤ 8023 → login.now ≡ login_text at t → IsSomeAnd result (λ x. lent_texts x ≡ target_texts t) }
+        → at ≤ 8023 → login.now ≡ target_login_text at t → IsSomeAnd result (λ x. lent_texts x ≡ target_texts t) }
 {
     let name = text_at(bytes, login, 2)?;
     let user = text_at(bytes, login, 6)?;

@@ -2,7 +2,7 @@
 
 ghost use Rattle.std.specs.Prelude.{◌≡◌, ℕ, ◌+◌, ◌*◌, ◌≤◌, ◌<◌, ◌^◌, ◌++◌, [], length};
 ghost use Rattle.nb_ibft.specs.Infos.{HasShortTexts, IsShortText, AreShortTexts, target_texts, targets_texts};
-ghost use Rattle.nb_ibft.specs.Tables.{kept, joined, reference, references, address_text, mark, place, target_places, header_text, control_text, initiator_text, own_text, servers_text, addresses_text, host_text, portal_text, login_text, targets_text, texts_place, host_place, disks_place, parts_text, total_length};
+ghost use Rattle.nb_ibft.specs.Tables.{kept, texts_joined, reference, references, address_text, mark, place_or_zero, target_places, table_header_text, control_text, initiator_text, own_text, servers_text, addresses_text, host_text, portal_text, target_login_text, targets_text, texts_place, host_place, disks_place, parts_text, total_length};
 ghost use Rattle.nb_ibft.specs.Views.{lent_info, lent_target, lent_targets};
 
 use crate::lent::{LentInfo, LentTarget, LentTargets};
@@ -13,7 +13,7 @@ use nb_wire::Ip4;
 /// Puts the header.
 fn put_header(total: u32, checksum: u8, to: &mut ArrayVec<u8, 400>)
     requires { to.old.items ≡ [] }
-    ensures value { to.new.items ≡ header_text total checksum }
+    ensures value { to.new.items ≡ table_header_text total checksum }
     ensures size { length to.new.items ≡ 48 }
 {
     put(b"iBFT", to);
@@ -63,7 +63,7 @@ impl LentInfo<'_> {
     pub(crate) fn put_parts(&self, checksum: u8, to: &mut ArrayVec<u8, 400>)
         requires short { HasShortTexts (lent_info self.now) }
         requires empty { to.old.items ≡ [] }
-        ensures value { to.new.items ≡ header_text (total_length (lent_info self.now)) checksum ++ parts_text (lent_info self.now) }
+        ensures value { to.new.items ≡ table_header_text (total_length (lent_info self.now)) checksum ++ parts_text (lent_info self.now) }
     {
         put_header(self.total_length(), checksum, to);
         put_control(&self.targets, to);
@@ -180,7 +180,7 @@ impl LentTargets<'_> {
     /// How many bytes the disks' texts take.
     fn texts_len(&self) -> u16
         requires { AreShortTexts (targets_texts (lent_targets self.now)) }
-        ensures { result ≡ length (joined (targets_texts (lent_targets self.now))) }
+        ensures { result ≡ length (texts_joined (targets_texts (lent_targets self.now))) }
     {
         match self {
             LentTargets::Neither => 0,
@@ -197,7 +197,7 @@ impl LentTarget<'_> {
         requires place { at ≤ 8023 }
         requires room { length to.old.items ≤ 336 }
         ensures value { to.new.items ≡ to.old.items ++ (portal_text index (lent_target self.now)
-            ++ (self.now.lun ++ login_text at (lent_target self.now))) }
+            ++ (self.now.lun ++ target_login_text at (lent_target self.now))) }
         ensures size { length to.new.items ≡ length to.old.items + 64 }
     {
         self.put_portal(index, to);
@@ -221,7 +221,7 @@ impl LentTarget<'_> {
         requires short { AreShortTexts (target_texts (lent_target self.now)) }
         requires place { at ≤ 8023 }
         requires room { length to.old.items ≤ 368 }
-        ensures value { to.new.items ≡ to.old.items ++ login_text at (lent_target self.now) }
+        ensures value { to.new.items ≡ to.old.items ++ target_login_text at (lent_target self.now) }
         ensures size { length to.new.items ≡ length to.old.items + 32 }
     {
         put(&[self.chap, 0], to);
@@ -251,7 +251,7 @@ impl LentTarget<'_> {
     /// How many bytes a disk's texts take.
     fn texts_len(&self) -> u16
         requires { AreShortTexts (target_texts (lent_target self.now)) }
-        ensures value { result ≡ length (joined (target_texts (lent_target self.now))) }
+        ensures value { result ≡ length (texts_joined (target_texts (lent_target self.now))) }
         ensures bound { result ≤ 5445 }
     {
         let named = kept_len(self.texts.name)
@@ -274,7 +274,7 @@ fn put_reference(at: u16, text: &[u8], to: &mut ArrayVec<u8, 400>)
 
 /// A text's place; 0 where it is empty.
 fn place(text: &[u8], at: u16) -> u16
-    ensures { result ≡ place text.now at }
+    ensures { result ≡ place_or_zero text.now at }
 {
     if text.is_empty() { 0 } else { at }
 }

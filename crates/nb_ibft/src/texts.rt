@@ -1,7 +1,7 @@
 //! The texts that stand after a table's parts.
 
 ghost use Rattle.std.specs.Prelude.{◌≡◌, ◌+◌, ◌≤◌, ◌++◌, ℕ, List, [], length, IfSome, IsSomeAnd, IsTrue, OnOk, ◌↔◌};
-ghost use Rattle.nb_ibft.specs.Tables.{kept, joined, texts_text};
+ghost use Rattle.nb_ibft.specs.Tables.{kept, texts_joined, texts_text};
 ghost use Rattle.nb_ibft.specs.Infos.{target_texts, targets_texts};
 ghost use Rattle.nb_ibft.specs.Views.{lent_info, lent_target, lent_targets};
 
@@ -30,7 +30,7 @@ fn put_text(text: &[u8], to: &mut Vec<u8>) -> Result<(), NoMemory>
 impl LentTarget<'_> {
     /// Puts a disk's texts.
     fn put_texts(&self, to: &mut Vec<u8>) -> Result<(), NoMemory>
-        ensures { OnOk result (to.new.items ≡ to.old.items ++ joined (target_texts (lent_target self.now))) }
+        ensures { OnOk result (to.new.items ≡ to.old.items ++ texts_joined (target_texts (lent_target self.now))) }
     {
         put_text(self.texts.name, to)?;
         put_text(self.texts.user, to)?;
@@ -41,8 +41,8 @@ impl LentTarget<'_> {
 
     /// What stands after a disk's texts, if the bytes begin with them.
     fn after_texts<'b>(&self, bytes: &'b [u8]) -> Option<&'b [u8]>
-        ensures sound { IfSome result (λ rest. bytes.now ≡ joined (target_texts (lent_target self.now)) ++ rest.now) }
-        ensures complete { (rest : List ℕ) → bytes.now ≡ joined (target_texts (lent_target self.now)) ++ rest
+        ensures sound { IfSome result (λ rest. bytes.now ≡ texts_joined (target_texts (lent_target self.now)) ++ rest.now) }
+        ensures complete { (rest : List ℕ) → bytes.now ≡ texts_joined (target_texts (lent_target self.now)) ++ rest
             → IsSomeAnd result (λ r. r.now ≡ rest) }
     {
         let bytes = after_text(self.texts.name, bytes)?;
@@ -56,7 +56,7 @@ impl LentTarget<'_> {
 impl LentTargets<'_> {
     /// Puts the disks' texts.
     fn put_texts(&self, to: &mut Vec<u8>) -> Result<(), NoMemory>
-        ensures { OnOk result (to.new.items ≡ to.old.items ++ joined (targets_texts (lent_targets self.now))) }
+        ensures { OnOk result (to.new.items ≡ to.old.items ++ texts_joined (targets_texts (lent_targets self.now))) }
     {
         match self {
             LentTargets::Neither => Ok(()),
@@ -70,7 +70,7 @@ impl LentTargets<'_> {
 
     /// Whether the bytes are the disks' texts.
     fn are_texts(&self, bytes: &[u8]) -> bool
-        ensures { IsTrue result ↔ (bytes.now ≡ joined (targets_texts (lent_targets self.now))) }
+        ensures { IsTrue result ↔ (bytes.now ≡ texts_joined (targets_texts (lent_targets self.now))) }
     {
         match self {
             LentTargets::Neither => bytes.is_empty(),

@@ -25,7 +25,7 @@ use Rattle.nb_imagecmd.specs.declared.outcome.ScriptImage.{ScriptImage}
 use Rattle.nb_imagecmd.specs.Arriving.{arrived_image, listed_place, listed_with, selected_listed, script_gone, runs_kind, arrives_as, taken_unless, arrived}
 use Rattle.nb_imagecmd.specs.Asking.{asked_file}
 use Rattle.nb_imagecmd.specs.CarryingOut.{asking_answer, select_at, execute_at, set_args_at, image_effect}
-use Rattle.nb_imagecmd.specs.Executing.{selected_at, selected_with, executed_kind, executed_image, executed_selected, is_too_deep, taken_from, script_taken}
+use Rattle.nb_imagecmd.specs.Executing.{selected_at, selected_with, executed_kind, executed_image, executed_selected, is_too_deep, script_taken_from, script_taken}
 use Rattle.nb_imagecmd.specs.Freeing.{is_kept, are_all_listed, place_among, kept_list}
 use Rattle.nb_imagecmd.specs.Promises.{IsFileAmong, IsSelectedWithin, HoldsFilesOf}
 
@@ -270,7 +270,7 @@ file_held asking body uri depth list left arrival w is =
     let image = arrived_image asking body uri in
     left_held (image ∷ list.images) (arrived asking body uri depth list) arrival left (unless_held (refusal image list.images) asking.after image depth list w) is
 
-from_held : (o : Option Image) (i : ℕ) (list : ImageList) → Leaves list.images (taken_from o i list)
+from_held : (o : Option Image) (i : ℕ) (list : ImageList) → Leaves list.images (script_taken_from o i list)
 unfolding Leaves
 from_held None i list = tt
 from_held (Some image) i list = taken_held i list

@@ -23,7 +23,7 @@ use Rattle.nb_imagecmd.specs.declared.outcome.ScriptImage.{ScriptImage}
 use Rattle.nb_imagecmd.specs.Arriving.{arrived_image, listed_place, selected_listed, runs_kind, arrives_as, taken_unless, arrived}
 use Rattle.nb_imagecmd.specs.Asking.{asked_file}
 use Rattle.nb_imagecmd.specs.CarryingOut.{asking_answer, select_at, execute_at, set_args_at, image_effect}
-use Rattle.nb_imagecmd.specs.Executing.{selected_with, executed_kind, executed_image, executed_selected, is_too_deep, taken_from, script_taken}
+use Rattle.nb_imagecmd.specs.Executing.{selected_with, executed_kind, executed_image, executed_selected, is_too_deep, script_taken_from, script_taken}
 use Rattle.nb_imagecmd.specs.Freeing.{is_kept, are_all_listed}
 use Rattle.nb_imagecmd.specs.Promises.{IsShortName, HasShortNames, IsShortLine}
 use Rattle.nb_imagecmd.specs.Stat.{is_at, selected_mark, line_text, stat_line, stat_lines}
@@ -137,7 +137,7 @@ file_names_short asking body uri depth list left arrival short h is =
     let image = arrived_image asking body uri in
     left_short (arrived asking body uri depth list) arrival left (unless_short (refusal image list.images) asking.after image depth list short h) is
 
-from_short : (o : Option Image) (i : ℕ) (list : ImageList) → HasShortNames list → Leaves (taken_from o i list)
+from_short : (o : Option Image) (i : ℕ) (list : ImageList) → HasShortNames list → Leaves (script_taken_from o i list)
 unfolding Leaves
 from_short None i list h = tt
 from_short (Some image) i list h = removed_short list.images i h

@@ -69,13 +69,13 @@ asked_target target name args after =
     else if has_long_path target || nat_lt 255 (length (asked_name name target)) then Err LongPath
     else Ok (asking_of target (asked_name name target) args after)
 
-abbrev pub asked_by : Result UriTarget UriError → Option (List ℕ) → List (List ℕ) → After → Result Asking ImageFailure
-asked_by (Ok target) name args after = asked_target target name args after
-asked_by (Err why) name args after = Err (unresolved why)
+abbrev pub asked_resolved : Result UriTarget UriError → Option (List ℕ) → List (List ℕ) → After → Result Asking ImageFailure
+asked_resolved (Ok target) name args after = asked_target target name args after
+asked_resolved (Err why) name args after = Err (unresolved why)
 
 -- what a command asks for whose URI is joined to this base, or why it asks for nothing
 abbrev pub asked_file : Option (List ℕ) → Option (List ℕ) → List ℕ → List (List ℕ) → After → Result Asking ImageFailure
-asked_file base name uri args after = asked_by (resolution base uri) name args after
+asked_file base name uri args after = asked_resolved (resolution base uri) name args after
 
 -- a server may be asked for it, and the image may have its name
 pub record MayBeFetched (asking : Asking) : Type 0 where

@@ -20,8 +20,8 @@ use Rattle.nb_imagecmd.specs.Freeing.{are_all_listed, kept_list}
 use Rattle.nb_imagecmd.specs.Stat.{stat_lines}
 
 -- it waits for what it asks for
-abbrev pub waiting_for : Result Asking ImageFailure → Result ImageOutcome ImageFailure
-waiting_for answer = result_map_both (λ asking. Ask asking) (λ why. why) answer
+abbrev pub waits_for_asked : Result Asking ImageFailure → Result ImageOutcome ImageFailure
+waits_for_asked answer = result_map_both (λ asking. Ask asking) (λ why. why) answer
 
 abbrev pub asking_answer : Result Asking ImageFailure → ImageList → ImageAnswer
 asking_answer answer list = result_map_both (λ asking. (Ask asking, list)) (λ why. why) answer

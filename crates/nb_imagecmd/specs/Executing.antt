@@ -55,11 +55,11 @@ is_too_deep replace depth = not replace && not (nat_lt depth 8)
 abbrev pub script_of : Image → ScriptImage
 script_of image = record { text = image.body; uri = image.uri }
 
-abbrev pub taken_from : Option Image → ℕ → ImageList → Result (ScriptImage × ImageList) ImageFailure
-taken_from None i list = Err NoImage
-taken_from (Some image) i list = Ok (script_of image, without_image i (selected_at i list))
+abbrev pub script_taken_from : Option Image → ℕ → ImageList → Result (ScriptImage × ImageList) ImageFailure
+script_taken_from None i list = Err NoImage
+script_taken_from (Some image) i list = Ok (script_of image, without_image i (selected_at i list))
 
 -- the script at a place, and the list without it, in which none is selected
 unfoldable pub script_taken : ℕ → Bool → ℕ → ImageList → Result (ScriptImage × ImageList) ImageFailure
 script_taken i replace depth list =
-    if is_too_deep replace depth then Err ManyScripts else taken_from (slice_get list.images i) i list
+    if is_too_deep replace depth then Err ManyScripts else script_taken_from (slice_get list.images i) i list

@@ -13,13 +13,13 @@ use Rattle.nb_imagecmd.specs.Failures.{unresolved}
 abbrev pub fetched_place : UriTarget → Result UriTarget ImageFailure
 fetched_place target = if not (is_file target) then Err NoScheme else if has_long_path target then Err LongPath else Ok target
 
-abbrev pub place_by : Result UriTarget UriError → Result UriTarget ImageFailure
-place_by (Ok target) = fetched_place target
-place_by (Err why) = Err (unresolved why)
+abbrev pub place_resolved : Result UriTarget UriError → Result UriTarget ImageFailure
+place_resolved (Ok target) = fetched_place target
+place_resolved (Err why) = Err (unresolved why)
 
 -- the place that a text names which is joined to the URI of the file before
 abbrev pub place_of_move : UriTarget → List ℕ → Result UriTarget ImageFailure
-place_of_move before text = place_by (resolution (Some (target_uri before)) text)
+place_of_move before text = place_resolved (resolution (Some (target_uri before)) text)
 
 abbrev pub with_place : Asking → Result UriTarget ImageFailure → Result Asking ImageFailure
 with_place asking (Ok target) = Ok (record asking { target = target; moves = asking.moves + 1 })

@@ -1,7 +1,7 @@
 ghost use Rattle.std.specs.Prelude.{◌≡◌, ◌⊎◌, Ok, Err, IfOk, IfErr, OnErr};
 ghost use Rattle.std.specs.Option.{option_copied};
 ghost use Rattle.nb_imagecmd.specs.Asking.{asked_file, MayBeFetched};
-ghost use Rattle.nb_imagecmd.specs.CarryingOut.{waiting_for, selects, executes, sets_args, images_freed};
+ghost use Rattle.nb_imagecmd.specs.CarryingOut.{waits_for_asked, selects, executes, sets_args, images_freed};
 ghost use Rattle.nb_imagecmd.specs.CarryingOut.{image_effect, IfAsks};
 ghost use Rattle.nb_imagecmd.specs.declared.error.ImageFailure.TheVariants as failure;
 ghost use Rattle.nb_imagecmd.specs.declared.asking.After.TheVariants as after;
@@ -67,7 +67,7 @@ fn ask(
     after: After,
 ) -> Result<ImageOutcome, ImageFailure>
     ensures value { IfOk result (λ outcome.
-        waiting_for (asked_file (option_copied base.entry) name.now uri.now args.now after) ≡ Ok outcome) }
+        waits_for_asked (asked_file (option_copied base.entry) name.now uri.now args.now after) ≡ Ok outcome) }
     ensures cause { IfErr result (λ why. (why ≡ failure.NoMemory)
         ⊎ (asked_file (option_copied base.entry) name.now uri.now args.now after ≡ Err why)) }
     ensures fetched { IfOk result (λ outcome. IfAsks outcome MayBeFetched) }

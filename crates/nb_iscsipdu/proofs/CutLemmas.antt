@@ -5,7 +5,7 @@ use Rattle.std.proofs.lemmas.List.{take_at, take-append-drop, length-append, len
 use Rattle.std.proofs.lemmas.List.Sums.{fold-append}
 use Rattle.nb_iscsipdu.specs.Heads.{lengths, padded_len}
 use Rattle.nb_iscsipdu.specs.PduTexts.{PduParts, IsPduText}
-use Rattle.nb_iscsipdu.specs.Streams.{is_refused, pdu_len, is_whole, pdu_of, Cut, none_cut, with_rest, after_byte, cut, IsGatheredPdu, SpellsPdus, IsUnfinished, IsCutInto, StaysOpen}
+use Rattle.nb_iscsipdu.specs.Streams.{is_refused, pdu_len, is_whole_pdu, pdu_of, Cut, none_cut, with_rest, after_byte, cut, IsGatheredPdu, SpellsPdus, IsUnfinished, IsCutInto, StaysOpen}
 use Rattle.nb_iscsipdu.proofs.KeyLemmas.{either_way}
 use Rattle.nb_iscsipdu.proofs.PduLemmas.{head_one, rest_one}
 use Rattle.nb_iscsipdu.proofs.StreamLemmas.{lengths-kept, open-rest, open-short, open-joined, gathered-short, gathered-rest, whole-reads, reached, fold-reached}
@@ -45,7 +45,7 @@ spells-added text more (q ∷ ps) p (first, rest, is, head, tail) last =
     (first, rest ++ more, ap (λ (x : List ℕ). x ++ more) is ∙ append_assoc first rest more, head, spells-added rest more ps p tail last)
 
 -- a byte more of what is gathered
-gathered-more : (bytes : List ℕ) (byte : ℕ) → IsGatheredPdu bytes → is_refused bytes ≡ false → is_whole bytes ≡ false → IsGatheredPdu (bytes ++ byte ∷ [])
+gathered-more : (bytes : List ℕ) (byte : ℕ) → IsGatheredPdu bytes → is_refused bytes ≡ false → is_whole_pdu bytes ≡ false → IsGatheredPdu (bytes ++ byte ∷ [])
 gathered-more bytes byte gathered allowed unended =
     let len : length (bytes ++ byte ∷ []) ≡ length bytes + 1 = length-append bytes (byte ∷ []) in
     elim (cases_lt (length bytes) 8) [
@@ -56,7 +56,7 @@ gathered-more bytes byte gathered allowed unended =
           gathered-rest bytes (bytes ++ byte ∷ []) (byte ∷ []) refl long allowed (omega (arith, within, other, len))
     ]
 
-left-open : (bytes : List ℕ) → IsGatheredPdu bytes → is_whole bytes ≡ false → IsUnfinished bytes
+left-open : (bytes : List ℕ) → IsGatheredPdu bytes → is_whole_pdu bytes ≡ false → IsUnfinished bytes
 left-open bytes gathered unended =
     either_way (is_refused bytes)
     (λ on. inr (inl (refused-long bytes on).1))
@@ -72,7 +72,7 @@ left-open bytes gathered unended =
 abbrev Goes : Cut → List ℕ → List ℕ → Type 0
 Goes c before stream = IsCutInto (before ++ (c.rest ++ stream)) (fold after_byte c stream).pdus
 
-cut-goes : (c : Cut) (before stream : List ℕ) → SpellsPdus before c.pdus → IsGatheredPdu c.rest → is_whole c.rest ≡ false → Goes c before stream
+cut-goes : (c : Cut) (before stream : List ℕ) → SpellsPdus before c.pdus → IsGatheredPdu c.rest → is_whole_pdu c.rest ≡ false → Goes c before stream
 cut-goes c before [] spells gathered unended = record {
   spelled = before;
   left = c.rest;
@@ -93,7 +93,7 @@ cut-goes c before (byte ∷ stream) spells gathered unended =
     let now = gathered-more c.rest byte gathered allowed unended in
     let all = before ++ (c.rest ++ byte ∷ stream) in
     let grows : after_byte c byte ≡ with_rest c grown = rw allowed refl in
-    either_way (is_whole grown)
+    either_way (is_whole_pdu grown)
     (λ on.
     let inner : Cut = record { pdus = c.pdus ++ pdu_of grown ∷ []; rest = [] } in
     let is : after_byte c byte ≡ inner = grows ∙ rw on refl in
@@ -114,7 +114,7 @@ pub cut-spells : (stream : List ℕ) → IsCutInto stream (cut stream).pdus
 cut-spells stream = cut-goes none_cut [] stream refl (gathered-short [] (omega arith)) (ne_eqb 0 (pdu_len []) (λ e. absurd (omega arith)))
 
 -- a PDU's text stays unended up to its end, where it is whole
-text-reached : (text : List ℕ) (p : PduParts) → IsPduText text p → StaysOpen [] text × (is_whole text ≡ true) × (pdu_of text ≡ p)
+text-reached : (text : List ℕ) (p : PduParts) → IsPduText text p → StaysOpen [] text × (is_whole_pdu text ≡ true) × (pdu_of text ≡ p)
 text-reached text p is =
     let head = head_one text (take 48 text) p refl is in
     let rest = rest_one text (drop 48 text) p refl is in
@@ -147,7 +147,7 @@ fold-spelled c text [] empty spells =
     ∙ ap (λ (x : List ℕ). let r : Cut = record { pdus = c.pdus ++ []; rest = x } in r) empty
 fold-spelled c text (p ∷ ps) empty (first, rest, is, head, tail) =
     let reads = text-reached first p head in
-    let unended : is_whole c.rest ≡ false = ap is_whole empty ∙ ne_eqb 0 (pdu_len []) (λ e. absurd (omega arith)) in
+    let unended : is_whole_pdu c.rest ≡ false = ap is_whole_pdu empty ∙ ne_eqb 0 (pdu_len []) (λ e. absurd (omega arith)) in
     let stays : StaysOpen c.rest first = subst (λ (x : List ℕ). StaysOpen x first) (sym empty) reads.0 in
     let now : fold after_byte c first ≡ with_pdus c (p ∷ []) =
     fold-reached c first unended stays
@@ -163,10 +163,10 @@ fold-spelled c text (p ∷ ps) empty (first, rest, is, head, tail) =
 -- what is left gives no PDU
 left-none : (c : Cut) (left : List ℕ) → c.rest ≡ [] → IsUnfinished left → (fold after_byte c left).pdus ≡ c.pdus
 left-none c left empty is_left =
-    let unended : is_whole c.rest ≡ false = ap is_whole empty ∙ ne_eqb 0 (pdu_len []) (λ e. absurd (omega arith)) in
+    let unended : is_whole_pdu c.rest ≡ false = ap is_whole_pdu empty ∙ ne_eqb 0 (pdu_len []) (λ e. absurd (omega arith)) in
     let reaches : (part : List ℕ) → StaysOpen [] part → fold after_byte c part ≡ reached c part = λ part stays.
     fold-reached c part unended (subst (λ (x : List ℕ). StaysOpen x part) (sym empty) stays) ∙ ap (λ (x : List ℕ). reached c (x ++ part)) empty in
-    let done : (part : List ℕ) → StaysOpen [] part → is_whole part ≡ false → (fold after_byte c part).pdus ≡ c.pdus = λ part stays off.
+    let done : (part : List ℕ) → StaysOpen [] part → is_whole_pdu part ≡ false → (fold after_byte c part).pdus ≡ c.pdus = λ part stays off.
     ap (λ (x : Cut). x.pdus) (reaches part stays) ∙ rw off (append-nil c.pdus) in
     elim (cases_lt (length left) 8) [
       | inl short ↦ done left (open-short [] left (omega arith)) (ne_eqb (length left) (pdu_len left) (λ e. absurd (omega arith)))
@@ -177,7 +177,7 @@ left-none c left empty is_left =
           let split : first ++ more ≡ left = take-append-drop 8 left in
           let kept : lengths left ≡ lengths first = ap lengths (sym split) ∙ lengths-kept first more (omega arith) in
           let short : StaysOpen [] first = open-short [] first (omega arith) in
-          let off : is_whole first ≡ false = ne_eqb (length first) (pdu_len first) (λ e. absurd (omega arith)) in
+          let off : is_whole_pdu first ≡ false = ne_eqb (length first) (pdu_len first) (λ e. absurd (omega arith)) in
           either_way (is_refused first)
           (λ on.
           let stuck : Cut = record { pdus = c.pdus ++ []; rest = first } in

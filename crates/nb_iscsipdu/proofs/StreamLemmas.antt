@@ -8,7 +8,7 @@ use Rattle.nb_iscsipdu.specs.declared.pdus.PduState.TheVariants.{More, One, Brok
 use Rattle.nb_iscsipdu.specs.Heads.{word_at, lengths, padded_len}
 use Rattle.nb_iscsipdu.specs.declared.pdus.Known.TheVariants.{Len}
 use Rattle.nb_iscsipdu.specs.PduTexts.{PduParts, IsPduText}
-use Rattle.nb_iscsipdu.specs.Streams.{is_refused, pdu_len, is_whole, pdu_of, Cut, none_cut, with_rest, after_byte, cut, open_of, whole_in, state_of, known_of, IsKnown, IsGatheredPdu, StaysOpen, TakesOn}
+use Rattle.nb_iscsipdu.specs.Streams.{is_refused, pdu_len, is_whole_pdu, pdu_of, Cut, none_cut, with_rest, after_byte, cut, open_of, whole_in, pdu_state_of, known_of, IsKnown, IsGatheredPdu, StaysOpen, TakesOn}
 use Rattle.nb_iscsipdu.proofs.PduLemmas.{pdu_read}
 use Rattle.nb_iscsipdu.proofs.KeyLemmas.{either_way}
 
@@ -22,28 +22,28 @@ lengths-kept bytes more long =
     ∙ ap (λ (x : List ℕ). from_be_bytes w32 x) (take-append-le 4 (drop 4 bytes) more within)
 
 -- fewer than eight bytes may become a PDU
-pub short-more : (bytes : List ℕ) → length bytes < 8 → state_of bytes ≡ More
+pub short-more : (bytes : List ℕ) → length bytes < 8 → pdu_state_of bytes ≡ More
 short-more bytes short =
     let refused : is_refused bytes ≡ false = and_left _ _ (lt-leb 8 (length bytes) short) in
-    let whole : is_whole bytes ≡ false = ne_eqb (length bytes) (pdu_len bytes) (λ e. absurd (omega arith)) in
+    let whole : is_whole_pdu bytes ≡ false = ne_eqb (length bytes) (pdu_len bytes) (λ e. absurd (omega arith)) in
     rw (refused, whole) refl
 
 -- what the state says
-pub more-not_refused : (bytes : List ℕ) → state_of bytes ≡ More → is_refused bytes ≡ false
+pub more-not_refused : (bytes : List ℕ) → pdu_state_of bytes ≡ More → is_refused bytes ≡ false
 more-not_refused bytes is = either_way (is_refused bytes)
-    (λ on. let e : state_of bytes ≡ Broken = rw on refl in let f : Broken ≡ More = sym e ∙ is in absurd cc)
+    (λ on. let e : pdu_state_of bytes ≡ Broken = rw on refl in let f : Broken ≡ More = sym e ∙ is in absurd cc)
     (λ off. off)
 
-pub more-not_whole : (bytes : List ℕ) → state_of bytes ≡ More → is_whole bytes ≡ false
-more-not_whole bytes is = either_way (is_whole bytes)
+pub more-not_whole : (bytes : List ℕ) → pdu_state_of bytes ≡ More → is_whole_pdu bytes ≡ false
+more-not_whole bytes is = either_way (is_whole_pdu bytes)
     (λ on.
-    let e : state_of bytes ≡ One = rw (more-not_refused bytes is, on) refl in
+    let e : pdu_state_of bytes ≡ One = rw (more-not_refused bytes is, on) refl in
     let f : One ≡ More = sym e ∙ is in
     absurd cc)
     (λ off. off)
 
 -- where it isn't refused and isn't whole, more is to come
-more-from : (bytes : List ℕ) → is_refused bytes ≡ false → is_whole bytes ≡ false → state_of bytes ≡ More
+more-from : (bytes : List ℕ) → is_refused bytes ≡ false → is_whole_pdu bytes ≡ false → pdu_state_of bytes ≡ More
 more-from bytes refused whole = rw (refused, whole) refl
 
 -- once eight bytes are there, more of them change nothing of whether there is a PDU and how long it is
@@ -66,7 +66,7 @@ pub open-rest : (old added : List ℕ) → 8 ≤ length old → is_refused old �
 open-rest old added long allowed within part later parts some =
     let len : length added ≡ length part + length later = ap length parts ∙ length-append part later in
     let before : length (old ++ part) < pdu_len old = omega (arith, len, length-append old part, length-append old added) in
-    let whole : is_whole (old ++ part) ≡ false = ne_eqb (length (old ++ part)) (pdu_len (old ++ part)) (λ e. absurd (omega (arith, e, before, pdu_len-kept old part long))) in
+    let whole : is_whole_pdu (old ++ part) ≡ false = ne_eqb (length (old ++ part)) (pdu_len (old ++ part)) (λ e. absurd (omega (arith, e, before, pdu_len-kept old part long))) in
     more-from (old ++ part) (refused-kept old part long ∙ allowed) whole
 
 pub open-none : (old : List ℕ) → StaysOpen old []
@@ -75,8 +75,8 @@ open-none old part later parts some =
     absurd (omega arith)
 
 -- nothing is added to what doesn't stay open
-pub open-first : (old added : List ℕ) → StaysOpen old added → 0 < length added → state_of old ≡ More
-open-first old added stays some = ap (λ (x : List ℕ). state_of x) (sym (append-nil old)) ∙ stays [] added refl some
+pub open-first : (old added : List ℕ) → StaysOpen old added → 0 < length added → pdu_state_of old ≡ More
+open-first old added stays some = ap (λ (x : List ℕ). pdu_state_of x) (sym (append-nil old)) ∙ stays [] added refl some
 
 -- a prefix of two joined lists is one of the first, or all of it and one of the second
 pub data Joins (a b part later : List ℕ) : Type 0 where
@@ -99,7 +99,7 @@ pub open-joined : (old first second : List ℕ) → StaysOpen old first → Stay
 open-joined old first second one two part later parts some =
     elim (joins first second part later parts) [
       | inside left is more ↦ one part left is more
-      | past more is rest ↦ ap (λ (x : List ℕ). state_of (old ++ x)) is ∙ ap (λ (x : List ℕ). state_of x) (sym (append_assoc old first more)) ∙ two more later rest some
+      | past more is rest ↦ ap (λ (x : List ℕ). pdu_state_of (old ++ x)) is ∙ ap (λ (x : List ℕ). pdu_state_of x) (sym (append_assoc old first more)) ∙ two more later rest some
     ]
 
 pub take-sum : (m n : ℕ) (xs : List ℕ) → take (m + n) xs ≡ take m xs ++ take n (drop m xs)
@@ -133,8 +133,8 @@ gathered-rest old new added is long allowed within =
     }
 
 -- a PDU that isn't whole
-pub open_of-not_whole : (bytes : List ℕ) → is_whole (open_of bytes) ≡ false
-open_of-not_whole bytes = either_way (is_whole bytes)
+pub open_of-not_whole : (bytes : List ℕ) → is_whole_pdu (open_of bytes) ≡ false
+open_of-not_whole bytes = either_way (is_whole_pdu bytes)
     (λ on. rw on (ne_eqb 0 (pdu_len []) (λ e. absurd (omega arith))))
     (λ off. rw off off)
 
@@ -142,15 +142,15 @@ open_of-not_whole bytes = either_way (is_whole bytes)
 abbrev pub reached : Cut → List ℕ → Cut
 reached c new = record { pdus = c.pdus ++ whole_in new; rest = open_of new }
 
-pub reached-none : (c : Cut) → is_whole c.rest ≡ false → c ≡ reached c c.rest
+pub reached-none : (c : Cut) → is_whole_pdu c.rest ≡ false → c ≡ reached c c.rest
 reached-none c off = rw off (ap (λ (x : List PduParts). let r : Cut = record { pdus = x; rest = c.rest } in r) (sym (append-nil c.pdus)))
 
 reached-with_rest : (c : Cut) (new : List ℕ) → with_rest c new ≡ reached c new
-reached-with_rest c new = either_way (is_whole new)
+reached-with_rest c new = either_way (is_whole_pdu new)
     (λ on. rw on refl)
     (λ off. rw off (ap (λ (x : List PduParts). let r : Cut = record { pdus = x; rest = new } in r) (sym (append-nil c.pdus))))
 
-pub fold-reached : (c : Cut) (added : List ℕ) → is_whole c.rest ≡ false → StaysOpen c.rest added → fold after_byte c added ≡ reached c (c.rest ++ added)
+pub fold-reached : (c : Cut) (added : List ℕ) → is_whole_pdu c.rest ≡ false → StaysOpen c.rest added → fold after_byte c added ≡ reached c (c.rest ++ added)
 fold-reached c [] off stays = reached-none c off ∙ ap (λ (x : List ℕ). reached c x) (sym (append-nil c.rest))
 fold-reached c (byte ∷ []) off stays =
     let first = more-not_refused c.rest (open-first c.rest (byte ∷ []) stays (omega arith)) in
@@ -162,7 +162,7 @@ fold-reached c (byte ∷ next ∷ added) off stays =
     let whole = more-not_whole grown more in
     let inner : Cut = record { pdus = c.pdus; rest = grown } in
     let goes : StaysOpen grown (next ∷ added) = λ part later parts some.
-    ap (λ (x : List ℕ). state_of x) (append_assoc c.rest (byte ∷ []) part)
+    ap (λ (x : List ℕ). pdu_state_of x) (append_assoc c.rest (byte ∷ []) part)
     ∙ stays (byte ∷ part) later (ap (λ (x : List ℕ). byte ∷ x) parts) some in
     rw (first, whole) (fold-reached inner (next ∷ added) whole goes ∙ ap (λ (x : List ℕ). reached c x) (append_assoc c.rest (byte ∷ []) (next ∷ added)))
 
@@ -171,15 +171,15 @@ pub takes-on : (old dropped new taken : List ℕ) → dropped ≡ open_of old �
 takes-on old dropped new taken drops is stays stream stands =
     let c = cut stream in
     let same : c.rest ≡ dropped = stands ∙ sym drops in
-    let not_whole : is_whole c.rest ≡ false = ap is_whole stands ∙ open_of-not_whole old in
-    let still : StaysOpen c.rest taken = λ part later parts some. ap (λ (x : List ℕ). state_of (x ++ part)) same ∙ stays part later parts some in
+    let not_whole : is_whole_pdu c.rest ≡ false = ap is_whole_pdu stands ∙ open_of-not_whole old in
+    let still : StaysOpen c.rest taken = λ part later parts some. ap (λ (x : List ℕ). pdu_state_of (x ++ part)) same ∙ stays part later parts some in
     let now : c.rest ++ taken ≡ new = ap (λ (x : List ℕ). x ++ taken) same ∙ sym is in
     let all : cut (stream ++ taken) ≡ reached c new =
     fold-append after_byte none_cut stream taken ∙ fold-reached c taken not_whole still ∙ ap (λ (x : List ℕ). reached c x) now in
     (ap (λ (x : Cut). x.rest) all, ap (λ (x : Cut). x.pdus) all)
 
 -- a refused one is no PDU
-pub refused-not_whole : (bytes : List ℕ) → IsGatheredPdu bytes → is_refused bytes ≡ true → is_whole bytes ≡ false
+pub refused-not_whole : (bytes : List ℕ) → IsGatheredPdu bytes → is_refused bytes ≡ true → is_whole_pdu bytes ≡ false
 refused-not_whole bytes gathered on =
     let eight = gathered.refused on in
     ne_eqb (length bytes) (pdu_len bytes) (λ e. absurd (omega arith))
@@ -210,7 +210,7 @@ gathers-joined old mid new bytes rest a b mid_is rest_is new_is =
 pub least-joined : (old mid bytes rest : List ℕ) (a b : ℕ) → mid ≡ old ++ take a bytes → rest ≡ drop a bytes → StaysOpen old (take a bytes) → StaysOpen mid (take b rest) → StaysOpen old (take (a + b) bytes)
 least-joined old mid bytes rest a b mid_is rest_is one two part later parts some =
     let second : StaysOpen (old ++ take a bytes) (take b (drop a bytes)) = λ p l e s.
-    ap (λ (x : List ℕ). state_of (x ++ p)) (sym mid_is) ∙ two p l (ap (λ (x : List ℕ). take b x) rest_is ∙ e) s in
+    ap (λ (x : List ℕ). pdu_state_of (x ++ p)) (sym mid_is) ∙ two p l (ap (λ (x : List ℕ). take b x) rest_is ∙ e) s in
     open-joined old (take a bytes) (take b (drop a bytes)) one second part later (sym (take-sum a b bytes) ∙ parts) some
 
 -- of two pieces, the first of which was taken whole
@@ -231,7 +231,7 @@ gathers-both old mid new first second a b most least mid_is new_is =
 pub least-both : (old mid first second : List ℕ) (a b : ℕ) → a ≤ length first → length first ≤ a → mid ≡ old ++ take a first → StaysOpen old (take a first) → StaysOpen mid (take b second) → StaysOpen old (take (a + b) (first ++ second))
 least-both old mid first second a b most least mid_is one two part later parts some =
     let after : StaysOpen (old ++ take a first) (take b second) = λ p l e s.
-    ap (λ (x : List ℕ). state_of (x ++ p)) (sym mid_is) ∙ two p l e s in
+    ap (λ (x : List ℕ). pdu_state_of (x ++ p)) (sym mid_is) ∙ two p l e s in
     open-joined old (take a first) (take b second) one after part later (sym (take-both first second a b most least) ∙ parts) some
 
 -- up to the lengths
@@ -251,7 +251,7 @@ gathered-lengths old new bytes n most gathered is most_is few =
 pub rest-within : (old new bytes : List ℕ) (n len : ℕ) → new ≡ old ++ take n bytes → length old ≤ len → n ≤ len - length old → length new ≤ len
 rest-within old new bytes n len is some few = omega (arith, ap length is, length-append old (take n bytes), length-take n bytes)
 
-pub rest-all : (old new bytes : List ℕ) (n len : ℕ) → new ≡ old ++ take n bytes → 8 ≤ length old → len ≡ pdu_len old → length old ≤ len → n ≡ min (length bytes) (len - length old) → state_of new ≡ More → n ≡ length bytes
+pub rest-all : (old new bytes : List ℕ) (n len : ℕ) → new ≡ old ++ take n bytes → 8 ≤ length old → len ≡ pdu_len old → length old ≤ len → n ≡ min (length bytes) (len - length old) → pdu_state_of new ≡ More → n ≡ length bytes
 rest-all old new bytes n len is long len_is some count more =
     elim (cases_lt n (length bytes)) [
       | inl less ↦
@@ -267,7 +267,7 @@ pub known-within : (old : List ℕ) → IsGatheredPdu old → is_refused old ≡
 known-within old gathered allowed long = gathered.short allowed long
 
 -- bytes that are gathered and whole are the PDU
-pub whole-reads : (bytes : List ℕ) → IsGatheredPdu bytes → is_whole bytes ≡ true → IsPduText bytes (pdu_of bytes)
+pub whole-reads : (bytes : List ℕ) → IsGatheredPdu bytes → is_whole_pdu bytes ≡ true → IsPduText bytes (pdu_of bytes)
 whole-reads bytes gathered on =
     let len : length bytes ≡ pdu_len bytes = eqb-true (length bytes) (pdu_len bytes) on in
     let allowed : is_refused bytes ≡ false = either_way (is_refused bytes) (λ r. let e : true ≡ false = sym on ∙ refused-not_whole bytes gathered r in absurd cc) (λ off. off) in
@@ -282,7 +282,7 @@ whole-reads bytes gathered on =
 -- a step up to the end of a PDU whose length is known
 pub record RestStep (old new bytes : List ℕ) (n : ℕ) : Type 0 where
   pub gathered : IsGatheredPdu new
-  pub all : state_of new ≡ More → n ≡ length bytes
+  pub all : pdu_state_of new ≡ More → n ≡ length bytes
   pub least : StaysOpen old (take n bytes)
 
 pub rest-step : (old new bytes : List ℕ) (n len : ℕ) → IsGatheredPdu old → IsKnown (Len len) old → new ≡ old ++ take n bytes → n ≡ min (length bytes) (len - length old) → RestStep old new bytes n

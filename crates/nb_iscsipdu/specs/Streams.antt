@@ -17,8 +17,8 @@ abbrev pub pdu_len : List ℕ → ℕ
 pdu_len bytes = 48 + padded_len (lengths bytes)
 
 -- bytes that are one PDU
-abbrev pub is_whole : List ℕ → Bool
-is_whole bytes = length bytes == pdu_len bytes
+abbrev pub is_whole_pdu : List ℕ → Bool
+is_whole_pdu bytes = length bytes == pdu_len bytes
 
 abbrev pub pdu_of : List ℕ → PduParts
 pdu_of bytes = record { head = take 48 bytes; seg = take (lengths bytes) (drop 48 bytes) }
@@ -32,7 +32,7 @@ abbrev pub none_cut : Cut
 none_cut = record { pdus = []; rest = [] }
 
 abbrev pub with_rest : Cut → List ℕ → Cut
-with_rest c bytes = if is_whole bytes
+with_rest c bytes = if is_whole_pdu bytes
     then (record { pdus = c.pdus ++ pdu_of bytes ∷ []; rest = [] })
     else (record { pdus = c.pdus; rest = bytes })
 
@@ -65,21 +65,21 @@ pub record IsCutInto (stream : List ℕ) (ps : List PduParts) : Type 0 where
 
 -- a PDU that was whole is dropped
 abbrev pub open_of : List ℕ → List ℕ
-open_of bytes = if is_whole bytes then [] else bytes
+open_of bytes = if is_whole_pdu bytes then [] else bytes
 
 abbrev pub whole_in : List ℕ → List PduParts
-whole_in bytes = if is_whole bytes then pdu_of bytes ∷ [] else []
+whole_in bytes = if is_whole_pdu bytes then pdu_of bytes ∷ [] else []
 
 abbrev pub whole_pdu : List ℕ → Option PduParts
-whole_pdu bytes = if is_whole bytes then Some (pdu_of bytes) else None
+whole_pdu bytes = if is_whole_pdu bytes then Some (pdu_of bytes) else None
 
 -- what a reader gathers is a PDU or a prefix of one, or ends with the byte that shows that it is none
 pub record IsGatheredPdu (bytes : List ℕ) : Type 0 where
   pub refused : is_refused bytes ≡ true → length bytes ≡ 8
   pub short : is_refused bytes ≡ false → 8 ≤ length bytes → length bytes ≤ pdu_len bytes
 
-abbrev pub state_of : List ℕ → PduState
-state_of bytes = if is_refused bytes then Broken else (if is_whole bytes then One else More)
+abbrev pub pdu_state_of : List ℕ → PduState
+pdu_state_of bytes = if is_refused bytes then Broken else (if is_whole_pdu bytes then One else More)
 
 -- A reader that gathered these bytes stands for all of the stream that it took.
 abbrev pub StandsForStream : List ℕ → List ℕ → Type 0
@@ -93,14 +93,14 @@ TakesOn old new taken = (stream : List ℕ) → StandsForStream stream old
 -- of what was added no shorter part makes a PDU whole, or shows that there is none
 abbrev pub StaysOpen : List ℕ → List ℕ → Type 0
 StaysOpen old added = (part later : List ℕ) → added ≡ part ++ later → 0 < length later
-    → state_of (old ++ part) ≡ More
+    → pdu_state_of (old ++ part) ≡ More
 
 abbrev pub TakesNoMore : List ℕ → List ℕ → Type 0
 TakesNoMore old taken = StaysOpen (open_of old) taken
 
 -- bytes are left over only after a PDU, or where there is none
 abbrev pub TakesAllOfPdu : List ℕ → List ℕ → ℕ → Type 0
-TakesAllOfPdu new bytes count = state_of new ≡ More → count ≡ length bytes
+TakesAllOfPdu new bytes count = pdu_state_of new ≡ More → count ≡ length bytes
 
 -- what is known of the length of the PDU that begins with these bytes
 abbrev pub IsKnown : Known → List ℕ → Type 0

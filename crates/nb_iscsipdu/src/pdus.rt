@@ -55,7 +55,7 @@ enum Known {
 impl Pdus {
     ghost use Rattle.std.specs.Prelude.{[], ℕ, List, IfOk};
     ghost use Rattle.nb_iscsipdu.specs.PduTexts.{pdu_parts};
-    ghost use Rattle.nb_iscsipdu.specs.Streams.{is_refused, is_whole, open_of, whole_pdu, state_of, IsKnown, StaysOpen, StandsForStream, TakesOn, TakesNoMore, TakesAllOfPdu};
+    ghost use Rattle.nb_iscsipdu.specs.Streams.{is_refused, is_whole_pdu, open_of, whole_pdu, pdu_state_of, IsKnown, StaysOpen, StandsForStream, TakesOn, TakesNoMore, TakesAllOfPdu};
     ghost use Rattle.nb_iscsipdu.specs.declared.pdus.PduState.TheVariants.{More};
 
     /// A reader at a PDU's first byte. It takes all the memory that it needs.
@@ -74,7 +74,7 @@ impl Pdus {
         // What it took, added to all that was before, is what it stands for: so is the PDU that became whole.
         ensures stands { TakesOn self.old self.new (take result.0 (first.now ++ second.now)) }
         ensures within { result.0 ≤ length (first.now ++ second.now) }
-        ensures state { result.1 ≡ state_of self.new }
+        ensures state { result.1 ≡ pdu_state_of self.new }
         ensures gathers { is_refused self.old ≡ false
             → self.new ≡ open_of self.old ++ take result.0 (first.now ++ second.now) }
         // Once there is no PDU, it stays so, and nothing is taken.
@@ -110,7 +110,7 @@ impl Pdus {
     }
 
     fn is_whole(&self) -> bool
-        ensures { result ≡ is_whole self.now }
+        ensures { result ≡ is_whole_pdu self.now }
     {
         match self.known() {
             Known::Len(len) => self.block.len() == len,
@@ -119,7 +119,7 @@ impl Pdus {
     }
 
     fn state(&self) -> PduState
-        ensures { result ≡ state_of self.now }
+        ensures { result ≡ pdu_state_of self.now }
     {
         match self.known() {
             Known::No => PduState::More,

@@ -21,7 +21,7 @@ use Rattle.nb_lab.specs.declared.hosts.Peer.{Peer}
 use Rattle.nb_lab.specs.Hosts.{server, server_mac}
 use Rattle.nb_lab.specs.declared.connection.StreamPart.{StreamPart}
 use Rattle.nb_lab.specs.declared.connection.StreamPart.TheVariants.{Opening, Bytes, Acknowledgement}
-use Rattle.nb_lab.specs.Streams.{part_number, part_flags, part_mss, part_body, segment_to}
+use Rattle.nb_lab.specs.Streams.{part_sequence_number, part_flags, part_mss, part_body, segment_to_peer}
 use Rattle.nb_lab.specs.Answers.{server_frame, packet_to}
 
 -- a frame of a head and a body that are put one after the other
@@ -106,23 +106,23 @@ made peer expected seq flags mss body =
 
 pub sent_is : (old new : List ℕ) (peer : Peer) (expected seq flags : ℕ) (mss : Option ℕ) (body : List ℕ) (part : StreamPart)
     → new ≡ old ++ sent_segment server peer.ip (record { src_port = 80; dst_port = peer.port; seq = seq; ack = expected; flags = flags; window = 65535; mss = mss; body = body })
-    → old ≡ [] → seq ≡ part_number part → flags ≡ part_flags part → mss ≡ part_mss part → body ≡ part_body part
-    → new ≡ sent_segment server peer.ip (segment_to peer expected part)
+    → old ≡ [] → seq ≡ part_sequence_number part → flags ≡ part_flags part → mss ≡ part_mss part → body ≡ part_body part
+    → new ≡ sent_segment server peer.ip (segment_to_peer peer expected part)
 unfolding made
 sent_is old new peer expected seq flags mss body part put none seq_is flags_is mss_is body_is =
     let text : SegmentParts → List ℕ = λ s. sent_segment server peer.ip s in
     put
     ∙ ap (λ (x : List ℕ). x ++ text (made peer expected seq flags mss body)) none
     ∙ ap (λ (k : ℕ). text (made peer expected k flags mss body)) seq_is
-    ∙ ap (λ (k : ℕ). text (made peer expected (part_number part) k mss body)) flags_is
-    ∙ ap (λ (m : Option ℕ). text (made peer expected (part_number part) (part_flags part) m body)) mss_is
-    ∙ ap (λ (x : List ℕ). text (made peer expected (part_number part) (part_flags part) (part_mss part) x)) body_is
+    ∙ ap (λ (k : ℕ). text (made peer expected (part_sequence_number part) k mss body)) flags_is
+    ∙ ap (λ (m : Option ℕ). text (made peer expected (part_sequence_number part) (part_flags part) m body)) mss_is
+    ∙ ap (λ (x : List ℕ). text (made peer expected (part_sequence_number part) (part_flags part) (part_mss part) x)) body_is
 
 few_options : (part : StreamPart) → sent_header_len (part_mss part) ≤ 24
 few_options Opening = omega arith
 few_options (Bytes p) = omega arith
 few_options (Acknowledgement place) = omega arith
 
-pub length-segment_to : (peer : Peer) (expected : ℕ) (part : StreamPart) → length (part_body part) ≤ 1000 → length (sent_segment server peer.ip (segment_to peer expected part)) ≤ 1024
+pub length-segment_to : (peer : Peer) (expected : ℕ) (part : StreamPart) → length (part_body part) ≤ 1000 → length (sent_segment server peer.ip (segment_to_peer peer expected part)) ≤ 1024
 length-segment_to peer expected part short =
-    omega (arith, length-sent_segment server peer.ip (segment_to peer expected part), few_options part, short)
+    omega (arith, length-sent_segment server peer.ip (segment_to_peer peer expected part), few_options part, short)

@@ -8,7 +8,7 @@ use Rattle.std.proofs.lemmas.List.FromFn.{map-range_with_len_more}
 use Rattle.std.proofs.lemmas.Grind.{flat_map-append}
 use Rattle.nb_lab.specs.declared.fate.Fate.{Fate}
 use Rattle.nb_lab.specs.declared.fate.Fate.TheVariants.{Lost, OnTime, Late}
-use Rattle.nb_lab.specs.Fates.{is_lost, comes_twice, fate, copies, last_before, if_late, come_with, arrivals, late_after}
+use Rattle.nb_lab.specs.Fates.{is_lost, comes_twice, fate, copies, last_before, if_late, come_with, frames_arrived, late_after}
 
 -- the frame that is late still once one was sent, by the fate of that one and what was late before
 abbrev pub late_by : Fate → ℕ → Option ℕ → Option ℕ
@@ -85,11 +85,11 @@ range_more n =
     ∙ map-range_with_len_more (λ (k : ℕ). k) 1 n (suc n) (omega arith)
     ∙ ap (λ (x : List ℕ). x ++ suc n ∷ []) (map-id (range_with_len 1 n))
 
-pub arrivals_step : (n : ℕ) → arrivals (suc n) ≡ arrivals n ++ coming_by (fate (suc n)) (suc n) (late_after n)
-unfolding arrivals
+pub arrivals_step : (n : ℕ) → frames_arrived (suc n) ≡ frames_arrived n ++ coming_by (fate (suc n)) (suc n) (late_after n)
+unfolding frames_arrived
 arrivals_step n =
     let one : suc n ≡ n + 1 = omega arith in
     ap (λ k. flat_map come_with (range_with_len 1 k)) one
     ∙ ap (flat_map come_with) (range_more n)
     ∙ flat_map-append come_with (range_with_len 1 n) (suc n ∷ [])
-    ∙ ap (λ (x : List ℕ). arrivals n ++ x) (append-nil (come_with (suc n)) ∙ coming_step n)
+    ∙ ap (λ (x : List ℕ). frames_arrived n ++ x) (append-nil (come_with (suc n)) ∙ coming_step n)

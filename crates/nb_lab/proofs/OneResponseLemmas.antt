@@ -8,9 +8,9 @@ use Rattle.nb_lab.specs.declared.connection.State.{State}
 use Rattle.nb_lab.specs.declared.connection.State.TheVariants.{Opened, Reading, Sending, Sent, Closed}
 use Rattle.nb_lab.specs.declared.connection.Connection.{Connection}
 use Rattle.nb_lab.specs.Pages.{response_text}
-use Rattle.nb_lab.specs.Streams.{end_of, is_last, sent_by}
-use Rattle.nb_lab.specs.Connections.{has_flag, place_of, piece_from, sends, acknowledged_by, after_ack}
-use Rattle.nb_lab.specs.Receptions.{counts, brings_more, number_after, received_by, received}
+use Rattle.nb_lab.specs.Streams.{piece_end, is_last, sent_by}
+use Rattle.nb_lab.specs.Connections.{carries_flag, place_of_ack, piece_from, sends, acknowledged_by, after_ack}
+use Rattle.nb_lab.specs.Receptions.{counts_segment, brings_bytes, number_after, received_in_state, segment_received}
 use Rattle.nb_lab.specs.OneResponse.{GoesOnFrom, SendsInOrder}
 
 decide : (b : Bool) → (b ≡ true) ⊎ (b ≡ false)
@@ -20,10 +20,10 @@ decide false = inr refl
 stays : (p : Piece) → GoesOnFrom p (Sending p)
 stays p = (refl, inl refl)
 
-sent_cases : (p : Piece) → ((sent_by p ≡ end_of p + 1) × (end_of p ≡ length (response_text p.page))) ⊎ (sent_by p ≡ end_of p)
+sent_cases : (p : Piece) → ((sent_by p ≡ piece_end p + 1) × (piece_end p ≡ length (response_text p.page))) ⊎ (sent_by p ≡ piece_end p)
 sent_cases p = elim (decide (is_last p)) [
-  | inl last ↦ inl (ap (λ (b : Bool). if b then end_of p + 1 else end_of p) last, eqb-true (end_of p) (length (response_text p.page)) last)
-  | inr other ↦ inr (ap (λ (b : Bool). if b then end_of p + 1 else end_of p) other)
+  | inl last ↦ inl (ap (λ (b : Bool). if b then piece_end p + 1 else piece_end p) last, eqb-true (piece_end p) (length (response_text p.page)) last)
+  | inr other ↦ inr (ap (λ (b : Bool). if b then piece_end p + 1 else piece_end p) other)
 ]
 
 -- what is acknowledged past the last byte is the FIN
@@ -36,7 +36,7 @@ past_all p place past within all = elim (sent_cases p) [
     none : (from place len room sent : ℕ) → from < place → place ≤ sent → len < place → sent ≡ from + min (min (len - from) 1000) room → ⊥
     none from place len room sent a b c d = omega arith
 
-not_all : (p : Piece) (place : ℕ) → place ≤ sent_by p → place ≤ length (response_text p.page) → place ≤ end_of p
+not_all : (p : Piece) (place : ℕ) → place ≤ sent_by p → place ≤ length (response_text p.page) → place ≤ piece_end p
 not_all p place within some = elim (sent_cases p) [
   | inl (sent, end) ↦ subst (λ k. place ≤ k) (sym end) some
   | inr sent ↦ subst (λ k. place ≤ k) sent within
@@ -59,7 +59,7 @@ module _ (c : Connection) (p : Piece) (s : SegmentParts) (state : c.state ≡ Se
 
   after_ack_goes : GoesOnFrom p (after_ack c s).state
   after_ack_goes =
-      let place = place_of s in
+      let place = place_of_ack s in
       let len = length (response_text p.page) in
       subst (λ (st : State). GoesOnFrom p (acknowledged_by c place s.window st).state) (sym state)
       (by_tests c p place s.window (nat_lt p.from place) (nat_le place (sent_by p)) (nat_lt len place) state
@@ -73,26 +73,26 @@ closes_by : (b : Connection) (p : Piece) (place : ℕ) (t : Bool) → b.state �
 closes_by b p place true is h = tt
 closes_by b p place false is h = subst (GoesOnFrom p) (sym is) h
 
-received_by_goes : (b : Connection) (p : Piece) (s : SegmentParts) (page : Option Page) (st : State) → b.state ≡ st → GoesOnFrom p st → GoesOnFrom p (received_by b s page st).state
+received_by_goes : (b : Connection) (p : Piece) (s : SegmentParts) (page : Option Page) (st : State) → b.state ≡ st → GoesOnFrom p st → GoesOnFrom p (received_in_state b s page st).state
 received_by_goes b p s page Opened is h = absurd h
 received_by_goes b p s page Reading is h = absurd h
 received_by_goes b p s page (Sending q) is h = subst (GoesOnFrom p) (sym is) h
-received_by_goes b p s page (Sent place) is h = closes_by b p place (has_flag s 1) is h
+received_by_goes b p s page (Sent place) is h = closes_by b p place (carries_flag s 1) is h
 received_by_goes b p s page Closed is h = subst (GoesOnFrom p) (sym is) tt
 
 received_goes : (b : Connection) (p : Piece) (s : SegmentParts) (page : Option Page) (t : Bool) → GoesOnFrom p b.state
-    → GoesOnFrom p (if t then received_by (record b { expected = number_after s }) s page b.state else b).state
+    → GoesOnFrom p (if t then received_in_state (record b { expected = number_after s }) s page b.state else b).state
 received_goes b p s page true h = received_by_goes (record b { expected = number_after s }) p s page b.state refl h
 received_goes b p s page false h = h
 
 pub sends_in_order : SendsInOrder
 sends_in_order c d p s images part state h =
     let Goes : Connection → Type 0 = λ x. GoesOnFrom p x.state in
-    elim (decide (has_flag s 4)) [
+    elim (decide (carries_flag s 4)) [
       | inl is ↦ subst Goes (sym (h.reset is).1) (reset_by c p s state (s.seq == c.expected))
-      | inr plain ↦ elim (decide (counts c s)) [
+      | inr plain ↦ elim (decide (counts_segment c s)) [
         | inr idle ↦ subst Goes (sym (h.dropped plain idle).1) (stays_there c p s state)
-        | inl active ↦ elim (decide (brings_more s)) [
+        | inl active ↦ elim (decide (brings_bytes s)) [
           | inr bare ↦ subst Goes (sym (h.acknowledges plain active bare).1) (after_ack_goes c p s state)
           | inl more ↦
               let r = (h.receives plain active more).received in

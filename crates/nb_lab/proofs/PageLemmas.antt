@@ -6,10 +6,10 @@ use Rattle.std.proofs.Math.Seq.{take-append-add, drop-append-add}
 use Rattle.nb_lab.specs.declared.page.Page.{Page}
 use Rattle.nb_lab.specs.declared.page.Page.TheVariants.{Found, NotFound, BadRequest}
 use Rattle.nb_lab.specs.Images.{image_len, image_piece}
-use Rattle.nb_lab.specs.Pages.{body_text, body_len, body_piece, head_text, response_text, response_piece}
+use Rattle.nb_lab.specs.Pages.{body_text, page_body_len, body_piece, head_text, response_text, response_piece}
 use Rattle.nb_lab.proofs.ImageLemmas.{length-image_piece, image_cut}
 
-pub length-body_text : (page : Page) → length (body_text page) ≡ body_len page
+pub length-body_text : (page : Page) → length (body_text page) ≡ page_body_len page
 length-body_text (Found image) = length-image_piece image.0 0 (image_len image.0)
 length-body_text NotFound = refl
 length-body_text BadRequest = refl
@@ -49,7 +49,7 @@ same_cut xs n m from start as_long same = ext_get_or 0 (take n (drop from xs)) (
     ∙ sym (get_or-take m (drop start xs) i 0 (omega (arith, length-take m (drop start xs), as_long, within))))
 
 -- what is cut out of a body, up to its end at most
-body_cut : (page : Page) (first count : ℕ) → first + count ≤ body_len page → take count (drop first (body_text page)) ≡ body_piece page first count
+body_cut : (page : Page) (first count : ℕ) → first + count ≤ page_body_len page → take count (drop first (body_text page)) ≡ body_piece page first count
 body_cut (Found image) first count within =
     let same : min count (image_len image.0 - first) ≡ count = omega arith in
     image_cut image.0 count first ∙ ap (image_piece image.0 first) same
@@ -62,7 +62,7 @@ body_cut BadRequest first count within =
 
 -- a piece of a response is what is cut out of its head, and then out of its body
 pub two_parts : (page : Page) (from len start stop first last : ℕ) → start ≡ min from (length (head_text page)) → stop ≡ min (from + len) (length (head_text page))
-    → last ≡ min ((from + len) - length (head_text page)) (body_len page) → first ≡ min (from - length (head_text page)) last
+    → last ≡ min ((from + len) - length (head_text page)) (page_body_len page) → first ≡ min (from - length (head_text page)) last
     → response_piece page from len ≡ slice_range (head_text page) start stop ++ body_piece page first (last - first)
 unfolding response_text response_piece
 two_parts page from len start stop first last start_is stop_is last_is first_is =

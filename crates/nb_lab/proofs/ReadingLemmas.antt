@@ -10,7 +10,7 @@ use Rattle.nb_terms.specs.declared.cause.Cause.{Cause}
 use Rattle.nb_defs.specs.Records.{Out, step, sent, text, command, script, opened, tried, advanced, ended, graph, part, done, out_text, record_text, cause_text, event_text, word_text, flag_of}
 use Rattle.nb_defs.specs.Records as defs
 use Rattle.nb_lab.specs.declared.image.Image.{Image}
-use Rattle.nb_lab.specs.Shows.{open_for, result, seen, numbered, image_named, image_at_url, image_of}
+use Rattle.nb_lab.specs.Shows.{open_for, result, seen, image_numbered, image_named, image_at_url, image_of_open}
 use Rattle.nb_lab.specs.Readings.{seen_by, image_by, begins_with_zero, BeginsWithRecord}
 use Rattle.nb_wire.proofs.BytesLaws.{IsBytes, IsBytes-front, Splits, splits_of}
 
@@ -29,7 +29,7 @@ by_long : (short : Bool) (image : Option Image) → short ≡ false → (if shor
 by_long true image h = absurd (true≢false h)
 by_long false image h = refl
 
-opened_body : (number kind server port own : ℕ) (target : List ℕ) → image_by (to_be_bytes w16 number ++ (kind ∷ []) ++ to_be_bytes w32 server ++ to_be_bytes w16 port ++ to_be_bytes w16 own ++ to_be_bytes w16 (length target) ++ target) ≡ image_of kind target
+opened_body : (number kind server port own : ℕ) (target : List ℕ) → image_by (to_be_bytes w16 number ++ (kind ∷ []) ++ to_be_bytes w32 server ++ to_be_bytes w16 port ++ to_be_bytes w16 own ++ to_be_bytes w16 (length target) ++ target) ≡ image_of_open kind target
 opened_body number kind server port own target = by_long _ _ (le-ltb _ _ (omega arith))
 
 pub each_is_read : (o : Out) → IsRead o
@@ -172,13 +172,13 @@ pub take_rest : (n : ℕ) (xs : List ℕ) → take (length xs - n) (drop n xs) �
 take_rest n xs = take_all (length xs - n) (drop n xs) (omega (arith, length-drop n xs))
 
 -- an image by its number, as it is read
-pub named_is : (r : Option Image) (o : Option ℕ) → option_map (λ (image : Image). image.0) r ≡ o → r ≡ numbered o
-named_is None o h = ap numbered h
-named_is (Some i) o h = ap numbered h
+pub named_is : (r : Option Image) (o : Option ℕ) → option_map (λ (image : Image). image.0) r ≡ o → r ≡ image_numbered o
+named_is None o h = ap image_numbered h
+named_is (Some i) o h = ap image_numbered h
 
 pub url_at_root : (url : List ℕ) → starts_with nat_eq url (codes "http://10.0.0.1/") ≡ true → image_named (drop 16 url) ≡ image_at_url url
 url_at_root url h = sym (ap (λ (b : Bool). if b then image_named (drop 16 url) else None) h)
 
 -- an open's body that has a target
-pub long_body : (body : List ℕ) → 13 ≤ length body → image_of (slice_index body 2) (drop 13 body) ≡ image_by body
+pub long_body : (body : List ℕ) → 13 ≤ length body → image_of_open (slice_index body 2) (drop 13 body) ≡ image_by body
 long_body body long = sym (by_long _ _ (le-ltb _ _ long))

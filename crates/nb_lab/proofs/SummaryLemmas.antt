@@ -6,8 +6,8 @@ use Rattle.nb_defs.specs.Records.{In, Out}
 use Rattle.nb_lab.specs.declared.image.Image.{Image}
 use Rattle.nb_lab.specs.Images.{image_len}
 use Rattle.nb_lab.specs.Shows.{Seen, frame, try, open_for, result, other, seen}
-use Rattle.nb_lab.specs.Summaries.{is_frame, is_try, ends_well, image_if, fetched, counted, line, size_of_image, summary}
-use Rattle.nb_lab.specs.Tallies.{Tally, no_tally, with_image, with_seen, asked_after, Counts, tally_text}
+use Rattle.nb_lab.specs.Summaries.{is_frame, is_try, ends_well, image_if, fetched_images, capped_count, summary_line, size_of_image, summary}
+use Rattle.nb_lab.specs.Tallies.{Tally, no_tally, with_fetched_image, with_seen, asked_after, Counts, tally_text}
 
 count_by-append : {X : Type 0} (p : X → Bool) (xs ys : List X) → count_by p (xs ++ ys) ≡ count_by p xs + count_by p ys
 count_by-append p xs ys = sum_by-append (λ x. if p x then 1 else 0) xs ys
@@ -18,7 +18,7 @@ no_image false = refl
 
 -- what is fetched with an open before
 fetched_from : Option Image → List Seen → List Image
-fetched_from before shown = image_if (ends_well shown) before ++ fetched shown
+fetched_from before shown = image_if (ends_well shown) before ++ fetched_images shown
 
 -- what one record more adds
 added : Seen → Option Image → List Image
@@ -35,9 +35,9 @@ asked_by (open_for image) asked = image
 asked_by (result ok) asked = None
 asked_by other asked = asked
 
-from_none : (shown : List Seen) → fetched_from None shown ≡ fetched shown
+from_none : (shown : List Seen) → fetched_from None shown ≡ fetched_images shown
 unfolding fetched_from
-from_none shown = ap (λ (x : List Image). x ++ fetched shown) (no_image (ends_well shown))
+from_none shown = ap (λ (x : List Image). x ++ fetched_images shown) (no_image (ends_well shown))
 
 fetched_one : (before : Option Image) (s : Seen) → fetched_from before (s ∷ []) ≡ added s before
 unfolding fetched_from added
@@ -54,9 +54,9 @@ fetched_more before (frame bytes ∷ shown) s = fetched_more before shown s
 fetched_more before (try ∷ shown) s = fetched_more before shown s
 fetched_more before (open_for image ∷ shown) s = fetched_more image shown s
 fetched_more before (result ok ∷ shown) s =
-    let rest : fetched (shown ++ s ∷ []) ≡ fetched shown ++ added s (asked_after None shown) =
+    let rest : fetched_images (shown ++ s ∷ []) ≡ fetched_images shown ++ added s (asked_after None shown) =
     sym (from_none (shown ++ s ∷ [])) ∙ fetched_more None shown s ∙ ap (λ (x : List Image). x ++ added s (asked_after None shown)) (from_none shown) in
-    ap (λ (x : List Image). image_if ok before ++ x) rest ∙ sym (append_assoc (image_if ok before) (fetched shown) (added s (asked_after None shown)))
+    ap (λ (x : List Image). image_if ok before ++ x) rest ∙ sym (append_assoc (image_if ok before) (fetched_images shown) (added s (asked_after None shown)))
 fetched_more before (other ∷ shown) s = fetched_more before shown s
 
 asked_more : (before : Option Image) (shown : List Seen) (s : Seen) → asked_after before (shown ++ s ∷ []) ≡ asked_by s (asked_after before shown)
@@ -75,7 +75,7 @@ asked_more before (other ∷ shown) s = asked_more before shown s
 pub nothing_counts : (images : ℕ) → Counts (no_tally images) [] []
 nothing_counts images = record { bytes = refl; records = refl; frames = refl; tries = refl; asked = refl }
 
-pub counts_input : (t new : Tally) (ins : List In) (outs : List Out) (r : In) → Counts t ins outs → new ≡ record t { records = counted (t.records + 1) } → Counts new (ins ++ r ∷ []) outs
+pub counts_input : (t new : Tally) (ins : List In) (outs : List Out) (r : In) → Counts t ins outs → new ≡ record t { records = capped_count (t.records + 1) } → Counts new (ins ++ r ∷ []) outs
 counts_input t new ins outs r h is =
     let P : Tally → Type 0 = λ x. Counts x (ins ++ r ∷ []) outs in
     subst P (sym is) (record {
@@ -97,21 +97,21 @@ module _ (t : Tally) (ins : List In) (outs : List Out) (o : Out) (h : Counts t i
   tries_more : (s : Seen) → s ≡ seen o → count_by is_try (map seen (outs ++ o ∷ [])) ≡ count_by is_try (map seen outs) + count_by is_try (s ∷ [])
   tries_more s is = ap (count_by is_try) (more s is) ∙ count_by-append is_try (map seen outs) (s ∷ [])
 
-  bytes_more : (s : Seen) → s ≡ seen o → sum_by size_of_image (fetched (map seen (outs ++ o ∷ []))) ≡ sum_by size_of_image (fetched (map seen outs)) + sum_by size_of_image (added s (asked_after None (map seen outs)))
+  bytes_more : (s : Seen) → s ≡ seen o → sum_by size_of_image (fetched_images (map seen (outs ++ o ∷ []))) ≡ sum_by size_of_image (fetched_images (map seen outs)) + sum_by size_of_image (added s (asked_after None (map seen outs)))
   bytes_more s is =
       let shown = map seen outs in
-      let all : fetched (map seen (outs ++ o ∷ [])) ≡ fetched shown ++ added s (asked_after None shown) =
-      ap fetched (more s is) ∙ sym (from_none (shown ++ s ∷ [])) ∙ fetched_more None shown s ∙ ap (λ (x : List Image). x ++ added s (asked_after None shown)) (from_none shown) in
-      ap (sum_by size_of_image) all ∙ sum_by-append size_of_image (fetched shown) (added s (asked_after None shown))
+      let all : fetched_images (map seen (outs ++ o ∷ [])) ≡ fetched_images shown ++ added s (asked_after None shown) =
+      ap fetched_images (more s is) ∙ sym (from_none (shown ++ s ∷ [])) ∙ fetched_more None shown s ∙ ap (λ (x : List Image). x ++ added s (asked_after None shown)) (from_none shown) in
+      ap (sum_by size_of_image) all ∙ sum_by-append size_of_image (fetched_images shown) (added s (asked_after None shown))
 
   asked_is : (s : Seen) → s ≡ seen o → asked_after None (map seen (outs ++ o ∷ [])) ≡ asked_by s t.asked
   asked_is s is = ap (asked_after None) (more s is) ∙ asked_more None (map seen outs) s ∙ ap (asked_by s) (sym h.asked)
 
   -- a record that adds no bytes
-  same_bytes : (s : Seen) → s ≡ seen o → sum_by size_of_image (added s (asked_after None (map seen outs))) ≡ 0 → t.bytes ≡ counted (sum_by size_of_image (fetched (map seen (outs ++ o ∷ []))))
+  same_bytes : (s : Seen) → s ≡ seen o → sum_by size_of_image (added s (asked_after None (map seen outs))) ≡ 0 → t.bytes ≡ capped_count (sum_by size_of_image (fetched_images (map seen (outs ++ o ∷ []))))
   same_bytes s is none = omega (arith, h.bytes, bytes_more s is, none)
 
-  with_result : (ok : Bool) (image : Option Image) → t.asked ≡ image → result ok ≡ seen o → Counts (with_image t ok image) ins (outs ++ o ∷ [])
+  with_result : (ok : Bool) (image : Option Image) → t.asked ≡ image → result ok ≡ seen o → Counts (with_fetched_image t ok image) ins (outs ++ o ∷ [])
   unfolding added asked_by
   with_result true (Some image) asked is =
       let adds : sum_by size_of_image (image_if true (asked_after None (map seen outs))) ≡ image_len image.0 =
@@ -178,12 +178,12 @@ pub text_is : (t : Tally) (ins : List In) (outs : List Out) (status : ℕ) → C
 unfolding summary
 text_is t ins outs status h =
     let text : ℕ → ℕ → ℕ → ℕ → List ℕ = λ bytes records frames tries.
-    line (codes "images ") t.images ++ line (codes "bytes ") bytes ++ line (codes "records ") records ++ line (codes "frames ") frames
-    ++ line (codes "tries ") tries ++ line (codes "status ") status in
+    summary_line (codes "images ") t.images ++ summary_line (codes "bytes ") bytes ++ summary_line (codes "records ") records ++ summary_line (codes "frames ") frames
+    ++ summary_line (codes "tries ") tries ++ summary_line (codes "status ") status in
     ap (λ k. text k t.records t.frames t.tries) h.bytes
-    ∙ ap (λ k. text (counted (sum_by size_of_image (fetched (map seen outs)))) k t.frames t.tries) h.records
-    ∙ ap (λ k. text (counted (sum_by size_of_image (fetched (map seen outs)))) (counted (length ins)) k t.tries) h.frames
-    ∙ ap (λ k. text (counted (sum_by size_of_image (fetched (map seen outs)))) (counted (length ins)) (counted (count_by is_frame (map seen outs))) k) h.tries
+    ∙ ap (λ k. text (capped_count (sum_by size_of_image (fetched_images (map seen outs)))) k t.frames t.tries) h.records
+    ∙ ap (λ k. text (capped_count (sum_by size_of_image (fetched_images (map seen outs)))) (capped_count (length ins)) k t.tries) h.frames
+    ∙ ap (λ k. text (capped_count (sum_by size_of_image (fetched_images (map seen outs)))) (capped_count (length ins)) (capped_count (count_by is_frame (map seen outs))) k) h.tries
 
 pub summed_up : {E : Type 0} (r : Result (List ℕ) E) (t : Tally) (status : ℕ) → IfOk r (λ text. text ≡ tally_text t status)
     → IfOk r (λ text. (ins : List In) (outs : List Out) → Counts t ins outs → text ≡ summary t.images ins outs status)

@@ -7,9 +7,9 @@ use Rattle.nb_lab.specs.declared.answer.Answer.{Answer}
 use Rattle.nb_lab.specs.declared.delivery.Held.{Held}
 use Rattle.nb_lab.specs.declared.fate.Fate.{Fate}
 use Rattle.nb_lab.specs.declared.fate.Fate.TheVariants.{Lost, OnTime, Late}
-use Rattle.nb_lab.specs.Fates.{fate, times, copies, comes_twice, late_after, arrivals}
+use Rattle.nb_lab.specs.Fates.{fate, times, copies, comes_twice, late_after, frames_arrived}
 use Rattle.nb_lab.proofs.FateLemmas.{late_by, coming_by, late_step, arrivals_step}
-use Rattle.nb_lab.specs.Transits.{Transit, held_copies, sent_by_fate, number_after, numbered, those, held_of, LabDelivered, ComeByNumbers, GoInOrder, NothingHasCome}
+use Rattle.nb_lab.specs.Transits.{Transit, held_copies, sent_by_fate, next_frame_number, frame_numbered, those, held_of, LabDelivered, ComeByNumbers, GoInOrder, NothingHasCome}
 
 -- numbers from 1 up to a greatest
 Within : ℕ → List ℕ → Type 0
@@ -59,12 +59,12 @@ unfolding late_after IsWithin
 late_within zero = tt
 late_within (suc n) = subst (IsWithin (suc n)) (sym (late_step n)) (late_within_by (fate (suc n)) n (late_after n) (late_within n))
 
-arrivals_within : (n : ℕ) → Within n (arrivals n)
-unfolding arrivals Within
+arrivals_within : (n : ℕ) → Within n (frames_arrived n)
+unfolding frames_arrived Within
 arrivals_within zero = tt
 arrivals_within (suc n) =
     subst (Within (suc n)) (sym (arrivals_step n))
-    (within_append (suc n) (arrivals n) (coming_by (fate (suc n)) (suc n) (late_after n)) (within_more n (arrivals n) (arrivals_within n)) (within_coming (fate (suc n)) n (late_after n) (late_within n)))
+    (within_append (suc n) (frames_arrived n) (coming_by (fate (suc n)) (suc n) (late_after n)) (within_more n (frames_arrived n) (arrivals_within n)) (within_coming (fate (suc n)) n (late_after n) (late_within n)))
 
 -- the frames before stay as they are when one is sent
 get_before : (answers : List Answer) (a : Answer) (i : ℕ) → i < length answers → slice_get (answers ++ a ∷ []) i ≡ slice_get answers i
@@ -76,10 +76,10 @@ get_last : (answers : List Answer) (a : Answer) → slice_get (answers ++ a ∷ 
 get_last [] a = refl
 get_last (x ∷ answers) a = get_last answers a
 
-numbered_before : (answers : List Answer) (a : Answer) (k : ℕ) → 1 ≤ k → k ≤ length answers → numbered (answers ++ a ∷ []) k ≡ numbered answers k
+numbered_before : (answers : List Answer) (a : Answer) (k : ℕ) → 1 ≤ k → k ≤ length answers → frame_numbered (answers ++ a ∷ []) k ≡ frame_numbered answers k
 numbered_before answers a k low high = get_before answers a (k - 1) (omega arith)
 
-numbered_last : (answers : List Answer) (a : Answer) → numbered (answers ++ a ∷ []) (suc (length answers)) ≡ Some a
+numbered_last : (answers : List Answer) (a : Answer) → frame_numbered (answers ++ a ∷ []) (suc (length answers)) ≡ Some a
 numbered_last answers a =
     let place : suc (length answers) - 1 ≡ length answers = omega arith in
     ap (slice_get (answers ++ a ∷ [])) place ∙ get_last answers a
@@ -89,7 +89,7 @@ unfolding Within
 those_before answers a [] h = refl
 those_before answers a (k ∷ ks) (low, high, rest) =
     ap (λ (o : Option Answer). option_to_list o ++ those (answers ++ a ∷ []) ks) (numbered_before answers a k low high)
-    ∙ ap (λ (x : List Answer). option_to_list (numbered answers k) ++ x) (those_before answers a ks rest)
+    ∙ ap (λ (x : List Answer). option_to_list (frame_numbered answers k) ++ x) (those_before answers a ks rest)
 
 held_before : (answers : List Answer) (a : Answer) (o : Option ℕ) → IsWithin (length answers) o → option_and_then (held_of (answers ++ a ∷ [])) o ≡ option_and_then (held_of answers) o
 unfolding IsWithin
@@ -104,9 +104,9 @@ listed true (Some a) = refl
 listed false None = refl
 listed false (Some a) = refl
 
-times_those : (answers : List Answer) (twice : Bool) (k : ℕ) → those answers (times twice k) ≡ option_map_or (times twice) (numbered answers k) []
-times_those answers true k = listed true (numbered answers k)
-times_those answers false k = listed false (numbered answers k)
+times_those : (answers : List Answer) (twice : Bool) (k : ℕ) → those answers (times twice k) ≡ option_map_or (times twice) (frame_numbered answers k) []
+times_those answers true k = listed true (frame_numbered answers k)
+times_those answers false k = listed false (frame_numbered answers k)
 
 held_listed : (twice : Bool) (o : Option Answer) → option_map_or (times twice) o [] ≡ option_map_or held_copies (option_map (λ a. record { answer = a; twice = twice }) o) []
 held_listed twice None = refl
@@ -114,7 +114,7 @@ held_listed twice (Some a) = refl
 
 late_those : (answers : List Answer) (o : Option ℕ) → those answers (option_map_or copies o []) ≡ option_map_or held_copies (option_and_then (held_of answers) o) []
 late_those answers None = refl
-late_those answers (Some k) = times_those answers (comes_twice k) k ∙ held_listed (comes_twice k) (numbered answers k)
+late_those answers (Some k) = times_those answers (comes_twice k) k ∙ held_listed (comes_twice k) (frame_numbered answers k)
 
 -- a fate says whether the frame comes twice
 on_time_by : (s t u b : Bool) → OnTime b ≡ (if s then Lost else (if t then Late u else OnTime u)) → b ≡ u
@@ -152,16 +152,16 @@ module _ (t : Transit) (answers gone : List Answer) (a : Answer) (h : LabDeliver
   late_is : (f : Fate) → f ≡ fate (suc (length answers)) → late_after (length (answers ++ a ∷ [])) ≡ late_by f (suc (length answers)) (late_after (length answers))
   late_is f is = ap late_after len ∙ late_step (length answers) ∙ ap (λ (g : Fate). late_by g (suc (length answers)) (late_after (length answers))) (sym is)
 
-  arrivals_are : (f : Fate) → f ≡ fate (suc (length answers)) → arrivals (length (answers ++ a ∷ [])) ≡ arrivals (length answers) ++ coming_by f (suc (length answers)) (late_after (length answers))
-  arrivals_are f is = ap arrivals len ∙ arrivals_step (length answers) ∙ ap (λ (g : Fate). arrivals (length answers) ++ coming_by g (suc (length answers)) (late_after (length answers))) (sym is)
+  arrivals_are : (f : Fate) → f ≡ fate (suc (length answers)) → frames_arrived (length (answers ++ a ∷ [])) ≡ frames_arrived (length answers) ++ coming_by f (suc (length answers)) (late_after (length answers))
+  arrivals_are f is = ap frames_arrived len ∙ arrivals_step (length answers) ∙ ap (λ (g : Fate). frames_arrived (length answers) ++ coming_by g (suc (length answers)) (late_after (length answers))) (sym is)
 
-  whole : (f : Fate) → f ≡ fate (suc (length answers)) → those (answers ++ a ∷ []) (arrivals (length (answers ++ a ∷ []))) ≡ (gone ++ t.waiting) ++ those (answers ++ a ∷ []) (coming_by f (suc (length answers)) (late_after (length answers)))
+  whole : (f : Fate) → f ≡ fate (suc (length answers)) → those (answers ++ a ∷ []) (frames_arrived (length (answers ++ a ∷ []))) ≡ (gone ++ t.waiting) ++ those (answers ++ a ∷ []) (coming_by f (suc (length answers)) (late_after (length answers)))
   whole f is =
       let coming = coming_by f (suc (length answers)) (late_after (length answers)) in
       let new = answers ++ a ∷ [] in
       ap (those new) (arrivals_are f is)
-      ∙ flat_map-append (λ n. option_to_list (numbered new n)) (arrivals (length answers)) coming
-      ∙ ap (λ (x : List Answer). x ++ those new coming) (those_before answers a (arrivals (length answers)) (arrivals_within (length answers)) ∙ sym h.waiting)
+      ∙ flat_map-append (λ n. option_to_list (frame_numbered new n)) (frames_arrived (length answers)) coming
+      ∙ ap (λ (x : List Answer). x ++ those new coming) (those_before answers a (frames_arrived (length answers)) (arrivals_within (length answers)) ∙ sym h.waiting)
 
   late_part : those (answers ++ a ∷ []) (option_map_or copies (late_after (length answers)) []) ≡ option_map_or held_copies t.late []
   late_part =
@@ -191,7 +191,7 @@ module _ (t : Transit) (answers gone : List Answer) (a : Answer) (h : LabDeliver
         let late = option_map_or copies (late_after (length answers)) [] in
         let new = answers ++ a ∷ [] in
         let own = own_part twice (on_time_twice n twice is) in
-        let parts = flat_map-append (λ k. option_to_list (numbered new k)) (copies n) late
+        let parts = flat_map-append (λ k. option_to_list (frame_numbered new k)) (copies n) late
         ∙ ap (λ (x : List Answer). x ++ those new late) own ∙ ap (λ (x : List Answer). times twice a ++ x) late_part in
         sym (append_assoc gone t.waiting (times twice a ++ option_map_or held_copies t.late []))
         ∙ ap (λ (x : List Answer). (gone ++ t.waiting) ++ x) (sym parts) ∙ sym (whole (OnTime twice) is);
@@ -212,8 +212,8 @@ module _ (t : Transit) (answers gone : List Answer) (a : Answer) (h : LabDeliver
 pub come_by_numbers : ComeByNumbers
 come_by_numbers t answers gone answer h =
     let n = suc (length answers) in
-    let number : number_after t ≡ n % 1001 = omega (arith, h.number) in
-    by_fate t answers gone answer h (fate (number_after t)) (number_after t) (ap fate number ∙ fate_again n) number
+    let number : next_frame_number t ≡ n % 1001 = omega (arith, h.number) in
+    by_fate t answers gone answer h (fate (next_frame_number t)) (next_frame_number t) (ap fate number ∙ fate_again n) number
 
 pub go_in_order : GoInOrder
 go_in_order t answers gone rest answer first h = record {
@@ -223,5 +223,5 @@ go_in_order t answers gone rest answer first h = record {
 }
 
 pub nothing_has_come : NothingHasCome
-unfolding late_after arrivals
+unfolding late_after frames_arrived
 nothing_has_come = record { number = refl; late = refl; waiting = refl }

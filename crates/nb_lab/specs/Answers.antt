@@ -12,7 +12,7 @@ use Rattle.nb_lab.specs.declared.answer.Answer.{Answer}
 use Rattle.nb_lab.specs.declared.answer.Answer.TheVariants.{Interface, File, Stream}
 use Rattle.nb_lab.specs.Hosts.{server, server_mac}
 use Rattle.nb_lab.specs.Files.{file_message}
-use Rattle.nb_lab.specs.Streams.{segment_to}
+use Rattle.nb_lab.specs.Streams.{segment_to_peer}
 
 -- RFC 894: a frame of the servers' interface
 unfoldable pub server_frame : Mac → ℕ → List ℕ → List ℕ
@@ -28,4 +28,4 @@ answer_frame (Interface mac ip) =
     server_frame mac 2054 (arp_text (record { op = 2; sha = server_mac; spa = server; tha = mac; tpa = ip }))
 answer_frame (File peer sent) =
     packet_to peer 17 (sent_datagram server peer.ip (record { src_port = 50000; dst_port = peer.port; body = packet_text (file_message sent) }))
-answer_frame (Stream peer expected sent) = packet_to peer 6 (sent_segment server peer.ip (segment_to peer expected sent))
+answer_frame (Stream peer expected sent) = packet_to peer 6 (sent_segment server peer.ip (segment_to_peer peer expected sent))

@@ -13,7 +13,7 @@ use Rattle.nb_tftpmsg.specs.Views.{message}
 use Rattle.nb_lab.specs.declared.hosts.Peer.{Peer}
 use Rattle.nb_lab.specs.declared.received.Received.{Received}
 use Rattle.nb_lab.specs.declared.received.Received.TheVariants.{Question, Packet, Segment}
-use Rattle.nb_lab.specs.Hosts.{server, server_mac, everyone}
+use Rattle.nb_lab.specs.Hosts.{server, server_mac, broadcast_mac}
 
 -- a host asks for the servers' interface; a packet of TFTP comes to a port; a segment comes
 pub data FrameBrought : Type 0 where
@@ -24,7 +24,7 @@ pub data FrameBrought : Type 0 where
 -- the frame is for the servers' interface or for all
 pub record IsForServers (bytes : List ℕ) (f : Frame) : Type 0 where
   pub frame : IsFrame bytes f
-  pub addressed : (f.dst ≡ server_mac) ⊎ (f.dst ≡ everyone)
+  pub addressed : (f.dst ≡ server_mac) ⊎ (f.dst ≡ broadcast_mac)
 
 -- the frame has a request for the servers' interface (RFC 826)
 pub record IsQuestionIn (f : Frame) (arp : Arp) : Type 0 where

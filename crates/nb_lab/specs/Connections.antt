@@ -14,12 +14,12 @@ use Rattle.nb_lab.specs.Pages.{response_text}
 use Rattle.nb_lab.specs.Streams.{first_byte, sent_by}
 
 -- whether a segment has this flag
-abbrev pub has_flag : SegmentParts → ℕ → Bool
-has_flag s flag = nat_lt 0 (bit_and s.flags flag)
+abbrev pub carries_flag : SegmentParts → ℕ → Bool
+carries_flag s flag = nat_lt 0 (bit_and s.flags flag)
 
 -- the place that an acknowledgement is of, from the first byte of the response
-abbrev pub place_of : SegmentParts → ℕ
-place_of s = (s.ack + (2 ^ 32 - first_byte)) % 2 ^ 32
+abbrev pub place_of_ack : SegmentParts → ℕ
+place_of_ack s = (s.ack + (2 ^ 32 - first_byte)) % 2 ^ 32
 
 -- what waits for its acknowledgement
 abbrev pub waiting_part : State → Option StreamPart
@@ -48,13 +48,13 @@ abbrev pub sends : Connection → Piece → Connection
 sends c p = record c { state = Sending p; silence = no_silence }
 
 -- whether an acknowledgement of a place advances while this piece waits for it
-abbrev pub advances : Piece → ℕ → Bool
-advances p place = nat_lt p.from place && nat_le place (sent_by p)
+abbrev pub advances_piece : Piece → ℕ → Bool
+advances_piece p place = nat_lt p.from place && nat_le place (sent_by p)
 
 -- all bytes and the FIN are acknowledged, or the next piece begins at the first byte that isn't
 abbrev pub advanced : Connection → Piece → ℕ → ℕ → Connection
 advanced c p place window =
-    if advances p place
+    if advances_piece p place
     then (if nat_lt (length (response_text p.page)) place then record c { state = Sent place } else sends c (piece_from c p.page place window))
     else c
 
@@ -67,16 +67,16 @@ acknowledged_by c place window (Sent last) = c
 acknowledged_by c place window Closed = c
 
 abbrev pub after_ack : Connection → SegmentParts → Connection
-after_ack c s = acknowledged_by c (place_of s) s.window c.state
+after_ack c s = acknowledged_by c (place_of_ack s) s.window c.state
 
 -- whether an acknowledgement of a place advances, by the state
 abbrev pub advances_by : State → ℕ → Bool
 advances_by Opened place = false
 advances_by Reading place = false
-advances_by (Sending p) place = advances p place
+advances_by (Sending p) place = advances_piece p place
 advances_by (Sent last) place = false
 advances_by Closed place = false
 
 -- what is sent for it: the next piece, where it advances and bytes or the FIN are left
 abbrev pub next_part : Connection → SegmentParts → Option StreamPart
-next_part c s = if advances_by c.state (place_of s) then waiting_part (after_ack c s).state else None
+next_part c s = if advances_by c.state (place_of_ack s) then waiting_part (after_ack c s).state else None

@@ -42,8 +42,8 @@ come_with n =
     else ((if is_late n then [] else copies n) ++ option_map_or copies (if_late (last_before n)) [])
 
 -- the numbers of the frames that have come once so many were sent, in order
-unfoldable pub arrivals : ℕ → List ℕ
-arrivals n = flat_map come_with (range_with_len 1 n)
+unfoldable pub frames_arrived : ℕ → List ℕ
+frames_arrived n = flat_map come_with (range_with_len 1 n)
 
 -- the one that is late still
 unfoldable pub late_after : ℕ → Option ℕ

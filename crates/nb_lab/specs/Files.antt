@@ -16,14 +16,14 @@ use Rattle.nb_lab.specs.declared.transfer.Transfer.{Transfer}
 use Rattle.nb_lab.specs.Images.{image_len, image_block}
 
 -- 512 bytes without options; with them 1,000 are granted of the 1,432 that are asked for
-abbrev pub size_of : BlockSize → ℕ
-size_of Plain = 512
-size_of Granted = 1000
+abbrev pub size_of_block : BlockSize → ℕ
+size_of_block Plain = 512
+size_of_block Granted = 1000
 
 -- the packet that is sent: a block has the image's bytes at its place
 abbrev pub file_message : FilePart → Message
 file_message (part.Options image) = oack (Some 1000) (Some (image_len image.0))
-file_message (part.Block image n size) = block n (image_block image.0 (size_of size) n)
+file_message (part.Block image n size) = block n (image_block image.0 (size_of_block size) n)
 file_message part.NotFound = error 1 (codes "File not found")
 
 -- the number that acknowledges what was sent last
@@ -36,8 +36,8 @@ abbrev pub part_by : Image → BlockSize → Last → FilePart
 part_by image size last.Options = part.Options image
 part_by image size (last.Block n) = part.Block image n size
 
-abbrev pub last_part : Transfer → FilePart
-last_part t = part_by t.image t.size t.last
+abbrev pub last_file_part : Transfer → FilePart
+last_file_part t = part_by t.image t.size t.last
 
 -- the image ends in what was sent last: in a block that isn't full
 abbrev pub ends_in : ℕ → ℕ → Last → Bool
@@ -49,8 +49,8 @@ abbrev pub no_silence : Silence
 no_silence = record { ticks = 0 }
 
 -- a transfer of an image, by whether options are asked for
-abbrev pub begun : Peer → Image → Bool → Transfer
-begun peer image options = record {
+abbrev pub transfer_begun : Peer → Image → Bool → Transfer
+transfer_begun peer image options = record {
   peer = peer;
   image = image;
   size = if options then Granted else Plain;
@@ -62,7 +62,7 @@ begun peer image options = record {
 abbrev pub acknowledged : Transfer → ℕ → Acknowledged
 acknowledged t n =
     if n == number_of_last t.last
-    then (if ends_in (image_len t.image.0) (size_of t.size) t.last then Whole else Next (part.Block t.image (n + 1) t.size))
+    then (if ends_in (image_len t.image.0) (size_of_block t.size) t.last then Whole else Next (part.Block t.image (n + 1) t.size))
     else Other
 
 abbrev pub after_acknowledged : Transfer → ℕ → Acknowledged → Transfer

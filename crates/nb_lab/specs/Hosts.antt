@@ -10,5 +10,5 @@ server_mac = record { 0 = 82 ∷ 84 ∷ 0 ∷ 0 ∷ 0 ∷ 2 ∷ [] }
 abbrev pub server : Ip4
 server = record { 0 = 0x0a000001 }
 
-abbrev pub everyone : Mac
-everyone = record { 0 = 255 ∷ 255 ∷ 255 ∷ 255 ∷ 255 ∷ 255 ∷ [] }
+abbrev pub broadcast_mac : Mac
+broadcast_mac = record { 0 = 255 ∷ 255 ∷ 255 ∷ 255 ∷ 255 ∷ 255 ∷ [] }

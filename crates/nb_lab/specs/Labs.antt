@@ -27,8 +27,8 @@ pub record IsGiven (old : LabState) (bytes : List ℕ) (new : LabState) : Type 0
   pub frame : new.frame ≡ old.frame
 
 -- a TICK passes, and what waits for an acknowledgement may be sent again
-abbrev pub after_tick : LabState → LabState
-after_tick l = record l {
+abbrev pub lab_after_tick : LabState → LabState
+lab_after_tick l = record l {
   server = server_later l.server;
   transit = sent_if (sent_if l.transit (option_and_then file_again l.server.transfer)) (option_and_then stream_again l.server.connection);
 }
@@ -39,13 +39,13 @@ after_frame l answer rest = record l { transit = record l.transit { waiting = re
 
 -- once the next record has come: a FRAME where one waits, else a TICK
 abbrev pub after_next : LabState → List Answer → LabState
-after_next l [] = after_tick l
+after_next l [] = lab_after_tick l
 after_next l (answer ∷ rest) = after_frame l answer rest
 
 -- what has come, as a record
-abbrev pub coming : Coming → LabState → In
-coming Frame l = frame l.frame
-coming Tick l = tick 250
+abbrev pub coming_record : Coming → LabState → In
+coming_record Frame l = frame l.frame
+coming_record Tick l = tick 250
 
 -- that record
 abbrev pub next_record : List Answer → In

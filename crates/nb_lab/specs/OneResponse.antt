@@ -7,7 +7,7 @@ use Rattle.nb_lab.specs.declared.connection.State.{State}
 use Rattle.nb_lab.specs.declared.connection.State.TheVariants.{Opened, Reading, Sending, Sent, Closed}
 use Rattle.nb_lab.specs.declared.connection.Connection.{Connection}
 use Rattle.nb_lab.specs.Pages.{response_text}
-use Rattle.nb_lab.specs.Streams.{end_of}
+use Rattle.nb_lab.specs.Streams.{piece_end}
 use Rattle.nb_lab.specs.Receptions.{IsSegmentTaken}
 
 -- where a connection may stand that sent this piece: it waits still, or a later piece is sent, which begins within it or right
@@ -15,7 +15,7 @@ use Rattle.nb_lab.specs.Receptions.{IsSegmentTaken}
 abbrev pub GoesOnFrom : Piece → State → Type 0
 GoesOnFrom p Opened = ⊥
 GoesOnFrom p Reading = ⊥
-GoesOnFrom p (Sending q) = (q.page ≡ p.page) × ((q ≡ p) ⊎ (p.from < q.from) × (q.from ≤ end_of p))
+GoesOnFrom p (Sending q) = (q.page ≡ p.page) × ((q ≡ p) ⊎ (p.from < q.from) × (q.from ≤ piece_end p))
 GoesOnFrom p (Sent place) = place ≡ length (response_text p.page) + 1
 GoesOnFrom p Closed = ⊤
 

@@ -16,10 +16,10 @@ body_text (Found image) = image_bytes image.0
 body_text NotFound = []
 body_text BadRequest = []
 
-abbrev pub body_len : Page → ℕ
-body_len (Found image) = image_len image.0
-body_len NotFound = 0
-body_len BadRequest = 0
+abbrev pub page_body_len : Page → ℕ
+page_body_len (Found image) = image_len image.0
+page_body_len NotFound = 0
+page_body_len BadRequest = 0
 
 -- so many bytes of the body, from a place on
 abbrev pub body_piece : Page → ℕ → ℕ → List ℕ
@@ -30,7 +30,7 @@ body_piece BadRequest from count = []
 -- the status line and the fields, with the empty line after them
 unfoldable pub head_text : Page → List ℕ
 head_text page =
-    codes "HTTP/1.1 " ++ status_text page ++ codes "\r\nContent-Length: " ++ decimal (body_len page) ++ codes "\r\nConnection: close\r\n\r\n"
+    codes "HTTP/1.1 " ++ status_text page ++ codes "\r\nContent-Length: " ++ decimal (page_body_len page) ++ codes "\r\nConnection: close\r\n\r\n"
 
 -- a whole response
 unfoldable pub response_text : Page → List ℕ

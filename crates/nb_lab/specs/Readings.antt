@@ -2,14 +2,14 @@
 use Rattle.std.specs.Prelude.{◌≡◌, ℕ, ◌+◌, ◌<◌, ◌^◌, ◌==◌, Bool, false, nat_lt, List, [], ◌∷◌, ◌++◌, length, drop, slice_index, Option, None, if◌then◌else◌}
 use Rattle.nb_defs.specs.Records.{record_text}
 use Rattle.nb_lab.specs.declared.image.Image.{Image}
-use Rattle.nb_lab.specs.Shows.{Seen, frame, try, open_for, result, other, image_of}
+use Rattle.nb_lab.specs.Shows.{Seen, frame, try, open_for, result, other, image_of_open}
 
 abbrev pub begins_with_zero : List ℕ → Bool
 begins_with_zero [] = false
 begins_with_zero (byte ∷ bytes) = byte == 0
 
 abbrev pub image_by : List ℕ → Option Image
-image_by body = if nat_lt (length body) 13 then None else image_of (slice_index body 2) (drop 13 body)
+image_by body = if nat_lt (length body) 13 then None else image_of_open (slice_index body 2) (drop 13 body)
 
 abbrev pub seen_by : ℕ → List ℕ → Seen
 seen_by kind body =

@@ -17,7 +17,7 @@ use Rattle.nb_lab.specs.declared.connection.Connection.{Connection}
 use Rattle.nb_lab.specs.declared.answer.Answer.{Answer}
 use Rattle.nb_lab.specs.declared.answer.Answer.TheVariants.{Interface, File, Stream}
 use Rattle.nb_lab.specs.declared.server.Server.{Server}
-use Rattle.nb_lab.specs.Files.{last_part, begun, acknowledged, after_acknowledged}
+use Rattle.nb_lab.specs.Files.{last_file_part, transfer_begun, acknowledged, after_acknowledged}
 use Rattle.nb_lab.specs.Requests.{image_in}
 use Rattle.nb_lab.specs.Connections.{opened, waiting_part}
 use Rattle.nb_lab.specs.Receptions.{IsSegmentTaken}
@@ -38,7 +38,7 @@ file_step sent transfer = record { sent = sent; transfer = transfer }
 -- a request for an image begins a transfer in place of the last one
 abbrev pub requested : Option Transfer → Peer → Bool → Option Image → FileStep
 requested before from options None = file_step (Some NotFound) before
-requested before from options (Some image) = file_step (Some (last_part (begun from image options))) (Some (begun from image options))
+requested before from options (Some image) = file_step (Some (last_file_part (transfer_begun from image options))) (Some (transfer_begun from image options))
 
 abbrev pub by_acknowledged : Transfer → ℕ → Acknowledged → FileStep
 by_acknowledged t n (Next sent) = file_step (Some sent) (Some (after_acknowledged t n (Next sent)))
@@ -122,7 +122,7 @@ abbrev pub server_later : Server → Server
 server_later s = record s { transfer = option_map transfer_later s.transfer; connection = option_map connection_later s.connection }
 
 abbrev pub file_again : Transfer → Option Answer
-file_again t = if is_time t.silence then Some (File t.peer (last_part t)) else None
+file_again t = if is_time t.silence then Some (File t.peer (last_file_part t)) else None
 
 abbrev pub stream_again : Connection → Option Answer
 stream_again c = if is_time c.silence then option_map (Stream c.peer c.expected) (waiting_part c.state) else None

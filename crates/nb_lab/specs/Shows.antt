@@ -20,21 +20,21 @@ pub data Seen : Type 0 where
   result : (ok : Bool) → Seen
   other : Seen
 
-abbrev pub numbered : Option ℕ → Option Image
-numbered None = None
-numbered (Some i) = Some (record { 0 = i })
+abbrev pub image_numbered : Option ℕ → Option Image
+image_numbered None = None
+image_numbered (Some i) = Some (record { 0 = i })
 
 -- the image that a file's name is the number of
 abbrev pub image_named : List ℕ → Option Image
-image_named name = numbered (decimal_byte name)
+image_named name = image_numbered (decimal_byte name)
 
 -- and that of a URL of the servers
 abbrev pub image_at_url : List ℕ → Option Image
 image_at_url url = if starts_with nat_eq url (codes "http://10.0.0.1/") then image_named (drop 16 url) else None
 
 -- the image that an open is for: by TFTP its target is the path, by HTTP the URL
-abbrev pub image_of : ℕ → List ℕ → Option Image
-image_of kind target = if kind == 1 then image_named target else (if kind == 2 then image_at_url target else None)
+abbrev pub image_of_open : ℕ → List ℕ → Option Image
+image_of_open kind target = if kind == 1 then image_named target else (if kind == 2 then image_at_url target else None)
 
 -- what a record shows
 abbrev pub seen : Out → Seen
@@ -44,7 +44,7 @@ seen (text bytes) = other
 seen (command depth line place expanded words) = other
 seen (defs.result cause) = result (cause.code == 0)
 seen (script what depth cause) = other
-seen (opened number kind server port own target) = open_for (image_of kind target)
+seen (opened number kind server port own target) = open_for (image_of_open kind target)
 seen (defs.tried number count) = try
 seen (advanced number place) = other
 seen (ended number cause) = other

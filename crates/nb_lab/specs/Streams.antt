@@ -11,30 +11,30 @@ use Rattle.nb_lab.specs.Pages.{response_text, response_piece}
 abbrev pub first_byte : ℕ
 first_byte = 0xfffffe01
 
-abbrev pub number_at : ℕ → ℕ
-number_at place = (first_byte + place) % 2 ^ 32
+abbrev pub sequence_number_at : ℕ → ℕ
+sequence_number_at place = (first_byte + place) % 2 ^ 32
 
 -- how many bytes a piece has: no more than a segment may have, than the peer has room for, and than there are
 abbrev pub piece_len : Piece → ℕ
 piece_len p = min (min (length (response_text p.page) - p.from) 1000) p.room
 
 -- the place after it
-abbrev pub end_of : Piece → ℕ
-end_of p = p.from + piece_len p
+abbrev pub piece_end : Piece → ℕ
+piece_end p = p.from + piece_len p
 
 -- a piece ends its response
 abbrev pub is_last : Piece → Bool
-is_last p = end_of p == length (response_text p.page)
+is_last p = piece_end p == length (response_text p.page)
 
 -- the place after a piece, and after the FIN that goes with the last one
 abbrev pub sent_by : Piece → ℕ
-sent_by p = if is_last p then end_of p + 1 else end_of p
+sent_by p = if is_last p then piece_end p + 1 else piece_end p
 
 -- the sequence number of what is sent; a SYN has the one before the first byte
-abbrev pub part_number : StreamPart → ℕ
-part_number Opening = 0xfffffe00
-part_number (Bytes p) = number_at p.from
-part_number (Acknowledgement place) = number_at place
+abbrev pub part_sequence_number : StreamPart → ℕ
+part_sequence_number Opening = 0xfffffe00
+part_sequence_number (Bytes p) = sequence_number_at p.from
+part_sequence_number (Acknowledgement place) = sequence_number_at place
 
 -- SYN and ACK; PSH and ACK, with FIN where the response ends; ACK
 abbrev pub part_flags : StreamPart → ℕ
@@ -54,11 +54,11 @@ part_body (Bytes p) = response_piece p.page p.from (piece_len p)
 part_body (Acknowledgement place) = []
 
 -- the segment to a peer of whom this number is expected next
-abbrev pub segment_to : Peer → ℕ → StreamPart → SegmentParts
-segment_to peer expected sent = record {
+abbrev pub segment_to_peer : Peer → ℕ → StreamPart → SegmentParts
+segment_to_peer peer expected sent = record {
   src_port = 80;
   dst_port = peer.port;
-  seq = part_number sent;
+  seq = part_sequence_number sent;
   ack = expected;
   flags = part_flags sent;
   window = 65535;

@@ -33,20 +33,20 @@ abbrev pub image_if : Bool → Option Image → List Image
 image_if ok image = if ok then option_to_list image else []
 
 -- the images of the fetches that end in Ok: those for which an open begins that is the last before such a result
-abbrev pub fetched : List Seen → List Image
-fetched [] = []
-fetched (frame bytes ∷ after) = fetched after
-fetched (try ∷ after) = fetched after
-fetched (open_for image ∷ after) = image_if (ends_well after) image ++ fetched after
-fetched (result ok ∷ after) = fetched after
-fetched (other ∷ after) = fetched after
+abbrev pub fetched_images : List Seen → List Image
+fetched_images [] = []
+fetched_images (frame bytes ∷ after) = fetched_images after
+fetched_images (try ∷ after) = fetched_images after
+fetched_images (open_for image ∷ after) = image_if (ends_well after) image ++ fetched_images after
+fetched_images (result ok ∷ after) = fetched_images after
+fetched_images (other ∷ after) = fetched_images after
 
 -- a count of 64 bits stands still at its end
-abbrev pub counted : ℕ → ℕ
-counted n = min n (2 ^ 64 - 1)
+abbrev pub capped_count : ℕ → ℕ
+capped_count n = min n (2 ^ 64 - 1)
 
-abbrev pub line : List ℕ → ℕ → List ℕ
-line name number = name ++ decimal number ++ codes "\n"
+abbrev pub summary_line : List ℕ → ℕ → List ℕ
+summary_line name number = name ++ decimal number ++ codes "\n"
 
 abbrev pub size_of_image : Image → ℕ
 size_of_image image = image_len image.0
@@ -54,9 +54,9 @@ size_of_image image = image_len image.0
 -- the six lines
 unfoldable pub summary : ℕ → List In → List Out → ℕ → List ℕ
 summary images ins outs status =
-    line (codes "images ") images
-    ++ line (codes "bytes ") (counted (sum_by size_of_image (fetched (map seen outs))))
-    ++ line (codes "records ") (counted (length ins))
-    ++ line (codes "frames ") (counted (count_by is_frame (map seen outs)))
-    ++ line (codes "tries ") (counted (count_by is_try (map seen outs)))
-    ++ line (codes "status ") status
+    summary_line (codes "images ") images
+    ++ summary_line (codes "bytes ") (capped_count (sum_by size_of_image (fetched_images (map seen outs))))
+    ++ summary_line (codes "records ") (capped_count (length ins))
+    ++ summary_line (codes "frames ") (capped_count (count_by is_frame (map seen outs)))
+    ++ summary_line (codes "tries ") (capped_count (count_by is_try (map seen outs)))
+    ++ summary_line (codes "status ") status

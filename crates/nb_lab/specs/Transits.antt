@@ -6,7 +6,7 @@ use Rattle.nb_lab.specs.declared.answer.Answer.{Answer}
 use Rattle.nb_lab.specs.declared.delivery.Held.{Held}
 use Rattle.nb_lab.specs.declared.fate.Fate.{Fate}
 use Rattle.nb_lab.specs.declared.fate.Fate.TheVariants.{Lost, OnTime, Late}
-use Rattle.nb_lab.specs.Fates.{fate, times, comes_twice, late_after, arrivals}
+use Rattle.nb_lab.specs.Fates.{fate, times, comes_twice, late_after, frames_arrived}
 
 -- the number of the frame that was sent last, modulo 1001, which is 7 times 11 times 13; the frame that is late; and those
 -- that wait for the client
@@ -33,12 +33,12 @@ sent_by_fate (Late twice) number answer t = record {
   waiting = t.waiting ++ option_map_or held_copies t.late [];
 }
 
-abbrev pub number_after : Transit → ℕ
-number_after t = (t.number + 1) % 1001
+abbrev pub next_frame_number : Transit → ℕ
+next_frame_number t = (t.number + 1) % 1001
 
 -- once a frame is sent
 abbrev pub sent : Transit → Answer → Transit
-sent t answer = sent_by_fate (fate (number_after t)) (number_after t) answer t
+sent t answer = sent_by_fate (fate (next_frame_number t)) (next_frame_number t) answer t
 
 -- once one is sent, or none
 abbrev pub sent_if : Transit → Option Answer → Transit
@@ -46,21 +46,21 @@ sent_if t None = t
 sent_if t (Some answer) = sent t answer
 
 -- of these frames, counted from 1, the one of a number, and those of numbers
-abbrev pub numbered : List Answer → ℕ → Option Answer
-numbered answers n = slice_get answers (n - 1)
+abbrev pub frame_numbered : List Answer → ℕ → Option Answer
+frame_numbered answers n = slice_get answers (n - 1)
 
 abbrev pub those : List Answer → List ℕ → List Answer
-those answers numbers = flat_map (λ n. option_to_list (numbered answers n)) numbers
+those answers numbers = flat_map (λ n. option_to_list (frame_numbered answers n)) numbers
 
 abbrev pub held_of : List Answer → ℕ → Option Held
-held_of answers n = option_map (λ a. record { answer = a; twice = comes_twice n }) (numbered answers n)
+held_of answers n = option_map (λ a. record { answer = a; twice = comes_twice n }) (frame_numbered answers n)
 
 -- The frames that were sent are these in this order, and those have gone to the client: which come, and in which order, is a
 -- function of their numbers.
 pub record LabDelivered (t : Transit) (answers gone : List Answer) : Type 0 where
   pub number : t.number ≡ length answers % 1001
   pub late : t.late ≡ option_and_then (held_of answers) (late_after (length answers))
-  pub waiting : gone ++ t.waiting ≡ those answers (arrivals (length answers))
+  pub waiting : gone ++ t.waiting ≡ those answers (frames_arrived (length answers))
 
 -- one frame more is sent
 abbrev pub ComeByNumbers : Type 0

@@ -6,8 +6,8 @@ ghost use Rattle.nb_tftpmsg.specs.Packets.{packet_text};
 ghost use Rattle.nb_lab.specs.declared.answer.Answer.TheVariants.{Interface, File, Stream};
 ghost use Rattle.nb_lab.specs.declared.transfer.FilePart.TheVariants as part;
 ghost use Rattle.nb_lab.specs.Images.{image_block};
-ghost use Rattle.nb_lab.specs.Files.{size_of, file_message};
-ghost use Rattle.nb_lab.specs.Streams.{part_number, part_flags, part_mss, part_body};
+ghost use Rattle.nb_lab.specs.Files.{size_of_block, file_message};
+ghost use Rattle.nb_lab.specs.Streams.{part_sequence_number, part_flags, part_mss, part_body};
 ghost use Rattle.nb_lab.specs.Answers.{answer_frame, packet_to};
 
 use crate::connection::{FIRST_BYTE, StreamPart};
@@ -158,8 +158,8 @@ fn put_block(image: Image, n: u16, size: BlockSize, out: &mut Out<'_>)
 
 /// Fills the first bytes of a room with a block, and returns how many it has.
 fn fill_block(image: Image, n: u16, size: BlockSize, room: &mut [u8; 1000]) -> usize
-    ensures within { result ≤ size_of size }
-    ensures block { take result room.new ≡ image_block image.0 (size_of size) n }
+    ensures within { result ≤ size_of_block size }
+    ensures block { take result room.new ≡ image_block image.0 (size_of_block size) n }
 {
     let size = u32::from(size.bytes());
     let from = (u32::from(n.saturating_sub(1)) * size).min(image.len());
@@ -205,7 +205,7 @@ fn put_bytes(part: StreamPart, out: &mut Out<'_>)
 
 /// A segment's sequence number.
 fn number(part: StreamPart) -> u32
-    ensures { result ≡ part_number part }
+    ensures { result ≡ part_sequence_number part }
 {
     match part {
         StreamPart::Opening => FIRST_BYTE.wrapping_sub(1),

@@ -2,8 +2,8 @@
 
 ghost use Rattle.std.specs.Prelude.{◌≡◌, ◌==◌, ◌++◌, None, if◌then◌else◌};
 ghost use Rattle.nb_tcpseg.specs.SegmentText.{segment_parts};
-ghost use Rattle.nb_lab.specs.Connections.{has_flag, waiting_part, opened, piece_from, sends, advances, advanced, after_ack, next_part};
-ghost use Rattle.nb_lab.specs.Receptions.{is_closed, place_after, brings_more, number_after, with_bytes, IsPageOf, IsRequestGathered, IsReceived, IsSegmentTaken};
+ghost use Rattle.nb_lab.specs.Connections.{carries_flag, waiting_part, opened, piece_from, sends, advances_piece, advanced, after_ack, next_part};
+ghost use Rattle.nb_lab.specs.Receptions.{is_closed, place_after_sent, brings_bytes, number_after, with_request_bytes, IsPageOf, IsRequestGathered, IsReceived, IsSegmentTaken};
 ghost use Rattle.nb_lab.specs.declared.connection.StreamPart.TheVariants.{Bytes};
 ghost use Rattle.nb_lab.specs.declared.connection.State.TheVariants.{Closed};
 
@@ -142,7 +142,7 @@ impl Connection {
     /// Takes the acknowledgement of what stands before a place, while a piece waits for it.
     fn advance(&mut self, piece: Piece, place: u32, window: u16) -> Option<StreamPart>
         ensures after { self.new ≡ advanced self.old piece place window }
-        ensures sent { result ≡ (if advances piece place then waiting_part self.new.state else None) }
+        ensures sent { result ≡ (if advances_piece piece place then waiting_part self.new.state else None) }
     {
         if place <= piece.from || place > piece.sent() {
             return None;
@@ -196,7 +196,7 @@ impl Connection {
     /// The answer to the request with these bytes more, once there is one.
     fn read_on(&mut self, bytes: &[u8], images: u8) -> Option<Page>
         ensures page { IsPageOf images (self.old.request.items ++ bytes.now) result }
-        ensures after { self.new ≡ with_bytes self.old bytes.now }
+        ensures after { self.new ≡ with_request_bytes self.old bytes.now }
     {
         match self.request.try_extend_from_slice(bytes) {
             Ok(()) => page_for(self.request.as_slice(), images),
@@ -206,7 +206,7 @@ impl Connection {
 
     /// The place after what was sent.
     fn place(&self) -> u32
-        ensures { result ≡ place_after self.now.state }
+        ensures { result ≡ place_after_sent self.now.state }
     {
         match self.state {
             State::Opened | State::Reading | State::Closed => 0,
@@ -217,14 +217,14 @@ impl Connection {
 }
 
 fn has(segment: &Segment<'_>, flag: u8) -> bool
-    ensures { result ≡ has_flag (segment_parts segment.now) flag }
+    ensures { result ≡ carries_flag (segment_parts segment.now) flag }
 {
     segment.flags & flag != 0
 }
 
 /// Whether bytes or a FIN come with a segment.
 fn brings_more(segment: &Segment<'_>) -> bool
-    ensures { result ≡ brings_more (segment_parts segment.now) }
+    ensures { result ≡ brings_bytes (segment_parts segment.now) }
 {
     !segment.body.is_empty() || has(segment, FIN)
 }

@@ -7,7 +7,7 @@ ghost use Rattle.nb_lab.specs.Answers.{answer_frame};
 ghost use Rattle.nb_lab.specs.Scripts.{lab_start, script_text};
 ghost use Rattle.nb_lab.specs.Servers.{server_later, file_again, stream_again};
 ghost use Rattle.nb_lab.specs.Transits.{sent_if};
-ghost use Rattle.nb_lab.specs.Labs.{new_lab, IsGiven, after_next, next_record, coming};
+ghost use Rattle.nb_lab.specs.Labs.{new_lab, IsGiven, after_next, next_record, coming_record};
 
 use crate::answer::Answer;
 use crate::delivery::Delivery;
@@ -115,7 +115,7 @@ impl Lab {
 
     /// Goes on to the next record for the client. It takes no memory.
     pub fn advance(&mut self) -> Coming
-        ensures value { coming result self.new ≡ next_record self.old.transit.waiting }
+        ensures value { coming_record result self.new ≡ next_record self.old.transit.waiting }
         ensures after { self.new ≡ after_next self.old self.old.transit.waiting }
         ensures valid { IsIn (next_record self.old.transit.waiting) }
     {

@@ -2,7 +2,7 @@
 
 ghost use Rattle.std.specs.Prelude.{◌≡◌, ◌+◌, ◌-◌, ◌<◌, ◌≤◌, ◌++◌, length, min};
 ghost use Rattle.arrayvec.specs.ArrayVec.{array_vec_len};
-ghost use Rattle.nb_lab.specs.Pages.{status_text, body_len, body_piece, head_text, response_text, response_piece};
+ghost use Rattle.nb_lab.specs.Pages.{status_text, page_body_len, body_piece, head_text, response_text, response_piece};
 
 use crate::image::Image;
 use arrayvec::ArrayVec;
@@ -50,7 +50,7 @@ impl Page {
 
     fn put_body(self, from: usize, end: usize, out: &mut Out<'_>)
         requires ordered { from ≤ end }
-        requires within { end ≤ body_len self }
+        requires within { end ≤ page_body_len self }
         requires short { end - from ≤ 1000 }
         requires room { end - from ≤ out.old.left }
         ensures put { out.new.written ≡ out.old.written ++ body_piece self from (end - from) }
@@ -90,7 +90,7 @@ impl Page {
     }
 
     fn body_len(self) -> u32
-        ensures value { result ≡ body_len self }
+        ensures value { result ≡ page_body_len self }
         ensures fits { result ≤ 250135 }
     {
         match self {

@@ -1,7 +1,7 @@
 //! A piece of a response.
 
 ghost use Rattle.std.specs.Prelude.{◌≡◌, ◌+◌, ◌<◌, ◌≤◌, ◌^◌, true};
-ghost use Rattle.nb_lab.specs.Streams.{piece_len, end_of, is_last, sent_by};
+ghost use Rattle.nb_lab.specs.Streams.{piece_len, piece_end, is_last, sent_by};
 
 use crate::page::{MOST_BYTES, Page};
 
@@ -27,7 +27,7 @@ impl Piece {
 
     /// The place after it.
     pub fn end(self) -> u32
-        ensures { result ≡ end_of self }
+        ensures { result ≡ piece_end self }
     {
         self.from + u32::from(self.len())
     }
@@ -35,7 +35,7 @@ impl Piece {
     /// Whether the response ends with it.
     pub fn is_last(self) -> bool
         ensures value { result ≡ is_last self }
-        ensures fits { result ≡ true → end_of self ≤ 250263 }
+        ensures fits { result ≡ true → piece_end self ≤ 250263 }
     {
         self.end() == self.page.len()
     }

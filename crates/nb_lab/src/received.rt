@@ -6,7 +6,7 @@ ghost use Rattle.nb_ipv4.specs.PacketText.{packet_parts};
 ghost use Rattle.nb_ipv4.specs.UdpText.{UdpParts, IsUdp};
 ghost use Rattle.nb_tcpseg.specs.SegmentText.{SegmentParts, IsSegment};
 ghost use Rattle.nb_tftpmsg.specs.Packets.{Message, IsTftpPacket};
-ghost use Rattle.nb_lab.specs.Hosts.{server_mac, everyone};
+ghost use Rattle.nb_lab.specs.Hosts.{server_mac, broadcast_mac};
 ghost use Rattle.nb_lab.specs.Bringing.{FrameBrought, packet as packet_from, segment as segment_from, FrameBrings, FrameBringsIn, IsPacketIn, peer_of, brought};
 
 use crate::hosts::{EVERYONE, Peer, SERVER, SERVER_MAC};
@@ -54,7 +54,7 @@ pub fn read_frame(bytes: &[u8]) -> Option<Received<'_>>
 }
 
 fn is_for_servers(dst: Mac) -> bool
-    ensures { IsTrue result ↔ (dst ≡ server_mac) ⊎ (dst ≡ everyone) }
+    ensures { IsTrue result ↔ (dst ≡ server_mac) ⊎ (dst ≡ broadcast_mac) }
 {
     dst == SERVER_MAC || dst == EVERYONE
 }

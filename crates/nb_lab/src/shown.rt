@@ -2,7 +2,7 @@
 
 ghost use Rattle.std.specs.Prelude.{◌≡◌, ◌+◌, ◌<◌, ◌^◌, ◌++◌, ◌↔◌, ℕ, List, length, IsNone, IsSomeAnd, IfSome};
 ghost use Rattle.nb_defs.specs.Records.{Out, out_text, record_text};
-ghost use Rattle.nb_lab.specs.Shows.{seen, seen_of, image_at_url, image_of};
+ghost use Rattle.nb_lab.specs.Shows.{seen, seen_of, image_at_url, image_of_open};
 ghost use Rattle.nb_lab.specs.Readings.{seen_by, begins_with_zero, image_by, BeginsWithRecord};
 
 use crate::image::Image;
@@ -102,7 +102,7 @@ fn image_by(body: &[u8]) -> Option<Image>
 }
 
 fn image_of(kind: u8, target: &[u8]) -> Option<Image>
-    ensures { result ≡ image_of kind target.now }
+    ensures { result ≡ image_of_open kind target.now }
 {
     match kind {
         BY_TFTP => Image::named(target),

@@ -3,8 +3,8 @@
 ghost use Rattle.std.specs.Prelude.{◌≡◌, ◌+◌, ◌++◌, ◌∷◌, [], List, IfOk, OnOk};
 ghost use Rattle.nb_defs.specs.Records.{In, Out};
 ghost use Rattle.nb_lab.specs.Shows.{seen, seen_of};
-ghost use Rattle.nb_lab.specs.Summaries.{counted, line, summary};
-ghost use Rattle.nb_lab.specs.Tallies.{no_tally, with_seen, with_image, Counts, tally_text};
+ghost use Rattle.nb_lab.specs.Summaries.{capped_count, summary_line, summary};
+ghost use Rattle.nb_lab.specs.Tallies.{no_tally, with_seen, with_fetched_image, Counts, tally_text};
 
 use crate::image::Image;
 use crate::shown::Shown;
@@ -75,7 +75,7 @@ impl Summary {
     }
 
     fn add_input(&mut self)
-        ensures counted { self.new ≡ record self.old { records = counted (self.old.records + 1) } }
+        ensures counted { self.new ≡ record self.old { records = capped_count (self.old.records + 1) } }
     {
         self.records = self.records.saturating_add(1);
     }
@@ -95,7 +95,7 @@ impl Summary {
 
     /// A command has its result: where it is Ok, the image of its open is there.
     fn end_command(&mut self, ok: bool)
-        ensures { self.new ≡ with_image self.old ok self.old.asked }
+        ensures { self.new ≡ with_fetched_image self.old ok self.old.asked }
     {
         let asked = self.asked.take();
         if let Some(image) = asked
@@ -120,7 +120,7 @@ impl Summary {
 }
 
 fn put_line(alloc: Global, name: &[u8], number: u64, text: &mut Vec<u8>) -> Result<(), NoMemory>
-    ensures { OnOk result (text.new.items ≡ text.old.items ++ line name.now number) }
+    ensures { OnOk result (text.new.items ≡ text.old.items ++ summary_line name.now number) }
 {
     text.extend_from_slice(name)?;
     let number = format!(in alloc; "{number}\n")?;

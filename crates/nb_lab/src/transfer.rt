@@ -2,7 +2,7 @@
 
 ghost use Rattle.std.specs.Prelude.{◌≡◌, ◌+◌, ◌*◌, ◌<◌, ◌≤◌, false};
 ghost use Rattle.nb_lab.specs.Images.{image_len};
-ghost use Rattle.nb_lab.specs.Files.{size_of, number_of_last, last_part, ends_in, begun, acknowledged, after_acknowledged};
+ghost use Rattle.nb_lab.specs.Files.{size_of_block, number_of_last, last_file_part, ends_in, transfer_begun, acknowledged, after_acknowledged};
 
 use crate::hosts::Peer;
 use crate::image::Image;
@@ -18,7 +18,7 @@ pub enum BlockSize {
 impl BlockSize {
     /// The size in bytes.
     pub fn bytes(self) -> u16
-        ensures value { result ≡ size_of self }
+        ensures value { result ≡ size_of_block self }
         ensures fits { result ≤ 1000 }
     {
         match self {
@@ -86,7 +86,7 @@ pub struct Transfer {
 impl Transfer {
     /// Begins with the options, where they are asked for, or else with the first block.
     pub fn start(peer: Peer, image: Image, options: bool) -> Transfer
-        ensures { result ≡ begun peer image options }
+        ensures { result ≡ transfer_begun peer image options }
     {
         let (size, last) = if options {
             (BlockSize::Granted, Last::Options)
@@ -104,7 +104,7 @@ impl Transfer {
 
     /// What was sent last.
     pub fn part(&self) -> FilePart
-        ensures { result ≡ last_part self.now }
+        ensures { result ≡ last_file_part self.now }
     {
         match self.last {
             Last::Options => FilePart::Options(self.image),
@@ -135,7 +135,7 @@ impl Transfer {
 
     /// Whether what was sent last is the last block: one that is shorter than the size, as the image ends in it.
     fn is_whole(&self) -> bool
-        ensures value { result ≡ ends_in (image_len self.now.image.0) (size_of self.now.size) self.now.last }
+        ensures value { result ≡ ends_in (image_len self.now.image.0) (size_of_block self.now.size) self.now.last }
         ensures few { result ≡ false → number_of_last self.now.last ≤ 488 }
     {
         match self.last {

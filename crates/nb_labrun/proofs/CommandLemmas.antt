@@ -11,7 +11,7 @@ use Rattle.nb_uri.specs.declared.target.UriTarget.TheVariants.{Tftp, Http, Iscsi
 use Rattle.nb_dns.specs.WrittenNames.{is_lookup_name}
 use Rattle.nb_settings.specs.Tables.{TableLists}
 use Rattle.nb_image.specs.Images.{ImageList}
-use Rattle.nb_imagecmd.specs.Asking.{asked_by, asked_file, asked_name, has_long_path, is_file}
+use Rattle.nb_imagecmd.specs.Asking.{asked_resolved, asked_file, asked_name, has_long_path, is_file}
 use Rattle.nb_imagecmd.specs.CarryingOut.{asking_answer, image_effect, images_freed}
 use Rattle.nb_imagecmd.specs.Freeing.{are_all_listed, kept_list}
 use Rattle.nb_imagecmd.specs.declared.outcome.ImageOutcome.TheVariants.{Done}
@@ -151,7 +151,7 @@ next_effect_kept (Err cause) h = tt
 asked_kept : (base name : Option (List ℕ)) (uri : List ℕ) (args : List (List ℕ)) → IfOk (asked_file base name uri args after.Keep) IsKept
 asked_kept base name uri args = by_target (resolution base uri)
   where
-    by_target : (r : Result UriTarget UriError) → IfOk (asked_by r name args after.Keep) IsKept
+    by_target : (r : Result UriTarget UriError) → IfOk (asked_resolved r name args after.Keep) IsKept
     by_target (Ok target) =
         either (λ r. IfOk r IsKept) (not (is_file target)) _ _ tt
         (either (λ r. IfOk r IsKept) (has_long_path target || nat_lt 255 (length (asked_name name target))) _ _ tt refl)

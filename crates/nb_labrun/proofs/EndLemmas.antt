@@ -27,7 +27,7 @@ use Rattle.nb_labrun.specs.Delivering.{AreDelivered}
 use Rattle.nb_labrun.specs.Playing.{HasPlayed, PlayIsOver, IsCleared, StepLeaves}
 use Rattle.nb_labrun.specs.Keeping.{StandsInLab}
 use Rattle.nb_labrun.specs.declared.run.StepEnd.TheVariants as ending
-use Rattle.nb_labrun.specs.Shows.{line_before, line_after, LabRun, EndsLab, ShowsLab, WritesPart}
+use Rattle.nb_labrun.specs.Shows.{outside_before, line_after, LabRun, EndsLab, ShowsLab, WritesPart}
 use Rattle.nb_labrun.proofs.PlayLemmas.{in_lab_more}
 
 -- the record that comes next stands after those used
@@ -129,7 +129,7 @@ played_ends : (s : Status) (images : ℕ) (l : LabState) (t : Tally) (c : Snapsh
 played_ends s images l t c h = lab_ends s h.used c h.plays.led.progress h.plays.led.stands h.plays.led.in_lab h.over
 
 -- all input was read, and all output was taken
-all_passes : (input output : List ℕ) → Passes (line_before input) (line_after output) input output
+all_passes : (input output : List ℕ) → Passes (outside_before input) (line_after output) input output
 all_passes input output = record {
   gave = sym (append-nil input);
   took = refl;
@@ -139,7 +139,7 @@ all_passes input output = record {
 -- the run that has ended so
 abbrev ended_run : (s : Status) (images : ℕ) (l : LabState) (t : Tally) (c : Snapshot) (closers : List Out) (h : HasPlayed s images l t c) → ClosesAll h.plays.led.progress h.plays.led.holdings (status_number s) closers →
     EndsWhere h.plays.led.progress (after_all l) (line_after (out_texts (h.plays.outs ++ closers))) (status_number s) →
-    Run (line_before (in_texts h.plays.ins ++ after_all l)) (line_after (out_texts (h.plays.outs ++ closers)))
+    Run (outside_before (in_texts h.plays.ins ++ after_all l)) (line_after (out_texts (h.plays.outs ++ closers)))
 ended_run s images l t c closers h q ends =
     let p = h.plays in
     let e = q.traces p.outs p.led.came p.led.traced in
@@ -171,11 +171,11 @@ ended_run s images l t c closers h q ends =
 -- what the run's status says of it
 ended_says : (s : Status) (images : ℕ) (l : LabState) (t : Tally) (c : Snapshot) (closers : List Out) (h : HasPlayed s images l t c) (q : ClosesAll h.plays.led.progress h.plays.led.holdings (status_number s) closers)
     (ends : EndsWhere h.plays.led.progress (after_all l) (line_after (out_texts (h.plays.outs ++ closers))) (status_number s)) →
-    Says s (line_before (in_texts h.plays.ins ++ after_all l)) (line_after (out_texts (h.plays.outs ++ closers))) (ended_run s images l t c closers h q ends)
+    Says s (outside_before (in_texts h.plays.ins ++ after_all l)) (line_after (out_texts (h.plays.outs ++ closers))) (ended_run s images l t c closers h q ends)
 ended_says s images l t c closers h q ends =
     let p = h.plays in
     let e = q.traces p.outs p.led.came p.led.traced in
-    over_says s (line_before (in_texts p.ins ++ after_all l)) (line_after (out_texts (p.outs ++ closers))) (ended_run s images l t c closers h q ends) (play_closes s h.used c.stage h.over) (record {
+    over_says s (outside_before (in_texts p.ins ++ after_all l)) (line_after (out_texts (p.outs ++ closers))) (ended_run s images l t c closers h q ends) (play_closes s h.used c.stage h.over) (record {
       ends = ends;
       put = q.put;
       shuts = q.shuts;
@@ -205,8 +205,8 @@ run_is_summed s images l l' t t' c old new text h clear f whole delivered sums =
     record {
       input = input;
       output = output;
-      run = shown_by (line_before input) (line_after output) run;
-      said = said s (line_before input) (line_after output) run (ended_says s images l t c closers h q ends);
+      run = shown_by (outside_before input) (line_after output) run;
+      said = said s (outside_before input) (line_after output) run (ended_says s images l t c closers h q ends);
       ends = played_ends s images l t c h;
       lab = l';
       in_lab = in_lab_more images p.ins p.outs l closers l' p.in_lab d.delivers;

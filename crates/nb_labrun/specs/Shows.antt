@@ -11,8 +11,8 @@ use Rattle.nb_lab.specs.Summaries.{summary}
 use Rattle.nb_labrun.specs.Runs.{InLab}
 
 -- a line over memory: these bytes are left to read; and they were read, and those taken
-abbrev pub line_before : List ℕ → Outside
-line_before input = record { left = Some input; taken = Some []; reads = None; attach_faults = 0; read_faults = 0; write_faults = 0 }
+abbrev pub outside_before : List ℕ → Outside
+outside_before input = record { left = Some input; taken = Some []; reads = None; attach_faults = 0; read_faults = 0; write_faults = 0 }
 
 abbrev pub line_after : List ℕ → Outside
 line_after output = record { left = Some []; taken = Some output; reads = None; attach_faults = 0; read_faults = 0; write_faults = 0 }
@@ -29,8 +29,8 @@ EndsLab _ = ⊥
 pub record LabRun (images : ℕ) (s : Status) (text : List ℕ) : Type 0 where
   pub input : List ℕ
   pub output : List ℕ
-  pub run : Shown (line_before input) (line_after output)
-  pub said : IsSaid s (line_before input) (line_after output) run
+  pub run : Shown (outside_before input) (line_after output)
+  pub said : IsSaid s (outside_before input) (line_after output) run
   pub ends : EndsLab s
   pub lab : LabState
   pub in_lab : InLab images run.ins (run.outs ++ run.closing) lab

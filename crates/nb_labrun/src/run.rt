@@ -8,7 +8,7 @@ ghost use Rattle.nb_client.specs.declared.client.Turn.TheVariants as turns;
 ghost use Rattle.nb_client.specs.declared.stage.Stage.{Stage};
 ghost use Rattle.nb_runner.specs.declared.status.Status.TheVariants as statuses;
 ghost use Rattle.nb_lab.specs.Scripts.{lab_start};
-ghost use Rattle.nb_lab.specs.Labs.{coming, new_lab};
+ghost use Rattle.nb_lab.specs.Labs.{coming_record, new_lab};
 ghost use Rattle.nb_lab.specs.Tallies.{Counts};
 ghost use Rattle.nb_labrun.specs.Playing.{HasPlayed, InPlay, IsCleared, StepLeaves, TurnGathers, TurnLeaves};
 ghost use Rattle.nb_labrun.specs.Shows.{LabRun};
@@ -90,10 +90,10 @@ fn end_step(
 
 /// Gives the client what has come from the lab.
 fn step(client: &mut Client, come: Coming, lab: &Lab, log: &mut Log) -> Turn
-    requires valid { IsIn (coming come lab.now) }
+    requires valid { IsIn (coming_record come lab.now) }
     requires waits { AwaitsRecord client.old.stage }
     requires few { client.old.used < 2 ^ 32 - 1 }
-    ensures { TurnsBy result (coming come lab.now ∷ []) client.old client.new log.old log.new }
+    ensures { TurnsBy result (coming_record come lab.now ∷ []) client.old client.new log.old log.new }
 {
     match come {
         Coming::Frame => client.step(&InRec::Frame(lab.frame()), log),

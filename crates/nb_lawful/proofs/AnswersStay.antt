@@ -12,7 +12,7 @@ use Rattle.nb_talks.specs.Talking.{Came, by_segment, by_time, by_task, Talk, tal
 use Rattle.nb_sans.specs.Sessions.{ReadTask, session_talker, session_chap, session_capacity, task_answers, tasks_taken}
 use Rattle.nb_sans.specs.SessionLaws.{AreAskedAfter}
 use Rattle.nb_sans.proofs.AnswerGrowth.{readings_stay}
-use Rattle.nb_machine.specs.Drives.{came_to_session, drive_answer, last_answer, session_answer}
+use Rattle.nb_machine.specs.Drives.{input_to_session, drive_answer, last_answer, session_answer}
 use Rattle.nb_machine.specs.Kinds.{answered, answered_by}
 use Rattle.nb_machine.specs.Lives.{iscsi, Exchange, Live}
 
@@ -74,11 +74,11 @@ all_stay server i isn d (c ∷ cs) some = all_stay server i isn (talks_on (sessi
 -- after more exchanges, too
 pub answered_stays : (l : Live) (isn : ℕ) (i : LoginInfo) (more : List Exchange) → l.kind ≡ iscsi isn i → IsSome (answered l) → IsSome (answered (record l { exchanges = l.exchanges ++ more }))
 answered_stays l isn i more kind some =
-    let before = flat_map (λ (x : Exchange). came_to_session x.came) l.exchanges in
-    let later = flat_map (λ (x : Exchange). came_to_session x.came) more in
+    let before = flat_map (λ (x : Exchange). input_to_session x.came) l.exchanges in
+    let later = flat_map (λ (x : Exchange). input_to_session x.came) more in
     let start = begun_talk (session_talker i) isn l.since in
     let was : IsSome (answered_by (iscsi isn i) l) = subst (λ k. IsSome (answered_by k l)) kind some in
     subst (λ k. IsSome (answered_by k (record l { exchanges = l.exchanges ++ more }))) (sym kind)
     (subst (λ (z : Talk ReadTask). IsSome (session_answer l.server i (front (talk_held isn z)) z.tasks))
-    (sym (ap (fold (talks_on (session_talker i) isn) start) (flat_map-append (λ (x : Exchange). came_to_session x.came) l.exchanges more) ∙ fold-append (talks_on (session_talker i) isn) start before later))
+    (sym (ap (fold (talks_on (session_talker i) isn) start) (flat_map-append (λ (x : Exchange). input_to_session x.came) l.exchanges more) ∙ fold-append (talks_on (session_talker i) isn) start before later))
     (all_stay l.server i isn (fold (talks_on (session_talker i) isn) start before) later was))

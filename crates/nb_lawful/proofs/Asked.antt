@@ -10,7 +10,7 @@ use Rattle.nb_drivecmd.specs.HookedDrives.{is_drive}
 use Rattle.nb_machine.specs.Conclusions.{fails}
 use Rattle.nb_machine.specs.Courses as course
 use Rattle.nb_machine.specs.Courses.{Standing, block_lost, block_standing, AsksBlock, ReadsBlock}
-use Rattle.nb_machine.specs.Drives.{first_block}
+use Rattle.nb_machine.specs.Drives.{first_block_read}
 use Rattle.nb_machine.specs.Effects.{hooks_disk}
 use Rattle.nb_machine.specs.Lives.{task, Exchange, Live, continued}
 use Rattle.nb_machine.specs.Running.{Running, with_result}
@@ -101,7 +101,7 @@ asked_so es outs s next inner outer number asked over a k =
 -- the open of a number, of which the place is known
 pub record AskedAt (s : State) (l : Live) (earlier later : List Live) (put : List Out) (s' : State) (over : List Over) : Type 0 where
   pub after : List Live
-  pub takes : AllTake s.devices (task first_block s.now) (l ∷ []) put after over
+  pub takes : AllTake s.devices (task first_block_read s.now) (l ∷ []) put after over
   pub lives : s'.live ≡ earlier ++ after ++ later
 
 pub asked_at : (s : State) (number : ℕ) (put : List Out) (s' : State) (over : List Over) (a : AsksBlock s number put s' over) → (earlier later : List Live) (l : Live) → s.live ≡ earlier ++ l ∷ later → number ≡ l.number →
@@ -110,7 +110,7 @@ asked_at s number put s' over a earlier later l parted same h t =
     let p = same_place a.before a.behind earlier later a.l l (sym a.parted ∙ parted) (a.its ∙ same) h t in
     record {
       after = a.after;
-      takes = subst (λ z. AllTake s.devices (task first_block s.now) (z ∷ []) put a.after over) p.1 a.takes;
+      takes = subst (λ z. AllTake s.devices (task first_block_read s.now) (z ∷ []) put a.after over) p.1 a.takes;
       lives = ap (λ (z : State). z.live) a.leaves ∙ ap (λ z. z ++ a.after ++ a.behind) p.0 ∙ ap (λ z. earlier ++ a.after ++ z) p.2;
     }
 
@@ -125,7 +125,7 @@ module _ (es : List Event) (outs : List Out) (s next : State) (w : Waiting) (l :
       subst (λ z. HooksBy (so_far (es ++ told asked)) z (record l { exchanges = xs }) hooking) (sym m)
       (subst (λ z. HooksBy z (moves es) (record l { exchanges = xs }) hooking) (sym q.same) (record { shown = k.names.shown; said = k.names.said; names = k.names.names; is_drive = k.names.is_drive }))
 
-  waits_then : (x : Exchange) → x.came ≡ task first_block s.now → next.live ≡ k.awaited.earlier ++ continued l x ∷ [] → AreBeside l.number asked →
+  waits_then : (x : Exchange) → x.came ≡ task first_block_read s.now → next.live ≡ k.awaited.earlier ++ continued l x ∷ [] → AreBeside l.number asked →
       Goes es outs asked (course.waiting next (record { script = w.script; outer = w.outer; awaited = block l.number; job = boots (Some (hooked_drive hooking l)) }))
   waits_then x came lives beside = let (isn, i, kind) = k.names.is_drive in record {
     stands = q.stands;
@@ -146,7 +146,7 @@ module _ (es : List Event) (outs : List Out) (s next : State) (w : Waiting) (l :
   }
 
   -- it has ended, and so has the command
-  fails_then : (x : Exchange) (cause : Cause) (front : List Out) (p : Standing) → x.came ≡ task first_block s.now → AskedWell (es ++ told asked) next over → over ≡ record { live = continued l x; cause = cause } ∷ [] → asked ≡ front ++ ended l.number cause ∷ [] →
+  fails_then : (x : Exchange) (cause : Cause) (front : List Out) (p : Standing) → x.came ≡ task first_block_read s.now → AskedWell (es ++ told asked) next over → over ≡ record { live = continued l x; cause = cause } ∷ [] → asked ≡ front ++ ended l.number cause ∷ [] →
       AreBeside l.number front → p ≡ course.running next (with_result w.script cause) w.outer → Goes es outs (asked ++ result cause ∷ []) p
   fails_then x cause front p came well over_is is beside leads =
       let (isn, i, kind) = k.names.is_drive in
@@ -189,7 +189,7 @@ sized_goes es outs s w l hooking keep more p k boots_it opens well r =
     at : AskedAt s l k.awaited.earlier [] r.asked r.next r.over
     at = asked_at s l.number r.asked r.next r.over r.asks k.awaited.earlier [] l k.awaited.last refl k.awaited.others tt
 
-    by : TookAlone (task first_block s.now) l r.asked at.after r.over → Goes es outs more p
+    by : TookAlone (task first_block_read s.now) l r.asked at.after r.over → Goes es outs more p
     by (alone_on x came after_is over_is beside) =
         subst (λ z. Goes es outs z p) (sym (r.all ∙ ap (λ z. r.asked ++ block_lost z) over_is ∙ append-nil r.asked))
         (subst (λ z. Goes es outs r.asked z) (sym (r.stands_so ∙ ap (block_standing r.next w.script w.outer l.number (Some (hooked_drive hooking l))) over_is))

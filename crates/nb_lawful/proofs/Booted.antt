@@ -11,7 +11,7 @@ use Rattle.nb_login.specs.declared.info.LoginInfo.{LoginInfo}
 use Rattle.nb_machine.specs.CommandRecords.{command_record}
 use Rattle.nb_machine.specs.Courses as course
 use Rattle.nb_machine.specs.Courses.{Standing, LeadsTo, block_lost, block_standing, ReadsBlock}
-use Rattle.nb_machine.specs.Drives.{first_block}
+use Rattle.nb_machine.specs.Drives.{first_block_read}
 use Rattle.nb_machine.specs.Effects.{boots_drive, shown_words}
 use Rattle.nb_machine.specs.Lives.{task, iscsi, Live, continued}
 use Rattle.nb_machine.specs.Running.{Running, entered, with_result}
@@ -145,7 +145,7 @@ asks_hooked es outs s inner outer l d more p k b well r = by (took_alone _ _ _ _
       names = ap booted_drive q.same ∙ k.names;
     }
 
-    by : TookAlone (task first_block s.now) l r.asked at.after r.over → Goes es outs more p
+    by : TookAlone (task first_block_read s.now) l r.asked at.after r.over → Goes es outs more p
     by (alone_on x came after_is over_is beside) = let (isn, i, kind) = b.is_drive in
         subst (λ z. Goes es outs z p) (sym (r.all ∙ ap (λ z. r.asked ++ block_lost z) over_is ∙ append-nil r.asked))
         (subst (λ z. Goes es outs r.asked z) (sym (r.stands_so ∙ ap (block_standing r.next inner outer d.open_number None) over_is)) (record {

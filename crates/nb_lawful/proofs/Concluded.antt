@@ -9,7 +9,7 @@ use Rattle.std.proofs.lemmas.Slice.Eq.{bytes_eq-Decides}
 use Rattle.nb_terms.specs.declared.cause.Cause.{Cause}
 use Rattle.nb_defs.specs.Causes.{ok, is_ok_cause}
 use Rattle.nb_defs.specs.Records.{Out}
-use Rattle.nb_tftp.specs.Blocks.{file, is_whole}
+use Rattle.nb_tftp.specs.Blocks.{file, is_whole_transfer}
 use Rattle.nb_tftp.specs.History.{received_by}
 use Rattle.nb_responses.specs.Chunks as chunks
 use Rattle.nb_responses.specs.Chunks.{Verdict, Response}
@@ -46,7 +46,7 @@ use Rattle.nb_openlaws.specs.Standings.{live_opening, heard_calls, IsKindBy}
 use Rattle.nb_laws.specs.CommandOpens.{command_end}
 use Rattle.nb_laws.specs.Frames.{HoldsResult, by_failed_end, by_file}
 use Rattle.nb_lawful.specs.Results.{HasEndedOpens}
-use Rattle.nb_lawful.specs.ScriptAgreement.{kind_for, FetchesWith}
+use Rattle.nb_lawful.specs.ScriptAgreement.{open_kind_for, FetchesWith}
 use Rattle.nb_lawful.proofs.Begun.{depth_is}
 use Rattle.nb_lawful.proofs.AtOnce.{Goes}
 use Rattle.nb_lawful.proofs.CommandEnds.{ended_so, HasEnded, ends_with, response_is, file_heard}
@@ -66,7 +66,7 @@ IsFileKind (dns id) = ⊥
 IsFileKind (dhcp a) = ⊥
 IsFileKind ping = ⊥
 
-kind_for_file : (h : Hardware) (k : ℕ) (target : UriTarget) → IsFileKind (kind_for h k target)
+kind_for_file : (h : Hardware) (k : ℕ) (target : UriTarget) → IsFileKind (open_kind_for h k target)
 kind_for_file h k (Tftp host port path whole) = tt
 kind_for_file h k (Http host port path whole) = tt
 kind_for_file h k (Iscsi host port lun name whole) = tt
@@ -79,7 +79,7 @@ kind_fetches (dns id) is = absurd is
 kind_fetches (dhcp a) is = absurd is
 kind_fetches ping is = absurd is
 
-kind_of_target : (h : Hardware) (k : ℕ) (target : UriTarget) → kind_number (kind_for h k target) ≡ target_kind target
+kind_of_target : (h : Hardware) (k : ℕ) (target : UriTarget) → kind_number (open_kind_for h k target) ≡ target_kind target
 kind_of_target h k (Tftp host port path whole) = refl
 kind_of_target h k (Http host port path whole) = refl
 kind_of_target h k (Iscsi host port lun name whole) = refl
@@ -136,7 +136,7 @@ file_is : (es : List Event) (outs : List Out) (s : State) (inner : Running) (out
     (kind : OpenKind) → l.kind ≡ kind → IsFileKind kind → file_fetched l.number es (live_opening l) ≡ Some (fetched l)
 file_is es outs s inner outer moved l cause h well stays tftp is fits =
     let ds = datagrams_of l.number es in
-    let whole : is_whole ds ≡ true = sym (h.answered ∙ ap (λ k. has_its_answer l.number (record { kind = kind_number k; server = l.server; port = l.port; own = l.own; target = l.target; since = l.since }) es) is) ∙ well in
+    let whole : is_whole_transfer ds ≡ true = sym (h.answered ∙ ap (λ k. has_its_answer l.number (record { kind = kind_number k; server = l.server; port = l.port; own = l.own; target = l.target; since = l.since }) es) is) ∙ well in
     ap (λ k. cond (kind_number k == 2) (body_of (response_so_far l.number (live_opening l) es)) (file_of ds)) is
     ∙ ap (λ b. cond b (Some (file ds)) None) whole
     ∙ ap (λ z. Some (file (flat_map received_by z))) (h.received ∙ ap (λ k. heard_calls k l.exchanges) is)

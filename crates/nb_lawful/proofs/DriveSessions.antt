@@ -9,7 +9,7 @@ use Rattle.nb_stack.specs.Client.{Client}
 use Rattle.nb_streams.proofs.FlowLaws.{all_append}
 use Rattle.nb_drivecmd.specs.declared.drive.Drive.{Drive}
 use Rattle.nb_machine.specs.Courses.{Standing, AsksBlock, ReadsBlock}
-use Rattle.nb_machine.specs.Drives.{first_block, last_read, session_of, session_answered}
+use Rattle.nb_machine.specs.Drives.{first_block_read, last_read, session_of, session_answered}
 use Rattle.nb_machine.specs.Kinds.{answered, answered_by, read_last}
 use Rattle.nb_machine.specs.Lives.{OpenInput, task, iscsi, kind_number, Exchange, exchange, Live, continued}
 use Rattle.nb_machine.specs.Network.{Network, passes_by, brings, brings_reply, brings_segment, passes_time}
@@ -230,7 +230,7 @@ asked_well es s l number h a device ways advanced same put s' over q =
     readable (inl known) = inl known
     readable (inr was) = inr (was_on false q.l.number es (told put) was)
 
-    by : TookAlone (task first_block s.now) q.l put q.after over → TakenSo es put over → SessionsOver es2 over → AllByRecursion (λ o. TellsSession es2 o.live) over × AllByRecursion (λ o. is_ok_cause o.cause ≡ false) over
+    by : TookAlone (task first_block_read s.now) q.l put q.after over → TakenSo es put over → SessionsOver es2 over → AllByRecursion (λ o. TellsSession es2 o.live) over × AllByRecursion (λ o. is_ok_cause o.cause ≡ false) over
     by (alone_on x came after_is over_is beside) t w = subst (λ z. AllByRecursion (λ (o : Over). TellsSession es2 o.live) z × AllByRecursion (λ (o : Over). is_ok_cause o.cause ≡ false) z) (sym over_is) (tt, tt)
     by (alone_last x cause front came after_is over_is is beside) t w =
         let l1 = continued q.l x in

@@ -27,7 +27,7 @@ use Rattle.nb_imagecmd.specs.declared.outcome.ScriptImage.{ScriptImage}
 use Rattle.nb_imagecmd.specs.Arriving.{arrived_image, selected_listed, script_gone, listed_place, runs_kind, arrives_as, taken_unless, arrived}
 use Rattle.nb_imagecmd.specs.Asking.{asked_file, target_uri}
 use Rattle.nb_imagecmd.specs.CarryingOut.{asking_answer, select_at, execute_at, set_args_at, images_freed, image_effect}
-use Rattle.nb_imagecmd.specs.Executing.{ImageAnswer, selected_at, selected_with, executed_kind, executed_image, executed_selected, is_too_deep, script_of, taken_from, script_taken}
+use Rattle.nb_imagecmd.specs.Executing.{ImageAnswer, selected_at, selected_with, executed_kind, executed_image, executed_selected, is_too_deep, script_of, script_taken_from, script_taken}
 use Rattle.nb_imagecmd.specs.Freeing.{are_all_listed}
 use Rattle.nb_machine.specs.Conclusions.{Conclusion, keeps, tells, fails, boots, runs_script, boots_selected, file_conclusion, conclusion}
 use Rattle.nb_machine.specs.Effects.{Effect, says, asks, goes, sleeps, shuts_device, inquires, on_images, on_drives, hooks_disk, unhooks_drive, boots_drive, concludes_at_once, ShownWords, Surroundings, taken_effect, image_outcome_effect, image_answer_effect, images_effect, drives_effect}
@@ -171,7 +171,7 @@ taken_fits : (depth : ℕ) (i : ℕ) (replace : Bool) (list : ImageList) → Fit
 unfolding script_taken
 taken_fits depth i replace list = by (is_too_deep replace depth) refl (slice_get list.images i)
   where
-    by : (b : Bool) → is_too_deep replace depth ≡ b → (o : Option Image) → FitsEffect depth (taken_effect replace (cond b (Err ManyScripts) (taken_from o i list)))
+    by : (b : Bool) → is_too_deep replace depth ≡ b → (o : Option Image) → FitsEffect depth (taken_effect replace (cond b (Err ManyScripts) (script_taken_from o i list)))
     by true e o = tt
     by false e None = tt
     by false e (Some image) = script_fits depth replace (without_image i (selected_at i list)) (script_of image) e

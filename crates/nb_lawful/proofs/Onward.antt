@@ -36,7 +36,7 @@ use Rattle.nb_laws.specs.Hookings.{hooked_drives, BootsBy, HasRead}
 use Rattle.nb_openlaws.specs.Standings.{live_opening}
 use Rattle.nb_openlaws.proofs.NextOpens.{HooksRightly}
 use Rattle.nb_lawful.specs.Results.{CommandsSo}
-use Rattle.nb_lawful.specs.ScriptAgreement.{SettingsAre, IsToReach, reaches_host, reaches_place, ScriptsAgree, OpensNoDrive, ReachesDisk, reaches_disk, reaches_looked_up_disk, HasFreeNumber, HooksBy}
+use Rattle.nb_lawful.specs.ScriptAgreement.{SettingsAre, IsToReach, reaches_host, reaches_place, ScriptsAgree, OpensNoDrive, ReachesHookedDisk, reaches_disk, reaches_looked_up_disk, HasFreeNumber, HooksBy}
 use Rattle.nb_lawful.proofs.AtOnce.{Goes, images_as}
 use Rattle.nb_lawful.proofs.Opened.{UnderWay, ConcludesNot, Purpose, for_file, for_query, begins_open, finds_none, awaited_of, for_disk, for_disk_host, for_boot}
 use Rattle.nb_lawful.proofs.Opening.{Based, kind_is_for, transfer_is_for, live_is_for}
@@ -208,13 +208,13 @@ disk_host_purpose es s hooking name by b (shown, said, names) asked unit gone = 
 still_free : (es : List Event) (s : State) (hooking : Hooking) → LivesSo es s → HasFreeNumber hooking (hooked_drives es) → HasFreeNumber hooking s.drives
 still_free es s hooking lives gone = sym (ap (list_any (is_drive hooking.number)) lives) ∙ gone
 
-target_purpose : (es : List Event) (s : State) (next : Onward) (r : ReachesDisk es next) → Based es s → LivesSo es s → AsksTarget (made es) (so_far es).table r.hooking next → Purpose es s.drives (moves es) (live_onward s next) (job_onward next)
+target_purpose : (es : List Event) (s : State) (next : Onward) (r : ReachesHookedDisk es next) → Based es s → LivesSo es s → AsksTarget (made es) (so_far es).table r.hooking next → Purpose es s.drives (moves es) (live_onward s next) (job_onward next)
 target_purpose es s next r b lives (asks_server server is more) =
     subst (λ n. Purpose es s.drives (moves es) (live_onward s n) (job_onward n)) (sym is) (disk_purpose es s r.hooking server b r.names (still_free es s r.hooking lives r.gone))
 target_purpose es s next r b lives (asks_address name by is asked more) =
     subst (λ n. Purpose es s.drives (moves es) (live_onward s n) (job_onward n)) (sym is) (disk_host_purpose es s r.hooking name by b r.names asked r.unit (still_free es s r.hooking lives r.gone))
 
-target_asks : (es : List Event) (next : Onward) (r : ReachesDisk es next) → AsksTarget (made es) (so_far es).table r.hooking next
+target_asks : (es : List Event) (next : Onward) (r : ReachesHookedDisk es next) → AsksTarget (made es) (so_far es).table r.hooking next
 target_asks es next r = target_next (made es) (so_far es).table (hooked_drives es) r.hooking next r.asks
 
 next_purpose : (es : List Event) (s : State) (next : Onward) → Based es s → LivesSo es s → s.opens < 16384 → IsToReach es next → Purpose es s.drives (moves es) (live_onward s next) (job_onward next)

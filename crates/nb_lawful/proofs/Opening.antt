@@ -36,7 +36,7 @@ use Rattle.nb_laws.specs.Webs.{brought_to}
 use Rattle.nb_openlaws.specs.Standings.{live_opening}
 use Rattle.nb_openlaws.proofs.Doings.{comes_to, OpensBy, opens_transfer, opens_query, opens_by, up_stays}
 use Rattle.nb_lawful.specs.Results.{CommandsSo, OpenStands}
-use Rattle.nb_lawful.specs.ScriptAgreement.{kind_for, FetchesWith, IsLiveFor, AsksIn, IsAnother, ScriptsAgree}
+use Rattle.nb_lawful.specs.ScriptAgreement.{open_kind_for, FetchesWith, IsLiveFor, AsksIn, IsAnother, ScriptsAgree}
 use Rattle.nb_lawful.proofs.Quiet.{command_open_more}
 use Rattle.nb_lawful.proofs.Begun.{running_finds, comes_is, command_comes, begins_so, settings_begun}
 use Rattle.nb_lawful.proofs.AtOnce.{Goes, images_as}
@@ -79,7 +79,7 @@ query_fields offset s (for_host errand name by) e = ap (λ z. open_fields 4 by 5
 query_fields offset s (for_address setting name by) e = ap (λ z. open_fields 4 by 53 (own_port z s.opens) name) (sym e)
 
 -- what a file's open is
-pub transfer_is_for : (h : Hardware) (s : State) (target : UriTarget) → h ≡ record { mac = net0_mac s.devices; identity = s.machine } → transfer_kind s target ≡ kind_for h s.opens target
+pub transfer_is_for : (h : Hardware) (s : State) (target : UriTarget) → h ≡ record { mac = net0_mac s.devices; identity = s.machine } → transfer_kind s target ≡ open_kind_for h s.opens target
 transfer_is_for h s (Tftp host port path whole) e = refl
 transfer_is_for h s (Http host port path whole) e = ap (λ (z : Hardware). http (first_word z.identity s.opens)) (sym e)
 transfer_is_for h s (Iscsi host port lun name whole) e = refl

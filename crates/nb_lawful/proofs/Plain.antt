@@ -19,7 +19,7 @@ use Rattle.nb_uri.specs.declared.target.UriTarget.TheVariants.{Tftp, Http, Iscsi
 use Rattle.nb_machine.specs.Conclusions.{Conclusion, keeps, tells, fails, boots, runs_script}
 use Rattle.nb_machine.specs.Courses as course
 use Rattle.nb_machine.specs.Courses.{Standing, Progress, StepBegins, Proceeds, text_standing, ConclusionLeads, LeadsTo, ReadsBlock, AsksBlock, block_standing, DropsDrive, is_drives_own}
-use Rattle.nb_machine.specs.Drives.{first_block}
+use Rattle.nb_machine.specs.Drives.{first_block_read}
 use Rattle.nb_machine.specs.Effects.{Effect, hooks_disk}
 use Rattle.nb_machine.specs.Errands.{Onward, fetches_now, echoes_now, hooks_now, looks_up_now}
 use Rattle.nb_machine.specs.FirstText.{text_refusal}
@@ -221,7 +221,7 @@ reads_plain es s inner outer number d put p r h own = by (took_alone _ _ _ _ _ _
     lives : r.next.live ≡ a.before ++ a.after ++ a.behind
     lives = ap (λ (z : State). z.live) a.leaves
 
-    by : TookAlone (task first_block s.now) a.l r.asked a.after r.over → PlainAt es p
+    by : TookAlone (task first_block_read s.now) a.l r.asked a.after r.over → PlainAt es p
     by (alone_on x came after_is over_is beside) =
         subst (PlainAt es) (sym (r.stands_so ∙ ap (block_standing r.next inner outer number d) over_is))
         (subst (ArePlainBut (Some number) es) (sym lives) (around (IsPlainBut (Some number) es) s.live a.before a.behind a.after a.l a.parted (subst (ArePlainBut (Some number) es) (sym after_is) (inl a.its, tt)) h))

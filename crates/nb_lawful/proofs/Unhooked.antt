@@ -30,7 +30,7 @@ use Rattle.nb_laws.proofs.Tellings.{told, made_more, sessions_stay}
 use Rattle.nb_laws.proofs.Histories.{hardware_more}
 use Rattle.nb_openlaws.specs.Standings.{AgreesState, AreLive, live_opening}
 use Rattle.nb_openlaws.proofs.Puts.{IsClosing, AreClosing}
-use Rattle.nb_lawful.specs.ScriptAgreement.{kind_for, IsLiveFor, HooksBy, OpensNoDrive, IsToReach, reaches_host, reaches_place, reaches_disk, reaches_looked_up_disk, IsAwaited, AwaitsSo, awaits_time, awaits_file, awaits_query, awaits_host, awaits_drive, awaits_disk, awaits_block, awaits_hooked}
+use Rattle.nb_lawful.specs.ScriptAgreement.{open_kind_for, IsLiveFor, HooksBy, OpensNoDrive, IsToReach, reaches_host, reaches_place, reaches_disk, reaches_looked_up_disk, IsAwaited, AwaitsSo, awaits_time, awaits_file, awaits_query, awaits_host, awaits_drive, awaits_disk, awaits_block, awaits_hooked}
 use Rattle.nb_lawful.proofs.Answered.{hooks_now_so}
 use Rattle.nb_lawful.proofs.Begun.{opened_none}
 use Rattle.nb_lawful.proofs.Coming.{last_of_all, found_tells}
@@ -73,7 +73,7 @@ other_unhooked es s w l a at other =
     }
 
 -- a command waits, and no disk that it hooks has answered
-fetches_none : (h : Hardware) (k : ℕ) (target : UriTarget) → (kind_number (kind_for h k target) == 3) ≡ false
+fetches_none : (h : Hardware) (k : ℕ) (target : UriTarget) → (kind_number (open_kind_for h k target) == 3) ≡ false
 fetches_none h k (Tftp host port path whole) = refl
 fetches_none h k (Http host port path whole) = refl
 fetches_none h k (Iscsi host port lun name whole) = refl

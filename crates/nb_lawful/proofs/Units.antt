@@ -26,7 +26,7 @@ use Rattle.nb_uri.specs.declared.target.UriError.{UriError}
 use Rattle.nb_uri.specs.declared.target.UriError.TheVariants.{BadUri, NoScheme, TooLong}
 use Rattle.nb_uri.specs.IscsiNames.{IscsiTarget, is_iscsi, iscsi_target, iscsi_lun, iscsi_port, lun_word, lun_words, lun_groups, fields_target}
 use Rattle.nb_uri.specs.Resolutions.{resolution, disk_target, url_target, host_target, scheme_target, url_of, whole_of, tftp_file, tftp_path, http_file, http_path, has_zero}
-use Rattle.nb_uri.specs.Pieces.{cut}
+use Rattle.nb_uri.specs.Pieces.{cut_at_first}
 use Rattle.url.specs.Host.{host_text}
 use Rattle.url.specs.Parts.{Parts, nonempty_host}
 use Rattle.nb_machine.specs.Effects.{Effect, hooks_disk, drive_answer_effect, drives_effect, Surroundings, ShownWords}
@@ -116,7 +116,7 @@ whole_fields : (server protocol port lun target : List ℕ) → IsDisk (fields_t
 whole_fields server protocol port lun target = if_named _ _ (and_then _ (λ number. with_unit server target number (iscsi_lun lun) (whole_lun lun)) (iscsi_port port))
 
 whole_target : (text : List ℕ) → IsDisk (iscsi_target text)
-whole_target text = and_then _ (λ one. and_then _ (λ two. and_then _ (λ three. and_then _ (λ four. whole_fields one.0 two.0 three.0 four.0 four.1) (cut 58 three.1)) (cut 58 two.1)) (cut 58 one.1)) (cut 58 text)
+whole_target text = and_then _ (λ one. and_then _ (λ two. and_then _ (λ three. and_then _ (λ four. whole_fields one.0 two.0 three.0 four.0 four.1) (cut_at_first 58 three.1)) (cut_at_first 58 two.1)) (cut_at_first 58 one.1)) (cut_at_first 58 text)
 
 of_disk : (text : List ℕ) (o : Option IscsiTarget) → IsDisk o → HasUnitOf (disk_target text o)
 of_disk text None h = tt

@@ -60,10 +60,10 @@ pub record SleepsUntil (m : CommandsSoFar) (s : State) (until : ℕ) : Type 0 wh
   pub early : s.now < until
 
 -- the kind of open k for a target: by HTTP its SYN has the open's first word as its number; a disk isn't fetched
-abbrev pub kind_for : Hardware → ℕ → UriTarget → OpenKind
-kind_for h k (Tftp host port path whole) = tftp
-kind_for h k (Http host port path whole) = http (first_word h.identity k)
-kind_for h k (Iscsi host port lun name whole) = tftp
+abbrev pub open_kind_for : Hardware → ℕ → UriTarget → OpenKind
+open_kind_for h k (Tftp host port path whole) = tftp
+open_kind_for h k (Http host port path whole) = http (first_word h.identity k)
+open_kind_for h k (Iscsi host port lun name whole) = tftp
 
 -- this open is for this query
 abbrev pub IsLiveFor : Hardware → Query → Live → Type 0
@@ -111,7 +111,7 @@ pub record FetchesWith (h : Hardware) (m : CommandsSoFar) (moved : List MovedOpe
   pub shown : ShownWords
   pub said : m.shown ≡ Some shown
   pub asked : wanted_by (comes_after l.number m shown moved) (live_opening l) ≡ Some wanted
-  pub kind_is : l.kind ≡ kind_for h l.number wanted.asking.target
+  pub kind_is : l.kind ≡ open_kind_for h l.number wanted.asking.target
   pub server_is : l.server ≡ wanted.server
   pub port_is : l.port ≡ target_port wanted.asking.target
   pub target_is : l.target ≡ target_text wanted.asking.target
@@ -124,7 +124,7 @@ pub record AsksIn (h : Hardware) (m : CommandsSoFar) (moved : List MovedOpen) (l
   pub is_for : IsLiveFor h query l
 
 -- the disk that the words of the command that began last hook, where it has made no open
-pub record ReachesDisk (es : List Event) (next : Onward) : Type 0 where
+pub record ReachesHookedDisk (es : List Event) (next : Onward) : Type 0 where
   pub first : command_open es ≡ None
   pub hooking : Hooking
   pub names : ComesTo es (made es) (hooks_disk hooking)
@@ -160,7 +160,7 @@ pub data IsToReach (es : List Event) (next : Onward) : Type 0 where
   -- its file was moved, and this is asked for at its place, for which one more open may be made
   reaches_place : HasMoved es → ComesTo es (made es) (onward_effect next) → (made es ≡ 16384 → ⊥) → OpensNoDrive next → IsToReach es next
   -- a disk is hooked
-  reaches_disk : ReachesDisk es next → IsToReach es next
+  reaches_disk : ReachesHookedDisk es next → IsToReach es next
   reaches_looked_up_disk : ReachesLookedUpDisk es next → IsToReach es next
 
 abbrev pub IsAnother : ℕ → Live → Type 0

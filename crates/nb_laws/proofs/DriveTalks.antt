@@ -13,7 +13,7 @@ use Rattle.nb_talks.specs.Talking.{Came, by_segment, by_time, by_task, time_of, 
 use Rattle.nb_talks.specs.TalkPromises.{talker_end}
 use Rattle.nb_talks.proofs.TalkLaws.{held_with_texts}
 use Rattle.nb_webs.specs.Webs.{NoTask}
-use Rattle.nb_machine.specs.Drives.{first_block}
+use Rattle.nb_machine.specs.Drives.{first_block_read}
 use Rattle.nb_machine.specs.Findings.{first_word}
 use Rattle.nb_laws.specs.CommandsSoFar.{so_far, so_far_by, booted_drive}
 use Rattle.nb_laws.specs.Drives.{SessionOpening, to_session, asked_of, asked_by, came_to_session_at, session_answered_by, is_sized_by, talk_with, session_by}
@@ -33,13 +33,13 @@ IsTask (by_task task now) = Unit {0}
 abbrev pub AsksFirst : Came ReadTask → Type 0
 AsksFirst (by_segment m now) = Unit {0}
 AsksFirst (by_time now) = Unit {0}
-AsksFirst (by_task task now) = task ≡ first_block
+AsksFirst (by_task task now) = task ≡ first_block_read
 
 asked_tasks : (k now : ℕ) (d : Option Drive) → AllByRecursion IsTask (asked_of k now d)
 asked_tasks k now None = tt
 asked_tasks k now (Some d) = by (d.open_number == k)
   where
-    by : (b : Bool) → AllByRecursion IsTask (cond b (by_task first_block now ∷ []) [])
+    by : (b : Bool) → AllByRecursion IsTask (cond b (by_task first_block_read now ∷ []) [])
     by true = (tt, tt)
     by false = tt
 
@@ -54,7 +54,7 @@ first_of : (k now : ℕ) (d : Option Drive) → AllByRecursion AsksFirst (asked_
 first_of k now None = tt
 first_of k now (Some d) = by (d.open_number == k)
   where
-    by : (b : Bool) → AllByRecursion AsksFirst (cond b (by_task first_block now ∷ []) [])
+    by : (b : Bool) → AllByRecursion AsksFirst (cond b (by_task first_block_read now ∷ []) [])
     by true = (refl, tt)
     by false = tt
 
@@ -115,16 +115,16 @@ command_asks_none k before depth line place expanded words none = ap (asked_of k
 -- one that boots a hooked drive asks its open for the first block
 pub command_asks : (k : ℕ) (before : List Event) (depth line place : ℕ) (expanded : Bool) (words : List (List ℕ)) (d : Drive) →
     booted_drive (so_far_by before (so_far before) (puts (command depth line place expanded words))) ≡ Some d → (d.open_number == k) ≡ true →
-    asked_by k before (command depth line place expanded words) ≡ by_task first_block (time before) ∷ []
+    asked_by k before (command depth line place expanded words) ≡ by_task first_block_read (time before) ∷ []
 command_asks k before depth line place expanded words d some its =
-    ap (asked_of k (time before)) some ∙ ap (λ b. cond b (by_task first_block (time before) ∷ []) []) its
+    ap (asked_of k (time before)) some ∙ ap (λ b. cond b (by_task first_block_read (time before) ∷ []) []) its
 
 -- and no other open
 pub command_asks_other : (k : ℕ) (before : List Event) (depth line place : ℕ) (expanded : Bool) (words : List (List ℕ)) (d : Drive) →
     booted_drive (so_far_by before (so_far before) (puts (command depth line place expanded words))) ≡ Some d → (d.open_number == k) ≡ false →
     asked_by k before (command depth line place expanded words) ≡ []
 command_asks_other k before depth line place expanded words d some other =
-    ap (asked_of k (time before)) some ∙ ap (λ b. cond b (by_task first_block (time before) ∷ []) []) other
+    ap (asked_of k (time before)) some ∙ ap (λ b. cond b (by_task first_block_read (time before) ∷ []) []) other
 
 -- WHAT IS HELD OF ITS STREAM
 
@@ -151,7 +151,7 @@ session_one h k s came c = session_more h k s came (c ∷ [])
 -- the talk that goes on by this, with the task of a first block where the session is to be asked for it then
 abbrev talks_so : Hardware → ℕ → SessionOpening → Talk ReadTask → Came ReadTask → Bool → Talk ReadTask
 talks_so h k s d c b =
-    fold (talks_on (session_talker s.login) (first_word h.identity k)) d (c ∷ cond b (by_task first_block (time_of c) ∷ []) [])
+    fold (talks_on (session_talker s.login) (first_word h.identity k)) d (c ∷ cond b (by_task first_block_read (time_of c) ∷ []) [])
 
 abbrev pub heard_by : Hardware → ℕ → SessionOpening → Talk ReadTask → Came ReadTask → Talk ReadTask
 heard_by h k s d c = talks_on (session_talker s.login) (first_word h.identity k) d c
@@ -162,7 +162,7 @@ unsized_with h k s d c not_so = ap (talks_so h k s d c) not_so
 
 -- where it does, the first block is asked for then
 pub sized_with : (h : Hardware) (k : ℕ) (s : SessionOpening) (d : Talk ReadTask) (c : Came ReadTask) → is_sized_by h k s d (heard_by h k s d c) ≡ true →
-    talk_with h k s d c ≡ heard_by h k s (heard_by h k s d c) (by_task first_block (time_of c))
+    talk_with h k s d c ≡ heard_by h k s (heard_by h k s d c) (by_task first_block_read (time_of c))
 sized_with h k s d c so = ap (talks_so h k s d c) so
 
 -- so it goes on alone of a session whose command doesn't boot its disk
@@ -205,7 +205,7 @@ held_with h k s d c = by (is_sized_by h k s d (heard_by h k s d c))
     isn = first_word h.identity k
 
     by : (b : Bool) → talk_held isn (talks_so h k s d c b) ≡ talk_held isn (receives isn d c)
-    by true = held_asked (session_talker s.login) isn (heard_by h k s d c) first_block (time_of c) ∙ held_on (session_talker s.login) isn d c
+    by true = held_asked (session_talker s.login) isn (heard_by h k s d c) first_block_read (time_of c) ∙ held_on (session_talker s.login) isn d c
     by false = held_on (session_talker s.login) isn d c
 
 -- by tasks it doesn't
@@ -220,7 +220,7 @@ held_tasks h k s d (by_task task now ∷ cs) are = held_tasks h k s (talk_with h
 
 -- it is that of a first block
 abbrev pub IsFirstTask : ReadTask × ℕ → Type 0
-IsFirstTask t = t.0 ≡ first_block
+IsFirstTask t = t.0 ≡ first_block_read
 
 tasks_on : (t : Talker ReadTask) (isn : ℕ) (d : Talk ReadTask) (c : Came ReadTask) → AsksFirst c → AllByRecursion IsFirstTask d.tasks → AllByRecursion IsFirstTask (talks_on t isn d c).tasks
 tasks_on t isn d (by_segment m now) first are = are
@@ -234,7 +234,7 @@ tasks_with h k s d c first are = by (is_sized_by h k s d (heard_by h k s d c))
     heard = tasks_on (session_talker s.login) (first_word h.identity k) d c first are
 
     by : (b : Bool) → AllByRecursion IsFirstTask (talks_so h k s d c b).tasks
-    by true = tasks_on (session_talker s.login) (first_word h.identity k) (heard_by h k s d c) (by_task first_block (time_of c)) refl heard
+    by true = tasks_on (session_talker s.login) (first_word h.identity k) (heard_by h k s d c) (by_task first_block_read (time_of c)) refl heard
     by false = heard
 
 tasks_all : (h : Hardware) (k : ℕ) (s : SessionOpening) (d : Talk ReadTask) (cs : List (Came ReadTask)) → AllByRecursion AsksFirst cs → AllByRecursion IsFirstTask d.tasks → AllByRecursion IsFirstTask (fold (talk_with h k s) d cs).tasks

@@ -36,7 +36,7 @@ use Rattle.nb_imagecmd.specs.declared.outcome.ImageOutcome.{ImageOutcome}
 use Rattle.nb_imagecmd.specs.declared.outcome.ImageOutcome.TheVariants.{Done, Print, Ask, Run, Boot}
 use Rattle.nb_imagecmd.specs.declared.outcome.ScriptImage.{ScriptImage}
 use Rattle.nb_imagecmd.specs.Failures.{image_cause}
-use Rattle.nb_imagecmd.specs.Asking.{target_host, target_uri, is_file, has_long_path, asked_name, asking_of, asked_by, asked_file}
+use Rattle.nb_imagecmd.specs.Asking.{target_host, target_uri, is_file, has_long_path, asked_name, asking_of, asked_resolved, asked_file}
 use Rattle.nb_imagecmd.specs.CarryingOut.{asking_answer, select_at, execute_at, set_args_at, image_effect}
 use Rattle.nb_imagecmd.specs.Executing.{ImageAnswer, selected_with, executed_kind, executed_image, executed_selected, script_taken}
 use Rattle.nb_imagecmd.specs.Freeing.{are_all_listed, kept_list}
@@ -149,7 +149,7 @@ record IsAskingOf (r : Result UriTarget UriError) (given : Option (List ℕ)) (a
   file : is_file target ≡ true
   same : asking_of target (asked_name given target) args next ≡ asking
 
-target_of : (r : Result UriTarget UriError) (given : Option (List ℕ)) (args : List (List ℕ)) (next : After) (asking : Asking) → asked_by r given args next ≡ Ok asking → IsAskingOf r given args next asking
+target_of : (r : Result UriTarget UriError) (given : Option (List ℕ)) (args : List (List ℕ)) (next : After) (asking : Asking) → asked_resolved r given args next ≡ Ok asking → IsAskingOf r given args next asking
 target_of (Err why) given args next asking is = absurd (cc)
 target_of (Ok target) given args next asking is =
     by (is_file target) (has_long_path target || nat_lt 255 (length (asked_name given target))) refl is

@@ -18,7 +18,7 @@ use Rattle.nb_imagecmd.specs.declared.asking.Asking.{Asking}
 use Rattle.nb_imagecmd.specs.declared.error.ImageFailure.{ImageFailure}
 use Rattle.nb_imagecmd.specs.declared.error.ImageFailure.TheVariants.{NoScheme, LongPath, ManyMoves}
 use Rattle.nb_imagecmd.specs.Asking.{target_host, target_uri, is_file, has_long_path}
-use Rattle.nb_imagecmd.specs.Moving.{place_by, with_place, place_of_move, moved_file}
+use Rattle.nb_imagecmd.specs.Moving.{place_resolved, with_place, place_of_move, moved_file}
 use Rattle.nb_machine.specs.Effects.{Effect, says, asks, goes, sleeps, shuts_device, inquires, on_images, on_drives, hooks_disk, unhooks_drive, boots_drive, concludes_at_once, full_opens, next_effect, next_by_name, next_look_up, next_moved, at_host, ShownWords}
 use Rattle.nb_machine.specs.Errands.{Wanted, fetches_then, Onward, onward}
 use Rattle.nb_machine.specs.Queries.{dns_in, with_domain}
@@ -205,7 +205,7 @@ one_move asking m next is = by_asked (is_open_for asking.target m.opening) refl 
     by_file target true true file asked few resolves e = absurd (no LongPath e)
     by_file target true false file asked few resolves e = to target asked few resolves file (cc)
 
-    by_place : (r : Result UriTarget UriError) → is_open_for asking.target m.opening ≡ true → asking.moves < 5 → resolution (Some (target_uri asking.target)) m.place ≡ r → with_place asking (place_by r) ≡ Ok next → IsMove asking m next
+    by_place : (r : Result UriTarget UriError) → is_open_for asking.target m.opening ≡ true → asking.moves < 5 → resolution (Some (target_uri asking.target)) m.place ≡ r → with_place asking (place_resolved r) ≡ Ok next → IsMove asking m next
     by_place (Ok target) asked few resolves e = by_file target (is_file target) (has_long_path target) refl asked few resolves e
     by_place (Err why) asked few resolves e = absurd (no _ e)
 

@@ -10,7 +10,7 @@ use Rattle.nb_drivecmd.specs.declared.drive.Drive.{Drive}
 use Rattle.nb_drivecmd.specs.declared.outcome.Hooking.{Hooking}
 use Rattle.nb_drivecmd.specs.HookedDrives.{with_hooked, drive_numbered}
 use Rattle.nb_image.specs.Images.{ImageList}
-use Rattle.nb_tftp.specs.Blocks.{file, is_whole}
+use Rattle.nb_tftp.specs.Blocks.{file, is_whole_transfer}
 use Rattle.nb_machine.specs.Conclusions.{Conclusion, keeps, tells, fails, boots, runs_script, conclusion}
 use Rattle.nb_imagecmd.specs.declared.asking.Asking.{Asking}
 use Rattle.nb_imagecmd.specs.declared.error.ImageFailure.{ImageFailure}
@@ -203,7 +203,7 @@ abbrev pub body_of : Response → Option (List ℕ)
 body_of r = if is_body r.verdict then Some r.bytes else None
 
 abbrev pub file_of : List Received → Option (List ℕ)
-file_of received = if is_whole received then Some (file received) else None
+file_of received = if is_whole_transfer received then Some (file received) else None
 
 abbrev pub file_fetched : ℕ → List Event → Opening → Option (List ℕ)
 file_fetched k es o = if opens_web o then body_of (response_so_far k o es) else file_of (datagrams_of k es)

@@ -9,7 +9,7 @@ use Rattle.nb_dhcp.specs.declared.asker.Asker.{Asker}
 use Rattle.nb_dhcp.specs.History.{Handed, handed_body, acknowledgement_in}
 use Rattle.nb_ping.specs.Pings.{Pinged, pinged}
 use Rattle.nb_tftp.specs.Received.{Received}
-use Rattle.nb_tftp.specs.Blocks.{is_whole}
+use Rattle.nb_tftp.specs.Blocks.{is_whole_transfer}
 use Rattle.nb_command.specs.SettingAddresses.{host}
 use Rattle.nb_machine.specs.Findings.{asker_at, query_id}
 use Rattle.nb_laws.specs.Events.{Event}
@@ -50,7 +50,7 @@ has_some (m ∷ ms) = true
 -- lease, or an echo; a drive's open has none, since it goes on until it is closed or fails
 abbrev pub answers_open : Hardware → ℕ → Opening → List Received → Bool
 answers_open h k o ms =
-    if o.kind == 1 then is_whole ms
+    if o.kind == 1 then is_whole_transfer ms
     else if o.kind == 4 then is_some (address_found (lookup_by h k o) (looked_at o ms))
     else if o.kind == 5 then is_some (acknowledgement_in (asker_by h k) (handed_over ms))
     else (o.kind == 6) && has_some ms

@@ -26,7 +26,7 @@ use Rattle.nb_sans.specs.Sessions.{ReadTask, session_talker}
 use Rattle.nb_webs.specs.Webs.{NoTask}
 use Rattle.nb_tcp.specs.Messages.{outgoing_message}
 use Rattle.nb_tcp.specs.MayBeSent.{MayBeSent}
-use Rattle.nb_machine.specs.Drives.{DriveAnswer, session_answer, first_block}
+use Rattle.nb_machine.specs.Drives.{DriveAnswer, session_answer, first_block_read}
 use Rattle.nb_machine.specs.Findings.{first_word, open_words}
 use Rattle.nb_laws.specs.CommandsSoFar.{so_far, so_far_by, hooking_so_far, booted_drive}
 use Rattle.nb_laws.specs.Events.{Event, starts, hears, waits, stops, puts}
@@ -83,7 +83,7 @@ to_session (by_task task now) = by_time now
 -- the read of its first block, where a command boots the drive that is hooked on open k
 abbrev pub asked_of : ℕ → ℕ → Option Drive → List (Came ReadTask)
 asked_of k now None = []
-asked_of k now (Some d) = if d.open_number == k then by_task first_block now ∷ [] else []
+asked_of k now (Some d) = if d.open_number == k then by_task first_block_read now ∷ [] else []
 
 abbrev pub asked_by : ℕ → List Event → Out → List (Came ReadTask)
 asked_by k before (command depth line place expanded words) =
@@ -114,7 +114,7 @@ is_sized_by h k s d heard =
 
 abbrev pub first_asked : Hardware → ℕ → SessionOpening → Talk ReadTask → Came ReadTask → List (Came ReadTask)
 first_asked h k s d c =
-    if is_sized_by h k s d (talks_on (session_talker s.login) (first_word h.identity k) d c) then by_task first_block (time_of c) ∷ [] else []
+    if is_sized_by h k s d (talks_on (session_talker s.login) (first_word h.identity k) d c) then by_task first_block_read (time_of c) ∷ [] else []
 
 -- what comes to a session with that, and its talk then
 abbrev pub comes_with : Hardware → ℕ → SessionOpening → Talk ReadTask → Came ReadTask → List (Came ReadTask)

@@ -2,11 +2,11 @@
 use Rattle.std.proofs.Common.{◌≡◌, ℕ, ◌+◌, ◌<◌, true, false, List, ◌∷◌, refl, sym, ◌∙◌, arith, ltb}
 use Rattle.std.proofs.lemmas.Bool.{eq-eqb, ne_eqb, eqb-true, and_parts, not-true}
 use Rattle.std.proofs.lemmas.Bool.Decides.{nat_tests}
-use Rattle.nb_ledger.specs.GraphRun.{GraphState, OnStack, MustFree, with_stack, object_count, owed, entries}
+use Rattle.nb_ledger.specs.GraphRun.{GraphState, OnStack, MustFree, with_stack, object_count, owed, running_entries}
 use Rattle.nb_ledger.specs.Ledger.{Ledger, holds, busy, ties, unused, run_state, Agrees}
 
 -- the count of the state is what the book has and the entries on the stack
-pub count-state : (l : Ledger) (st : List OnStack) (x : ℕ) → object_count (run_state l st) x ≡ holds l x + ties l x + entries st x
+pub count-state : (l : Ledger) (st : List OnStack) (x : ℕ) → object_count (run_state l st) x ≡ holds l x + ties l x + running_entries st x
 unfolding object_count ties
 count-state l st x = refl
 
@@ -29,9 +29,9 @@ owed-unused l st x a h =
     let none : holds l x ≡ 0 = eqb-true _ _ p.0 in
     let loose : ties l x ≡ 0 = eqb-true _ _ q.0 in
     let still = not-true _ q.1 in
-    let e : ltb 0 (entries st x) ≡ false = sym (a x) ∙ still in
+    let e : ltb 0 (running_entries st x) ≡ false = sym (a x) ∙ still in
     let c = count-state l st x in
-    owed-zero _ x (let g : entries st x ≡ 0 = grind (arith, nat_tests, e) in omega (arith, c, none, loose, g))
+    owed-zero _ x (let g : running_entries st x ≡ 0 = grind (arith, nat_tests, e) in omega (arith, c, none, loose, g))
 
 -- an object that is used isn't
 pub owed-used : (l : Ledger) (st : List OnStack) (x : ℕ) → Agrees l st → unused l x ≡ false → owed x (run_state l st) ≡ run_state l st

@@ -77,17 +77,17 @@ abbrev pub links : GraphState → ℕ → ℕ
 links s x = link_count (s.port x 0) + link_count (s.port x 1) + link_count (s.port x 2) + link_count (s.port x 3)
 
 -- the running entries of an object
-abbrev pub entries : List OnStack → ℕ → ℕ
-entries [] x = 0
-entries (Running p way ∷ st) x = (if x == p.obj.0 then 1 else 0) + entries st x
-entries (MustClose p cause ∷ st) x = entries st x
-entries (MustEnter p ∷ st) x = entries st x
-entries (MustUnplug p q ∷ st) x = entries st x
-entries (MustFree y ∷ st) x = entries st x
+abbrev pub running_entries : List OnStack → ℕ → ℕ
+running_entries [] x = 0
+running_entries (Running p way ∷ st) x = (if x == p.obj.0 then 1 else 0) + running_entries st x
+running_entries (MustClose p cause ∷ st) x = running_entries st x
+running_entries (MustEnter p ∷ st) x = running_entries st x
+running_entries (MustUnplug p q ∷ st) x = running_entries st x
+running_entries (MustFree y ∷ st) x = running_entries st x
 
 -- the count of an object: its holds, its links and its running entries
 unfoldable pub object_count : GraphState → ℕ → ℕ
-object_count s x = s.holds x + links s x + entries s.stack x
+object_count s x = s.holds x + links s x + running_entries s.stack x
 
 -- s after something that x counted fell away: at 0 it has to be freed next
 unfoldable pub owed : ℕ → GraphState → GraphState

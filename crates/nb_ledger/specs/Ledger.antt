@@ -6,7 +6,7 @@ use Rattle.nb_ledger.specs.declared.port.Port.{Port}
 use Rattle.nb_ledger.specs.declared.port.PortState.{PortState}
 use Rattle.nb_ledger.specs.declared.port.PortState.TheVariants.{Open, Linked, Leaving, Closed}
 use Rattle.nb_ledger.specs.declared.object.Object.{Object}
-use Rattle.nb_ledger.specs.GraphRun.{GraphState, OnStack, entries, link_count, links}
+use Rattle.nb_ledger.specs.GraphRun.{GraphState, OnStack, running_entries, link_count, links}
 
 -- a book: how many objects were made, how many may live, and those that live, by rising serial
 pub record Ledger : Type 0 where
@@ -90,7 +90,7 @@ run_state l st = record { made = l.made; live = object_lives l; holds = holds l;
 
 -- the book's flags are those of the entries on the stack
 abbrev pub Agrees : Ledger → List OnStack → Type 0
-Agrees l st = (x : ℕ) → busy l x ≡ nat_lt 0 (entries st x)
+Agrees l st = (x : ℕ) → busy l x ≡ nat_lt 0 (running_entries st x)
 
 -- the links of an object
 unfoldable pub ties : Ledger → ℕ → ℕ

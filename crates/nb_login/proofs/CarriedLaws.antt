@@ -11,7 +11,7 @@ use Rattle.nb_login.specs.declared.step.Challenge.{Challenge}
 use Rattle.nb_login.specs.declared.step.NextRequest.{NextRequest}
 use Rattle.nb_login.specs.declared.step.NextRequest.TheVariants as ask
 use Rattle.nb_login.specs.Infos.{has_secret, asks_back, own_identifier, own_challenge}
-use Rattle.nb_login.specs.Asking.{key_text, method_names, names_keys, algorithm_keys, response_keys, back_keys, parameter_keys, request_keys, carried}
+use Rattle.nb_login.specs.Asking.{key_text, method_names, names_keys, algorithm_keys, response_keys, back_keys, parameter_keys, request_keys, carried_keys}
 use Rattle.nb_login.specs.Logins.{HasUsualNames}
 
 length-key_text : (name value : List ℕ) → length (key_text name value) ≡ length name + length value + 2
@@ -73,6 +73,6 @@ request_few i (ask.Response c) usual = response_few i c usual
 request_few i (ask.Parameters chap) usual = lit≤ tt
 request_few i (ask.Again step number) usual = lit≤ tt
 
-pub all_carried : (i : LoginInfo) (request : NextRequest) → HasUsualNames i → carried (request_keys i request) ≡ request_keys i request
+pub all_carried : (i : LoginInfo) (request : NextRequest) → HasUsualNames i → carried_keys (request_keys i request) ≡ request_keys i request
 all_carried i request usual =
     cond-true (leb (length (request_keys i request)) 8192) (request_keys i request) [] (le-leb (length (request_keys i request)) 8192 (request_few i request usual))

@@ -19,7 +19,7 @@ use Rattle.nb_login.specs.declared.step.NextRequest.{NextRequest}
 use Rattle.nb_login.specs.declared.step.NextRequest.TheVariants as ask
 use Rattle.nb_login.specs.Infos.{has_secret, asks_back, own_identifier, own_challenge}
 use Rattle.nb_login.specs.Asking.{key_text, method_names, names_keys, algorithm_keys, back_keys, response_keys, parameter_keys, request_keys}
-use Rattle.nb_login.specs.Refusals.{has_zero, zero_name}
+use Rattle.nb_login.specs.Refusals.{name_has_zero, zero_name}
 use Rattle.nb_login.specs.KeysSent.{key_line, names_lines, back_lines, response_lines, parameter_lines, request_lines}
 
 -- lines, each with the zero byte that ends it
@@ -30,12 +30,12 @@ spelled (line ∷ lines) = line ++ 0 ∷ spelled lines
 -- no line holds a zero byte
 abbrev ArePlain : List (List ℕ) → Type 0
 ArePlain [] = Unit {0}
-ArePlain (line ∷ lines) = (has_zero line ≡ false) × ArePlain lines
+ArePlain (line ∷ lines) = (name_has_zero line ≡ false) × ArePlain lines
 
-line-cut : (line rest : List ℕ) → has_zero line ≡ false → texts_between (line ++ 0 ∷ rest) ≡ line ∷ texts_between rest
+line-cut : (line rest : List ℕ) → name_has_zero line ≡ false → texts_between (line ++ 0 ∷ rest) ≡ line ∷ texts_between rest
 line-cut [] rest none = refl
 line-cut (byte ∷ line) rest none =
-    let both = or_parts (eqb byte 0) (has_zero line) none in
+    let both = or_parts (eqb byte 0) (name_has_zero line) none in
     rw both.0 (ap (λ (texts : List (List ℕ)). longer byte texts) (line-cut line rest both.1))
 
 lines-cut : (lines : List (List ℕ)) → ArePlain lines → texts_between (spelled lines) ≡ lines ++ [] ∷ []
@@ -51,13 +51,13 @@ key-alone name value = simp append_assoc
 
 -- WHICH TEXTS HOLD NO ZERO BYTE
 
-append-plain : (a b : List ℕ) → has_zero a ≡ false → has_zero b ≡ false → has_zero (a ++ b) ≡ false
+append-plain : (a b : List ℕ) → name_has_zero a ≡ false → name_has_zero b ≡ false → name_has_zero (a ++ b) ≡ false
 append-plain [] b first second = second
 append-plain (byte ∷ a) b first second =
-    let both = or_parts (eqb byte 0) (has_zero a) first in
-    or_from (eqb byte 0) (has_zero (a ++ b)) both.0 (append-plain a b both.1 second)
+    let both = or_parts (eqb byte 0) (name_has_zero a) first in
+    or_from (eqb byte 0) (name_has_zero (a ++ b)) both.0 (append-plain a b both.1 second)
 
-line-plain : (name value : List ℕ) → has_zero name ≡ false → has_zero value ≡ false → has_zero (key_line name value) ≡ false
+line-plain : (name value : List ℕ) → name_has_zero name ≡ false → name_has_zero value ≡ false → name_has_zero (key_line name value) ≡ false
 line-plain name value first second = append-plain name (61 ∷ value) first second
 
 words-bytes : (a b c d : ℕ) → AreBytes (to_be_bytes w32 a ++ to_be_bytes w32 b ++ to_be_bytes w32 c ++ to_be_bytes w32 d)
@@ -69,16 +69,16 @@ words-bytes a b c d =
 challenge-bytes : (i : LoginInfo) → AreBytes (own_challenge i)
 challenge-bytes i = words-bytes (slice_index i.words 3) (slice_index i.words 4) (slice_index i.words 5) (slice_index i.words 6)
 
-number-plain : (digits : List ℕ) → AllDigits 10 digits → has_zero digits ≡ false
+number-plain : (digits : List ℕ) → AllDigits 10 digits → name_has_zero digits ≡ false
 number-plain [] all = refl
 number-plain (digit ∷ digits) all =
     let is = digit_from_value digit all.0 in
-    or_from (eqb digit 0) (has_zero digits) (either_way (eqb digit 0) (λ on. let zero = eqb-true digit 0 on in absurd (omega arith)) (λ off. off)) (number-plain digits all.1)
+    or_from (eqb digit 0) (name_has_zero digits) (either_way (eqb digit 0) (λ on. let zero = eqb-true digit 0 on in absurd (omega arith)) (λ off. off)) (number-plain digits all.1)
 
-decimal-plain : (n : ℕ) → n < 256 → has_zero (decimal n) ≡ false
+decimal-plain : (n : ℕ) → n < 256 → name_has_zero (decimal n) ≡ false
 decimal-plain n small = number-plain (decimal n) (decimal_is_IsNumeral n (omega arith)).0.1
 
-methods-plain : (b : Bool) → has_zero (method_names b) ≡ false
+methods-plain : (b : Bool) → name_has_zero (method_names b) ≡ false
 methods-plain true = refl
 methods-plain false = refl
 
@@ -95,7 +95,7 @@ none-of false false false none = (refl, refl, refl)
 
 names-plain : (i : LoginInfo) → zero_name i ≡ None → ArePlain (names_lines i)
 names-plain i none =
-    let all = none-of (has_zero i.initiator) (has_zero i.target) (has_zero i.user) none in (
+    let all = none-of (name_has_zero i.initiator) (name_has_zero i.target) (name_has_zero i.user) none in (
       line-plain (codes "InitiatorName") i.initiator refl all.0,
       (line-plain (codes "TargetName") i.target refl all.1, (refl, (line-plain (codes "AuthMethod") (method_names (has_secret i)) refl (methods-plain (has_secret i)), tt))),
     )
@@ -134,7 +134,7 @@ back-spelled number digits false = refl
 
 response-plain : (i : LoginInfo) (c : Challenge) → zero_name i ≡ None → ArePlain (response_lines i c)
 response-plain i c none =
-    let all = none-of (has_zero i.initiator) (has_zero i.target) (has_zero i.user) none in (
+    let all = none-of (name_has_zero i.initiator) (name_has_zero i.target) (name_has_zero i.user) none in (
       line-plain (codes "CHAP_N") i.user refl all.2,
       (line-plain (codes "CHAP_R") (binary_text (chap_response c.identifier i.secret c.value)) refl (binary-plain _ (response-bytes c.identifier i.secret c.value)), back-plain i (asks_back i)),
     )

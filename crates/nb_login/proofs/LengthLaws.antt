@@ -15,8 +15,8 @@ use Rattle.nb_login.specs.declared.step.Decision.TheVariants.{Ask, Open, End}
 use Rattle.nb_login.specs.declared.step.NextRequest.TheVariants as ask
 use Rattle.nb_login.specs.Infos.{has_secret, asks_back}
 use Rattle.nb_login.specs.Asking.{step_of, step_again}
-use Rattle.nb_login.specs.LoginVerdicts.{chooses_chap, names_method, has_digest, challenge_in, answers_back, goes_astray, broken, chap_kind, ask_again, go_on, begin_chap, at_challenge, by_keys, by_response, decided}
-use Rattle.nb_login.specs.LoginHistory.{LoginEntry, last_done, counted, repeats, is_end, decided_after, IsDecidedSo, LoginMeets}
+use Rattle.nb_login.specs.LoginVerdicts.{chooses_chap, names_method, has_digest, challenge_in, answers_back, goes_astray, broken_login, chap_kind, ask_again, go_on, begin_chap, at_challenge, by_keys, by_response, decided}
+use Rattle.nb_login.specs.LoginHistory.{LoginEntry, last_done, counted_repeats, repeats, is_end, decided_after, IsDecidedSo, LoginMeets}
 use Rattle.nb_login.proofs.LoginHistoryLemmas.{last_done-append, repeats-append, each_keeps}
 
 -- how many requests with keys can stand before one that waits for this
@@ -52,15 +52,15 @@ IsShort (End reason) n len = (len ≤ 8) × (n ≤ 4)
 
 -- a decision with which one answer more is few enough
 abbrev Shortens : ℕ → ℕ → Decision → Type 0
-Shortens n len d = IsShort d (counted n d) (len + 1)
+Shortens n len d = IsShort d (counted_repeats n d) (len + 1)
 
-broken_short : (most n len rec : ℕ) → Few most n len → most ≤ 3 → Shortens n len (broken rec)
+broken_short : (most n len rec : ℕ) → Few most n len → most ≤ 3 → Shortens n len (broken_login rec)
 broken_short most n len rec few small = let a = few.answers in let b = few.again in (omega arith, b)
 
 again_short : (step : LoginStep) (rec n len : ℕ) → Few (rank step) n len → Shortens n len (ask_again rec n step)
 again_short step rec n len few =
     let a = few.answers in
-    cond_both (ltb n 4) (Ask (ask.Again step (n + 1))) (broken rec) (Shortens n len)
+    cond_both (ltb n 4) (Ask (ask.Again step (n + 1))) (broken_login rec) (Shortens n len)
     (λ on. let b = ltb-true n 4 on in let r = rank_again step in record { answers = omega arith; again = omega arith })
     (λ off. broken_short (rank step) n len rec few (rank_most step))
 
@@ -77,14 +77,14 @@ challenge_short rec n len (Some challenge) few = let a = few.answers in record {
 keys_short : (i : LoginInfo) (step : LoginStep) (rec n len : ℕ) (r : LoginResponseParts) → Few (rank step) n len → Shortens n len (by_keys i step rec n r)
 keys_short i at.Method rec n len r few =
     let a = few.answers in
-    cond_both (chooses_chap r.keys) (begin_chap i) (cond (asks_back i && (r.transit || names_method r.keys)) (broken rec) (go_on rec n at.Method No r)) (Shortens n len)
+    cond_both (chooses_chap r.keys) (begin_chap i) (cond (asks_back i && (r.transit || names_method r.keys)) (broken_login rec) (go_on rec n at.Method No r)) (Shortens n len)
     (λ chap. cond_both (has_secret i) (Ask ask.Algorithm) (End (reason.Plain plain.NoSecret)) (Shortens n len)
     (λ has. record { answers = omega arith; again = few.again }) (λ none. let b = few.again in (omega arith, b)))
-    (λ other. cond_both (asks_back i && (r.transit || names_method r.keys)) (broken rec) (go_on rec n at.Method No r) (Shortens n len)
+    (λ other. cond_both (asks_back i && (r.transit || names_method r.keys)) (broken_login rec) (go_on rec n at.Method No r) (Shortens n len)
     (λ bad. broken_short 0 n len rec few (omega arith)) (λ good. onward_short at.Method rec n len No r few (omega arith)))
 keys_short i at.Challenge rec n len r few = challenge_short rec n len (challenge_in r.keys) few
 keys_short i at.Response rec n len r few =
-    cond_both (asks_back i && not (answers_back i r.keys)) (broken rec) (go_on rec n at.Response (chap_kind i) r) (Shortens n len)
+    cond_both (asks_back i && not (answers_back i r.keys)) (broken_login rec) (go_on rec n at.Response (chap_kind i) r) (Shortens n len)
     (λ bad. broken_short 2 n len rec few (omega arith)) (λ good. onward_short at.Response rec n len (chap_kind i) r few (omega arith))
 keys_short i at.Identified rec n len r few = onward_short at.Identified rec n len (chap_kind i) r few (omega arith)
 keys_short i (at.Parameters chap) rec n len r few =
@@ -94,8 +94,8 @@ keys_short i (at.Parameters chap) rec n len r few =
 response_short : (i : LoginInfo) (step : LoginStep) (rec n len : ℕ) (r : LoginResponseParts) → Few (rank step) n len → Shortens n len (by_response i step rec n r)
 unfolding by_response
 response_short i step rec n len r few =
-    cond_both (eqb r.class 0) (cond (goes_astray step r || has_digest r.keys) (broken rec) (by_keys i step rec n r)) (End (reason.Refused rec (r.class * 256 + r.detail))) (Shortens n len)
-    (λ ok. cond_both (goes_astray step r || has_digest r.keys) (broken rec) (by_keys i step rec n r) (Shortens n len)
+    cond_both (eqb r.class 0) (cond (goes_astray step r || has_digest r.keys) (broken_login rec) (by_keys i step rec n r)) (End (reason.Refused rec (r.class * 256 + r.detail))) (Shortens n len)
+    (λ ok. cond_both (goes_astray step r || has_digest r.keys) (broken_login rec) (by_keys i step rec n r) (Shortens n len)
     (λ bad. broken_short (rank step) n len rec few (rank_most step)) (λ good. keys_short i step rec n len r few))
     (λ refused. broken_short (rank step) n len rec few (rank_most step))
 

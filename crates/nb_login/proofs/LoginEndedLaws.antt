@@ -15,7 +15,7 @@ use Rattle.nb_login.specs.declared.step.Decision.TheVariants.{Ask, Open, End}
 use Rattle.nb_login.specs.declared.step.NextRequest.{NextRequest}
 use Rattle.nb_login.specs.Infos.{has_secret, asks_back}
 use Rattle.nb_login.specs.Asking.{step_of}
-use Rattle.nb_login.specs.LoginVerdicts.{chooses_chap, names_method, has_digest, answers_back, goes_astray, broken, go_on, by_keys, by_response, decided}
+use Rattle.nb_login.specs.LoginVerdicts.{chooses_chap, names_method, has_digest, answers_back, goes_astray, broken_login, go_on, by_keys, by_response, decided}
 use Rattle.nb_login.specs.LoginHistory.{LoginEntry, last_done, login_ended, repeats, expected, end_given, is_end, decided_after, decided_at, IsDecidedSo, LoginMeets}
 use Rattle.nb_login.specs.LoginEndings.{waits_for, WaitsFor, IsSuccess, CallsForNothing, IsBreach, by_kind, by_stage, by_digest, by_method, by_challenge, by_response as by_own_response, by_patience, LoginEnding, by_parameters, by_status, by_no_secret, by_breach}
 use Rattle.nb_login.specs.LoginStands.{session_after, session_opened}
@@ -40,7 +40,7 @@ decided-by i h e request a out reads =
 
 -- what a Login Response comes to whose status is success
 abbrev on_success : LoginInfo → LoginStep → ℕ → ℕ → LoginResponseParts → Decision
-on_success i step rec n r = cond (goes_astray step r || has_digest r.keys) (broken rec) (by_keys i step rec n r)
+on_success i step rec n r = cond (goes_astray step r || has_digest r.keys) (broken_login rec) (by_keys i step rec n r)
 
 success-decides : (i : LoginInfo) (step : LoginStep) (rec n : ℕ) (r : LoginResponseParts) → r.class ≡ 0 → by_response i step rec n r ≡ on_success i step rec n r
 unfolding by_response
@@ -55,14 +55,14 @@ decided-success i h e step r out waits is =
     ∙ ap (λ (s : LoginStep). on_success i s e.came.rec (repeats h) r) same
 
 -- it is broken whatever else is so
-broken-anyway : (b : Bool) (rec : ℕ) (d : Decision) → d ≡ broken rec → cond b (broken rec) d ≡ broken rec
+broken-anyway : (b : Bool) (rec : ℕ) (d : Decision) → d ≡ broken_login rec → cond b (broken_login rec) d ≡ broken_login rec
 broken-anyway true rec d is = refl
 broken-anyway false rec d is = is
 
-stays-broken : (rec n : ℕ) (step : LoginStep) (chap : Chap) (r : LoginResponseParts) → r.transit ≡ false → 4 ≤ n → go_on rec n step chap r ≡ broken rec
+stays-broken : (rec n : ℕ) (step : LoginStep) (chap : Chap) (r : LoginResponseParts) → r.transit ≡ false → 4 ≤ n → go_on rec n step chap r ≡ broken_login rec
 stays-broken rec n step chap r stays many = rw (stays, le-ltb n 4 many) refl
 
-patience-broken : (i : LoginInfo) (step : LoginStep) (rec n : ℕ) (r : LoginResponseParts) → CallsForNothing step r → r.transit ≡ false → 4 ≤ n → by_keys i step rec n r ≡ broken rec
+patience-broken : (i : LoginInfo) (step : LoginStep) (rec n : ℕ) (r : LoginResponseParts) → CallsForNothing step r → r.transit ≡ false → 4 ≤ n → by_keys i step rec n r ≡ broken_login rec
 patience-broken i at.Method rec n r nothing stays many =
     rw nothing (broken-anyway (asks_back i && (r.transit || names_method r.keys)) rec _ (stays-broken rec n at.Method _ r stays many))
 patience-broken i at.Challenge rec n r nothing stays many = absurd nothing
@@ -71,14 +71,14 @@ patience-broken i at.Response rec n r nothing stays many =
 patience-broken i at.Identified rec n r nothing stays many = stays-broken rec n at.Identified _ r stays many
 patience-broken i (at.Parameters chap) rec n r nothing stays many = rw (stays, le-ltb n 4 many) refl
 
-kind-broken : (i : LoginInfo) (step : LoginStep) (rec n : ℕ) (a : AnswerParts) → ((r : LoginResponseParts) → a ≡ login r → ⊥) → decided i step rec n a ≡ broken rec
+kind-broken : (i : LoginInfo) (step : LoginStep) (rec n : ℕ) (a : AnswerParts) → ((r : LoginResponseParts) → a ≡ login r → ⊥) → decided i step rec n a ≡ broken_login rec
 kind-broken i step rec n (login r) other_kind = absurd (other_kind r refl)
 kind-broken i step rec n (scsi s) other_kind = refl
 kind-broken i step rec n (data_in d) other_kind = refl
 kind-broken i step rec n (nop_in x) other_kind = refl
 kind-broken i step rec n other other_kind = refl
 
-breach-decides : (i : LoginInfo) (h : List LoginEntry) (e : LoginEntry) → IsOut (last_done h) → IsBreach i h e → decided_at i h e.came ≡ broken e.came.rec
+breach-decides : (i : LoginInfo) (h : List LoginEntry) (e : LoginEntry) → IsOut (last_done h) → IsBreach i h e → decided_at i h e.came ≡ broken_login e.came.rec
 breach-decides i h e out (by_kind other_kind) =
     decided-by i h e out.0 (answer_read e.came.pdu) out.1 refl ∙ kind-broken i (step_of out.0) e.came.rec (repeats h) (answer_read e.came.pdu) other_kind
 breach-decides i h e out (by_stage step r waits is astray) =

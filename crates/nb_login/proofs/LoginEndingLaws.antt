@@ -19,7 +19,7 @@ use Rattle.nb_terms.specs.declared.reason.Plain.TheVariants as plain
 use Rattle.nb_terms.specs.declared.reason.Reason.TheVariants as reason
 use Rattle.nb_login.specs.Infos.{has_secret, asks_back}
 use Rattle.nb_login.specs.Asking.{step_of}
-use Rattle.nb_login.specs.LoginVerdicts.{chooses_chap, names_method, has_digest, challenge_in, answers_back, goes_astray, broken, chap_kind, ask_again, go_on, begin_chap, at_method, at_challenge, at_response, by_keys, by_response, decided}
+use Rattle.nb_login.specs.LoginVerdicts.{chooses_chap, names_method, has_digest, challenge_in, answers_back, goes_astray, broken_login, chap_kind, ask_again, go_on, begin_chap, at_method, at_challenge, at_response, by_keys, by_response, decided}
 use Rattle.nb_login.specs.LoginHistory.{LoginEntry, last_done, repeats, end_given, is_end, decided_after, decided_at, IsDecidedSo, LoginMeets}
 use Rattle.nb_login.specs.LoginEndings.{login_ok, waits_for, WaitsFor, IsSuccess, CallsForNothing, IsBreach, by_kind, by_stage, by_digest, by_method, by_challenge, by_response as by_own_response, by_patience, LoginEnding, by_parameters, by_status, by_no_secret, by_breach}
 use Rattle.nb_login.proofs.LoginHistoryLemmas.{EachAnswer-at}
@@ -30,13 +30,13 @@ Ends i before e (Ask request) = Unit {0}
 Ends i before e (Open chap) = LoginEnding i before e login_ok
 Ends i before e (End reason) = LoginEnding i before e (as_cause reason)
 
-breach : (i : LoginInfo) (before : List LoginEntry) (e : LoginEntry) → IsBreach i before e → Ends i before e (broken e.came.rec)
+breach : (i : LoginInfo) (before : List LoginEntry) (e : LoginEntry) → IsBreach i before e → Ends i before e (broken_login e.came.rec)
 breach i before e is = by_breach is refl
 
 again_ends : (i : LoginInfo) (before : List LoginEntry) (e : LoginEntry) (step : LoginStep) (r : LoginResponseParts) → WaitsFor before step → IsSuccess e r → CallsForNothing step r → r.transit ≡ false
     → Ends i before e (ask_again e.came.rec (repeats before) step)
 again_ends i before e step r waits is nothing stays =
-    cond_both (ltb (repeats before) 4) (Ask (ask.Again step (repeats before + 1))) (broken e.came.rec) (Ends i before e)
+    cond_both (ltb (repeats before) 4) (Ask (ask.Again step (repeats before + 1))) (broken_login e.came.rec) (Ends i before e)
     (λ on. tt) (λ off. breach i before e (by_patience step r waits is nothing stays (ltb-false (repeats before) 4 off)))
 
 onward_ends : (i : LoginInfo) (before : List LoginEntry) (e : LoginEntry) (step : LoginStep) (chap : Chap) (r : LoginResponseParts) → WaitsFor before step → IsSuccess e r → CallsForNothing step r
@@ -49,9 +49,9 @@ method_ends : (i : LoginInfo) (before : List LoginEntry) (e : LoginEntry) (r : L
     → Ends i before e (at_method i e.came.rec (repeats before) r)
 method_ends i before e r waits is fits bare =
     cond_both (chooses_chap r.keys) (begin_chap i)
-    (cond (asks_back i && (r.transit || names_method r.keys)) (broken e.came.rec) (go_on e.came.rec (repeats before) at.Method No r)) (Ends i before e)
+    (cond (asks_back i && (r.transit || names_method r.keys)) (broken_login e.came.rec) (go_on e.came.rec (repeats before) at.Method No r)) (Ends i before e)
     (λ chap. cond_both (has_secret i) (Ask ask.Algorithm) (End (reason.Plain plain.NoSecret)) (Ends i before e) (λ has. tt) (λ none. by_no_secret r waits is chap fits bare none refl))
-    (λ other. cond_both (asks_back i && (r.transit || names_method r.keys)) (broken e.came.rec) (go_on e.came.rec (repeats before) at.Method No r) (Ends i before e)
+    (λ other. cond_both (asks_back i && (r.transit || names_method r.keys)) (broken_login e.came.rec) (go_on e.came.rec (repeats before) at.Method No r) (Ends i before e)
     (λ bad. let parts = and_parts (asks_back i) (r.transit || names_method r.keys) bad in breach i before e (by_method r waits is parts.0 other parts.1))
     (λ good. onward_ends i before e at.Method No r waits is other))
 
@@ -61,7 +61,7 @@ challenge_ends i before e r None none waits is = breach i before e (by_challenge
 
 response_ends : (i : LoginInfo) (before : List LoginEntry) (e : LoginEntry) (r : LoginResponseParts) → WaitsFor before at.Response → IsSuccess e r → Ends i before e (at_response i e.came.rec (repeats before) r)
 response_ends i before e r waits is =
-    cond_both (asks_back i && not (answers_back i r.keys)) (broken e.came.rec) (go_on e.came.rec (repeats before) at.Response (chap_kind i) r) (Ends i before e)
+    cond_both (asks_back i && not (answers_back i r.keys)) (broken_login e.came.rec) (go_on e.came.rec (repeats before) at.Response (chap_kind i) r) (Ends i before e)
     (λ bad. let parts = and_parts (asks_back i) (not (answers_back i r.keys)) bad in breach i before e (by_own_response r waits is parts.0 (not-true (answers_back i r.keys) parts.1)))
     (λ good. onward_ends i before e at.Response (chap_kind i) r waits is tt)
 
@@ -80,11 +80,11 @@ response_read_ends : (i : LoginInfo) (before : List LoginEntry) (e : LoginEntry)
 unfolding by_response
 response_read_ends i before e step r waits reads =
     cond_both (eqb r.class 0)
-    (cond (goes_astray step r || has_digest r.keys) (broken e.came.rec) (by_keys i step e.came.rec (repeats before) r))
+    (cond (goes_astray step r || has_digest r.keys) (broken_login e.came.rec) (by_keys i step e.came.rec (repeats before) r))
     (End (reason.Refused e.came.rec (r.class * 256 + r.detail))) (Ends i before e)
     (λ ok.
     let is : IsSuccess e r = record { reads = reads; class = eqb-true r.class 0 ok } in
-    cond_both (goes_astray step r || has_digest r.keys) (broken e.came.rec) (by_keys i step e.came.rec (repeats before) r) (Ends i before e)
+    cond_both (goes_astray step r || has_digest r.keys) (broken_login e.came.rec) (by_keys i step e.came.rec (repeats before) r) (Ends i before e)
     (λ bad. ⊎_elim (λ astray. breach i before e (by_stage step r waits is astray)) (λ digest. breach i before e (by_digest r is digest)) (or_cases (goes_astray step r) (has_digest r.keys) bad))
     (λ good. let parts = or_parts (goes_astray step r) (has_digest r.keys) good in keys_end i before e step r waits is parts.0 parts.1))
     (λ refused. by_status r reads (eqb-false r.class 0 refused) refl)

@@ -5,13 +5,13 @@ use Rattle.std.proofs.lemmas.List.Sums.{fold-append}
 use Rattle.nb_login.specs.declared.step.Decision.{Decision}
 use Rattle.nb_login.specs.declared.step.Decision.TheVariants.{Ask}
 use Rattle.nb_login.specs.declared.step.NextRequest.TheVariants as ask
-use Rattle.nb_login.specs.LoginHistory.{LoginEntry, last_done, counted, repeats, expected_of, expected, EachAnswer}
+use Rattle.nb_login.specs.LoginHistory.{LoginEntry, last_done, counted_repeats, repeats, expected_of, expected, EachAnswer}
 
 pub last_done-append : (h : List LoginEntry) (e : LoginEntry) → last_done (h ++ e ∷ []) ≡ e.does
 last_done-append h e = fold-append (λ (d : Decision) (x : LoginEntry). x.does) (Ask ask.Names) h (e ∷ [])
 
-pub repeats-append : (h : List LoginEntry) (e : LoginEntry) → repeats (h ++ e ∷ []) ≡ counted (repeats h) e.does
-repeats-append h e = fold-append (λ n (x : LoginEntry). counted n x.does) 0 h (e ∷ [])
+pub repeats-append : (h : List LoginEntry) (e : LoginEntry) → repeats (h ++ e ∷ []) ≡ counted_repeats (repeats h) e.does
+repeats-append h e = fold-append (λ n (x : LoginEntry). counted_repeats n x.does) 0 h (e ∷ [])
 
 pub expected-append : (h : List LoginEntry) (e : LoginEntry) → expected (h ++ e ∷ []) ≡ expected_of e.came
 expected-append h e = fold-append (λ (n : ℕ) (x : LoginEntry). expected_of x.came) 0 h (e ∷ [])

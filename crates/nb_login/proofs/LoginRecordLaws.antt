@@ -20,8 +20,8 @@ use Rattle.nb_login.specs.declared.step.Decision.{Decision}
 use Rattle.nb_login.specs.declared.step.Decision.TheVariants.{Ask, Open, End}
 use Rattle.nb_login.specs.Infos.{asks_back}
 use Rattle.nb_login.specs.Asking.{step_of, login_text}
-use Rattle.nb_login.specs.LoginVerdicts.{chooses_chap, names_method, has_digest, challenge_in, answers_back, goes_astray, broken, chap_kind, ask_again, go_on, begin_chap, at_method, at_challenge, at_response, by_keys, by_response, decided}
-use Rattle.nb_login.specs.LoginHistory.{PduCame, LoginEntry, login_entry, last_done, counted, repeats, expected_by, expected, text_put, end_given, is_end, login_ended, decided_after, decided_at}
+use Rattle.nb_login.specs.LoginVerdicts.{chooses_chap, names_method, has_digest, challenge_in, answers_back, goes_astray, broken_login, chap_kind, ask_again, go_on, begin_chap, at_method, at_challenge, at_response, by_keys, by_response, decided}
+use Rattle.nb_login.specs.LoginHistory.{PduCame, LoginEntry, login_entry, last_done, counted_repeats, repeats, expected_by, expected, text_put, end_given, is_end, login_ended, decided_after, decided_at}
 use Rattle.nb_login.specs.LoginStands.{session_after, session_opened}
 use Rattle.nb_login.specs.Logins.{after_came, login_history, text_of_entry}
 use Rattle.nb_login.specs.LoginRecords.{pdus_alone, AreAlikeLogins}
@@ -59,7 +59,7 @@ module _ (i : LoginInfo) (m n : ℕ) where
   method_alike : (count : ℕ) (r : LoginResponseParts) → Alike (at_method i m count r) (at_method i n count r)
   method_alike count r =
       by_test (chooses_chap r.keys) _ _ _ _ (alike (begin_chap i))
-      (by_test (asks_back i && (r.transit || names_method r.keys)) (broken m) (broken n) (go_on m count at.Method No r) (go_on n count at.Method No r) tt (onward_alike count at.Method No r))
+      (by_test (asks_back i && (r.transit || names_method r.keys)) (broken_login m) (broken_login n) (go_on m count at.Method No r) (go_on n count at.Method No r) tt (onward_alike count at.Method No r))
 
   challenge_alike : (c : Option Challenge) → Alike (at_challenge m c) (at_challenge n c)
   challenge_alike None = tt
@@ -67,7 +67,7 @@ module _ (i : LoginInfo) (m n : ℕ) where
 
   response_alike : (count : ℕ) (r : LoginResponseParts) → Alike (at_response i m count r) (at_response i n count r)
   response_alike count r =
-      by_test (asks_back i && not (answers_back i r.keys)) (broken m) (broken n) (go_on m count at.Response (chap_kind i) r) (go_on n count at.Response (chap_kind i) r) tt (onward_alike count at.Response (chap_kind i) r)
+      by_test (asks_back i && not (answers_back i r.keys)) (broken_login m) (broken_login n) (go_on m count at.Response (chap_kind i) r) (go_on n count at.Response (chap_kind i) r) tt (onward_alike count at.Response (chap_kind i) r)
 
   keys_alike : (step : LoginStep) (count : ℕ) (r : LoginResponseParts) → Alike (by_keys i step m count r) (by_keys i step n count r)
   keys_alike at.Method count r = method_alike count r
@@ -79,7 +79,7 @@ module _ (i : LoginInfo) (m n : ℕ) where
   by_response_alike : (step : LoginStep) (count : ℕ) (r : LoginResponseParts) → Alike (by_response i step m count r) (by_response i step n count r)
   unfolding by_response
   by_response_alike step count r =
-      by_test (eqb r.class 0) _ _ _ _ (by_test (goes_astray step r || has_digest r.keys) (broken m) (broken n) (by_keys i step m count r) (by_keys i step n count r) tt (keys_alike step count r)) tt
+      by_test (eqb r.class 0) _ _ _ _ (by_test (goes_astray step r || has_digest r.keys) (broken_login m) (broken_login n) (by_keys i step m count r) (by_keys i step n count r) tt (keys_alike step count r)) tt
 
   decided_alike : (step : LoginStep) (count : ℕ) (a : AnswerParts) → Alike (decided i step m count a) (decided i step n count a)
   decided_alike step count (login r) = by_response_alike step count r
@@ -101,8 +101,8 @@ same_end (End a) (Ask b) is = absurd is
 same_end (End a) (Open b) is = absurd is
 same_end (End a) (End b) is = refl
 
-same_count : (n : ℕ) (d e : Decision) → Alike d e → counted n d ≡ counted n e
-same_count n (Ask a) (Ask b) is = ap (λ (x : NextRequest). counted n (Ask x)) is
+same_count : (n : ℕ) (d e : Decision) → Alike d e → counted_repeats n d ≡ counted_repeats n e
+same_count n (Ask a) (Ask b) is = ap (λ (x : NextRequest). counted_repeats n (Ask x)) is
 same_count n (Ask a) (Open b) is = absurd is
 same_count n (Ask a) (End b) is = absurd is
 same_count n (Open a) (Ask b) is = absurd is
@@ -180,7 +180,7 @@ module _ (i : LoginInfo) (h k : List LoginEntry) (a : AlikeSoFar i h k) (m n : P
         count = length-append h (e ∷ []) ∙ ap (λ c. c + 1) a.count ∙ sym (length-append k (f ∷ []));
         last = subst (λ (d : Decision). Alike d (last_done (k ++ login_entry n (decided_at i k n) ∷ []))) (sym (last_done-append h e))
             (subst (λ (d : Decision). Alike (decided_at i h m) d) (sym (last_done-append k f)) does_alike);
-        repeated = repeats-append h e ∙ ap (λ c. counted c (decided_at i h m)) a.repeated ∙ same_count (repeats k) (decided_at i h m) (decided_at i k n) does_alike ∙ sym (repeats-append k f);
+        repeated = repeats-append h e ∙ ap (λ c. counted_repeats c (decided_at i h m)) a.repeated ∙ same_count (repeats k) (decided_at i h m) (decided_at i k n) does_alike ∙ sym (repeats-append k f);
         expects = expected-append h e ∙ ap (λ (p : PduParts). expected_by (answer_read p)) same ∙ sym (expected-append k f);
       }
 

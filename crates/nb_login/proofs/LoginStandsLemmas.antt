@@ -11,8 +11,8 @@ use Rattle.nb_login.specs.declared.state.State.TheVariants.{Negotiating, Opened,
 use Rattle.nb_login.specs.declared.state.Negotiation.{Negotiation}
 use Rattle.nb_login.specs.declared.state.Next.{Next}
 use Rattle.nb_login.specs.Asking.{step_of}
-use Rattle.nb_login.specs.LoginHistory.{PduCame, LoginEntry, login_entry, last_done, repeats, counted, expected, expected_of, text_put, end_given, login_ending, is_end, login_ended, decided_after, decided_at, IsDecidedSo}
-use Rattle.nb_login.specs.LoginStands.{state_after, state_of, LoginStands, decided_by, TakesPdu, next_of, state_by, text_by, end_by, FollowsFrom, is_negotiating, IsDone, session_after, session_opened, session_held, after_handing}
+use Rattle.nb_login.specs.LoginHistory.{PduCame, LoginEntry, login_entry, last_done, repeats, counted_repeats, expected, expected_of, text_put, end_given, login_ending, is_end, login_ended, decided_after, decided_at, IsDecidedSo}
+use Rattle.nb_login.specs.LoginStands.{state_after, login_state_of, LoginStands, decided_by, TakesPdu, next_of_decision, state_by, text_by, end_by_next, FollowsFrom, is_negotiating, IsDone, session_after, session_opened, session_held, after_handing}
 use Rattle.nb_login.proofs.LoginHistoryLemmas.{last_done-append, repeats-append, expected-append, EachAnswer-append}
 
 -- what a call comes to that takes one answer more
@@ -22,12 +22,12 @@ pub record GoesOn (i : LoginInfo) (new : State) (h : List LoginEntry) (m : PduCa
   pub ends : acts ≡ login_ending (end_given (decided_at i h m))
 
 -- where one more answer leaves a login
-state_later : (i : LoginInfo) (h : List LoginEntry) (m : PduCame) (does : Decision) → state_of i (h ++ login_entry m does ∷ []) ≡ state_after i (counted (repeats h) does) (expected_of m) does
+state_later : (i : LoginInfo) (h : List LoginEntry) (m : PduCame) (does : Decision) → login_state_of i (h ++ login_entry m does ∷ []) ≡ state_after i (counted_repeats (repeats h) does) (expected_of m) does
 state_later i h m does =
     let e = login_entry m does in
     ap (λ n. state_after i n (expected (h ++ e ∷ [])) (last_done (h ++ e ∷ []))) (repeats-append h e)
-    ∙ ap (λ sn. state_after i (counted (repeats h) does) sn (last_done (h ++ e ∷ []))) (expected-append h e)
-    ∙ ap (λ d. state_after i (counted (repeats h) does) (expected_of m) d) (last_done-append h e)
+    ∙ ap (λ sn. state_after i (counted_repeats (repeats h) does) sn (last_done (h ++ e ∷ []))) (expected-append h e)
+    ∙ ap (λ d. state_after i (counted_repeats (repeats h) does) (expected_of m) d) (last_done-append h e)
 
 abbrev at_work : LoginInfo → List LoginEntry → Decision → Negotiation → Type 0
 at_work i h (Ask request) n = n ≡ record { info = i; step = step_of request; repeats = repeats h }
@@ -40,13 +40,13 @@ came_on : (i : LoginInfo) (s new : State) (h : List LoginEntry) (m : PduCame) (t
 came_on i s new h m text acts n stands open_yet same its count comes =
     let does = decided_at i h m in
     let put : text ≡ text_put n.info (expected_of m) does = comes.put ∙ ap (text_put n.info (expected_of m)) (sym same) in
-    let left : new ≡ state_after n.info (counted n.repeats does) (expected_of m) does =
-    comes.state ∙ ap (λ d. state_after n.info (counted n.repeats d) (expected_of m) d) (sym same) in
+    let left : new ≡ state_after n.info (counted_repeats n.repeats does) (expected_of m) does =
+    comes.state ∙ ap (λ d. state_after n.info (counted_repeats n.repeats d) (expected_of m) d) (sym same) in
     record {
       stands = record {
         meets = record { answers = EachAnswer-append (IsDecidedSo i) [] h (login_entry m does) stands.meets.answers (record { open_yet = open_yet; so = refl }) };
-        left = left ∙ ap (λ j. state_after j (counted n.repeats does) (expected_of m) does) its
-            ∙ ap (λ k. state_after i (counted k does) (expected_of m) does) count ∙ sym (state_later i h m does);
+        left = left ∙ ap (λ j. state_after j (counted_repeats n.repeats does) (expected_of m) does) its
+            ∙ ap (λ k. state_after i (counted_repeats k does) (expected_of m) does) count ∙ sym (state_later i h m does);
       };
       put = put ∙ ap (λ j. text_put j (expected_of m) does) its;
       ends = comes.ends ∙ ap (λ d. login_ending (end_given d)) (sym same);
@@ -115,7 +115,7 @@ handed_none Over none = refl
 
 -- what was made ready and followed is what the answer comes to
 pub follows : (n : Negotiation) (m : PduCame) (d : Decision) (x : Next) (new : State) (text : Option (List ℕ)) (acts : Acts)
-    → x ≡ next_of n (expected_of m) d → FollowsFrom n x new text acts → TakesPdu n m d new text acts
-follows n m (Ask request) x new text acts is f = record { state = f.state ∙ ap (state_by n) is; put = f.put ∙ ap text_by is; ends = f.ends ∙ ap (λ y. login_ending (end_by y)) is }
-follows n m (Open chap) x new text acts is f = record { state = f.state ∙ ap (state_by n) is; put = f.put ∙ ap text_by is; ends = f.ends ∙ ap (λ y. login_ending (end_by y)) is }
-follows n m (End reason) x new text acts is f = record { state = f.state ∙ ap (state_by n) is; put = f.put ∙ ap text_by is; ends = f.ends ∙ ap (λ y. login_ending (end_by y)) is }
+    → x ≡ next_of_decision n (expected_of m) d → FollowsFrom n x new text acts → TakesPdu n m d new text acts
+follows n m (Ask request) x new text acts is f = record { state = f.state ∙ ap (state_by n) is; put = f.put ∙ ap text_by is; ends = f.ends ∙ ap (λ y. login_ending (end_by_next y)) is }
+follows n m (Open chap) x new text acts is f = record { state = f.state ∙ ap (state_by n) is; put = f.put ∙ ap text_by is; ends = f.ends ∙ ap (λ y. login_ending (end_by_next y)) is }
+follows n m (End reason) x new text acts is f = record { state = f.state ∙ ap (state_by n) is; put = f.put ∙ ap text_by is; ends = f.ends ∙ ap (λ y. login_ending (end_by_next y)) is }

@@ -9,7 +9,7 @@ use Rattle.nb_login.specs.declared.step.NextRequest.{NextRequest}
 use Rattle.nb_login.specs.declared.step.NextRequest.TheVariants as ask
 use Rattle.nb_login.specs.declared.step.Decision.{Decision}
 use Rattle.nb_login.specs.declared.step.Decision.TheVariants.{Ask, Open, End}
-use Rattle.nb_login.specs.Asking.{request_keys, carried, login_text}
+use Rattle.nb_login.specs.Asking.{request_keys, carried_keys, login_text}
 use Rattle.nb_login.specs.LoginHistory.{PduCame, LoginEntry, expected_by, expected_of, text_put}
 use Rattle.nb_login.specs.Logins.{login_history, text_of_entry, login_said}
 use Rattle.nb_login.specs.LoginTexts.{IsOneRequestText, AreRequestTexts}
@@ -23,7 +23,7 @@ fits (nop_in n) = omega arith
 fits other = omega arith
 
 one_request : (i : LoginInfo) (request : NextRequest) (sn : ℕ) → sn < 2 ^ 32 → IsOneRequestText (login_text i request sn)
-one_request i request sn small = record { exp_stat_sn = sn; keys = carried (request_keys i request); is = is_request i request sn small }
+one_request i request sn small = record { exp_stat_sn = sn; keys = carried_keys (request_keys i request); is = is_request i request sn small }
 
 joined_with : (one two : List ℕ) → AreRequestTexts one → AreRequestTexts two → AreRequestTexts (one ++ two)
 joined_with one two a b = record {

@@ -19,7 +19,7 @@ use Rattle.nb_login.specs.declared.step.NextRequest.{NextRequest}
 use Rattle.nb_login.specs.declared.step.NextRequest.TheVariants as ask
 use Rattle.nb_login.specs.Infos.{has_secret, asks_back}
 use Rattle.nb_login.specs.Asking.{step_of, step_again}
-use Rattle.nb_login.specs.LoginVerdicts.{chooses_chap, names_method, has_digest, challenge_in, answers_back, goes_astray, broken, chap_kind, ask_again, go_on, begin_chap, at_method, at_challenge, at_response, by_keys, by_response, decided}
+use Rattle.nb_login.specs.LoginVerdicts.{chooses_chap, names_method, has_digest, challenge_in, answers_back, goes_astray, broken_login, chap_kind, ask_again, go_on, begin_chap, at_method, at_challenge, at_response, by_keys, by_response, decided}
 use Rattle.nb_login.specs.LoginHistory.{LoginEntry, last_done, repeats, expected, is_end, decided_after, IsDecidedSo, LoginMeets}
 use Rattle.nb_login.specs.LoginStands.{session_after, session_opened}
 use Rattle.nb_login.specs.LoginEndings.{HasProof}
@@ -48,7 +48,7 @@ Passes i step r d = has_past d ≡ true → Past i step r
 
 again_passes : (i : LoginInfo) (step : LoginStep) (rec n : ℕ) (r : LoginResponseParts) → (is_past (step_again step) ≡ true → Past i step r) → Passes i step r (ask_again rec n step)
 again_passes i step rec n r from =
-    cond_both (ltb n 4) (Ask (ask.Again step (n + 1))) (broken rec) (Passes i step r) (λ on is. from is) (λ off is. absurd (false≢true is))
+    cond_both (ltb n 4) (Ask (ask.Again step (n + 1))) (broken_login rec) (Passes i step r) (λ on is. from is) (λ off is. absurd (false≢true is))
 
 onward_passes : (i : LoginInfo) (step : LoginStep) (rec n : ℕ) (chap : Chap) (r : LoginResponseParts) → (r.transit ≡ true → Past i step r) → (is_past (step_again step) ≡ true → Past i step r)
     → Passes i step r (go_on rec n step chap r)
@@ -61,9 +61,9 @@ no_way a b c p q off = ⊎_elim (λ x. both_ways a x p) (λ x. both_ways b (or_p
 
 method_passes : (i : LoginInfo) (rec n : ℕ) (r : LoginResponseParts) → asks_back i ≡ true → Passes i at.Method r (at_method i rec n r)
 method_passes i rec n r back =
-    cond_both (chooses_chap r.keys) (begin_chap i) (cond (asks_back i && (r.transit || names_method r.keys)) (broken rec) (go_on rec n at.Method No r)) (Passes i at.Method r)
+    cond_both (chooses_chap r.keys) (begin_chap i) (cond (asks_back i && (r.transit || names_method r.keys)) (broken_login rec) (go_on rec n at.Method No r)) (Passes i at.Method r)
     (λ chap. cond_both (has_secret i) (Ask ask.Algorithm) (End (reason.Plain plain.NoSecret)) (Passes i at.Method r) (λ has is. absurd (false≢true is)) (λ none is. absurd (false≢true is)))
-    (λ other. cond_both (asks_back i && (r.transit || names_method r.keys)) (broken rec) (go_on rec n at.Method No r) (Passes i at.Method r)
+    (λ other. cond_both (asks_back i && (r.transit || names_method r.keys)) (broken_login rec) (go_on rec n at.Method No r) (Passes i at.Method r)
     (λ bad is. absurd (false≢true is))
     (λ good. onward_passes i at.Method rec n No r (λ goes. absurd (no_way (asks_back i) r.transit (names_method r.keys) back goes good)) (λ is. absurd (false≢true is))))
 
@@ -76,7 +76,7 @@ proven a b p off = ⊎_elim (λ x. absurd (both_ways a x p)) (λ x. not-false b 
 
 response_passes : (i : LoginInfo) (rec n : ℕ) (r : LoginResponseParts) → asks_back i ≡ true → Passes i at.Response r (at_response i rec n r)
 response_passes i rec n r back =
-    cond_both (asks_back i && not (answers_back i r.keys)) (broken rec) (go_on rec n at.Response (chap_kind i) r) (Passes i at.Response r)
+    cond_both (asks_back i && not (answers_back i r.keys)) (broken_login rec) (go_on rec n at.Response (chap_kind i) r) (Passes i at.Response r)
     (λ bad is. absurd (false≢true is))
     (λ good.
     let right = proven (asks_back i) (answers_back i r.keys) back good in
@@ -100,8 +100,8 @@ PassesRead i step r d = has_past d ≡ true → Passed i step r
 response_read_passes : (i : LoginInfo) (step : LoginStep) (rec n : ℕ) (r : LoginResponseParts) → asks_back i ≡ true → PassesRead i step r (by_response i step rec n r)
 unfolding by_response
 response_read_passes i step rec n r back =
-    cond_both (eqb r.class 0) (cond (goes_astray step r || has_digest r.keys) (broken rec) (by_keys i step rec n r)) (End (reason.Refused rec (r.class * 256 + r.detail))) (PassesRead i step r)
-    (λ ok. cond_both (goes_astray step r || has_digest r.keys) (broken rec) (by_keys i step rec n r) (PassesRead i step r)
+    cond_both (eqb r.class 0) (cond (goes_astray step r || has_digest r.keys) (broken_login rec) (by_keys i step rec n r)) (End (reason.Refused rec (r.class * 256 + r.detail))) (PassesRead i step r)
+    (λ ok. cond_both (goes_astray step r || has_digest r.keys) (broken_login rec) (by_keys i step rec n r) (PassesRead i step r)
     (λ bad is. absurd (false≢true is))
     (λ good is. record { class = eqb-true r.class 0 ok; past = keys_pass i step rec n r back is }))
     (λ refused is. absurd (false≢true is))

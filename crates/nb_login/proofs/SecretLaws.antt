@@ -7,7 +7,7 @@ use Rattle.nb_login.specs.declared.info.LoginInfo.{LoginInfo}
 use Rattle.nb_login.specs.declared.step.NextRequest.{NextRequest}
 use Rattle.nb_login.specs.declared.step.NextRequest.TheVariants as ask
 use Rattle.nb_login.specs.Infos.{is_set, isid}
-use Rattle.nb_login.specs.Asking.{step_of, current_stage, next_stage, key_text, method_names, names_keys, response_keys, back_keys, request_keys, carried, request_parts, login_text}
+use Rattle.nb_login.specs.Asking.{step_of, current_stage, next_stage, key_text, method_names, names_keys, response_keys, back_keys, request_keys, carried_keys, request_parts, login_text}
 use Rattle.nb_login.specs.Logins.{with_secret, with_reverse_secret, HasSameResponse}
 
 keys_same : (i : LoginInfo) (secret : List ℕ) (request : NextRequest) → is_set secret ≡ is_set i.secret → HasSameResponse i secret request → request_keys (with_secret i secret) request ≡ request_keys i request
@@ -23,8 +23,8 @@ keys_same i secret (ask.Again step number) set same = refl
 text_same : (i j : LoginInfo) (request : NextRequest) (sn : ℕ) → isid i ≡ isid j → request_keys i request ≡ request_keys j request → login_text i request sn ≡ login_text j request sn
 unfolding login_text request_parts
 text_same i j request sn id keys =
-    ap (λ (id : List ℕ). pdu_text (login_pdu (record { current = current_stage (step_of request); next = next_stage (step_of request); isid = id; task_tag = 1; cmd_sn = 1; exp_stat_sn = sn; keys = carried (request_keys i request) }))) id
-    ∙ ap (λ (keys : List ℕ). pdu_text (login_pdu (record { current = current_stage (step_of request); next = next_stage (step_of request); isid = isid j; task_tag = 1; cmd_sn = 1; exp_stat_sn = sn; keys = carried keys }))) keys
+    ap (λ (id : List ℕ). pdu_text (login_pdu (record { current = current_stage (step_of request); next = next_stage (step_of request); isid = id; task_tag = 1; cmd_sn = 1; exp_stat_sn = sn; keys = carried_keys (request_keys i request) }))) id
+    ∙ ap (λ (keys : List ℕ). pdu_text (login_pdu (record { current = current_stage (step_of request); next = next_stage (step_of request); isid = isid j; task_tag = 1; cmd_sn = 1; exp_stat_sn = sn; keys = carried_keys keys }))) keys
 
 pub secret_hidden : (i : LoginInfo) (secret : List ℕ) (request : NextRequest) (sn : ℕ) → is_set secret ≡ is_set i.secret → HasSameResponse i secret request → login_text (with_secret i secret) request sn ≡ login_text i request sn
 secret_hidden i secret request sn set same = text_same (with_secret i secret) i request sn refl (keys_same i secret request set same)

@@ -94,8 +94,8 @@ request_keys i (ask.Parameters chap) = parameter_keys
 request_keys i (ask.Again step number) = []
 
 -- own: keys that no PDU can carry aren't sent
-abbrev pub carried : List ℕ → List ℕ
-carried keys = if nat_le (length keys) 8192 then keys else []
+abbrev pub carried_keys : List ℕ → List ℕ
+carried_keys keys = if nat_le (length keys) 8192 then keys else []
 
 -- the request's fields: task 1 and CmdSN 1 in each
 unfoldable pub request_parts : LoginInfo → NextRequest → ℕ → LoginParts
@@ -106,7 +106,7 @@ request_parts i request exp_stat_sn = record {
   task_tag = 1;
   cmd_sn = 1;
   exp_stat_sn = exp_stat_sn;
-  keys = carried (request_keys i request);
+  keys = carried_keys (request_keys i request);
 }
 
 -- the text of a request

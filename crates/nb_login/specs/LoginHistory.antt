@@ -35,18 +35,18 @@ abbrev pub last_done : List LoginEntry → Decision
 last_done entries = fold (λ d e. e.does) (Ask ask.Names) entries
 
 -- each request without keys has its number
-abbrev pub counted : ℕ → Decision → ℕ
-counted n (Ask ask.Names) = n
-counted n (Ask ask.Algorithm) = n
-counted n (Ask (ask.Response challenge)) = n
-counted n (Ask (ask.Parameters chap)) = n
-counted n (Ask (ask.Again step number)) = number
-counted n (Open chap) = n
-counted n (End reason) = n
+abbrev pub counted_repeats : ℕ → Decision → ℕ
+counted_repeats n (Ask ask.Names) = n
+counted_repeats n (Ask ask.Algorithm) = n
+counted_repeats n (Ask (ask.Response challenge)) = n
+counted_repeats n (Ask (ask.Parameters chap)) = n
+counted_repeats n (Ask (ask.Again step number)) = number
+counted_repeats n (Open chap) = n
+counted_repeats n (End reason) = n
 
 -- how many requests were made without keys
 abbrev pub repeats : List LoginEntry → ℕ
-repeats entries = fold (λ n e. counted n e.does) 0 entries
+repeats entries = fold (λ n e. counted_repeats n e.does) 0 entries
 
 -- the ExpStatSN after a PDU, where it is a Login Response
 abbrev pub expected_by : AnswerParts → ℕ

@@ -55,14 +55,14 @@ challenge_in keys = if has_value (codes "CHAP_A") (codes "5") keys
     then challenge_of (option_and_then byte_in (key_value (codes "CHAP_I") keys)) (binary_of_key (codes "CHAP_C") keys)
     else None
 
-abbrev pub is_value : Option (List ℕ) → List ℕ → Bool
-is_value None wanted = false
-is_value (Some value) wanted = bytes_eq value wanted
+abbrev pub is_wanted_value : Option (List ℕ) → List ℕ → Bool
+is_wanted_value None wanted = false
+is_wanted_value (Some value) wanted = bytes_eq value wanted
 
 -- the target answers our challenge, under its name
 unfoldable pub answers_back : LoginInfo → List ℕ → Bool
 answers_back i keys =
-    has_value (codes "CHAP_N") i.reverse_user keys && is_value (binary_of_key (codes "CHAP_R") keys) (own_response i)
+    has_value (codes "CHAP_N") i.reverse_user keys && is_wanted_value (binary_of_key (codes "CHAP_R") keys) (own_response i)
 
 -- the stages are one
 abbrev pub is_same_stage : Option Stage → Option Stage → Bool
@@ -74,8 +74,8 @@ is_same_stage (Some asked) (Some given) = stage_number asked == stage_number giv
 abbrev pub goes_astray : LoginStep → LoginResponseParts → Bool
 goes_astray step r = r.transit && not (is_same_stage (next_stage step) r.next)
 
-abbrev pub broken : ℕ → Decision
-broken rec = End (reason.Broken rec)
+abbrev pub broken_login : ℕ → Decision
+broken_login rec = End (reason.Broken rec)
 
 -- which kind of CHAP a login has used that used it
 abbrev pub chap_kind : LoginInfo → Chap
@@ -83,7 +83,7 @@ chap_kind i = if asks_back i then BothWays else OneWay
 
 -- four requests without keys are the most
 abbrev pub ask_again : ℕ → ℕ → LoginStep → Decision
-ask_again rec repeats step = if nat_lt repeats 4 then Ask (ask.Again step (repeats + 1)) else broken rec
+ask_again rec repeats step = if nat_lt repeats 4 then Ask (ask.Again step (repeats + 1)) else broken_login rec
 
 -- on to the parameters, where the target goes on
 abbrev pub go_on : ℕ → ℕ → LoginStep → Chap → LoginResponseParts → Decision
@@ -97,17 +97,17 @@ begin_chap i = if has_secret i then Ask ask.Algorithm else End (reason.Plain pla
 abbrev pub at_method : LoginInfo → ℕ → ℕ → LoginResponseParts → Decision
 at_method i rec repeats r =
     if chooses_chap r.keys then begin_chap i
-    else (if asks_back i && (r.transit || names_method r.keys) then broken rec
+    else (if asks_back i && (r.transit || names_method r.keys) then broken_login rec
     else go_on rec repeats at.Method No r)
 
 abbrev pub at_challenge : ℕ → Option Challenge → Decision
-at_challenge rec None = broken rec
+at_challenge rec None = broken_login rec
 at_challenge rec (Some challenge) = Ask (ask.Response challenge)
 
 -- the answer to our response; where we asked the target back, it is this answer that has its response
 abbrev pub at_response : LoginInfo → ℕ → ℕ → LoginResponseParts → Decision
 at_response i rec repeats r =
-    if asks_back i && not (answers_back i r.keys) then broken rec else go_on rec repeats at.Response (chap_kind i) r
+    if asks_back i && not (answers_back i r.keys) then broken_login rec else go_on rec repeats at.Response (chap_kind i) r
 
 -- the answer to the parameters
 abbrev pub at_parameters : ℕ → ℕ → Chap → LoginResponseParts → Decision
@@ -124,16 +124,16 @@ by_keys i (at.Parameters chap) rec repeats r = at_parameters rec repeats chap r
 -- a Login Response: first its status, then where it goes on to, then the digests, and the stage's keys last
 unfoldable pub by_response : LoginInfo → LoginStep → ℕ → ℕ → LoginResponseParts → Decision
 by_response i step rec repeats r =
-    if r.class == 0 then (if goes_astray step r || has_digest r.keys then broken rec else by_keys i step rec repeats r)
+    if r.class == 0 then (if goes_astray step r || has_digest r.keys then broken_login rec else by_keys i step rec repeats r)
     else End (reason.Refused rec (r.class * 256 + r.detail))
 
 -- what a PDU comes to: before the session is open, only a Login Response is allowed
 abbrev pub decided : LoginInfo → LoginStep → ℕ → ℕ → AnswerParts → Decision
 decided i step rec repeats (login r) = by_response i step rec repeats r
-decided i step rec repeats (scsi r) = broken rec
-decided i step rec repeats (data_in d) = broken rec
-decided i step rec repeats (nop_in n) = broken rec
-decided i step rec repeats other = broken rec
+decided i step rec repeats (scsi r) = broken_login rec
+decided i step rec repeats (data_in d) = broken_login rec
+decided i step rec repeats (nop_in n) = broken_login rec
+decided i step rec repeats other = broken_login rec
 
 -- the ExpStatSN after an answer
 abbrev pub expected_after : LoginResponseParts → ℕ

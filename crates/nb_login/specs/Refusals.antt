@@ -11,15 +11,15 @@ use Rattle.nb_login.specs.declared.refusal.SentName.TheVariants.{Initiator, Targ
 use Rattle.nb_login.specs.declared.refusal.LoginRefusal.{LoginRefusal}
 use Rattle.nb_login.specs.declared.refusal.LoginRefusal.TheVariants.{ZeroByte, NoMemory}
 
-abbrev pub has_zero : List ℕ → Bool
-has_zero name = list_any (λ byte. byte == 0) name
+abbrev pub name_has_zero : List ℕ → Bool
+name_has_zero name = list_any (λ byte. byte == 0) name
 
 -- the first name that may be sent and that holds a zero byte
 abbrev pub zero_name : LoginInfo → Option SentName
 zero_name i =
-    if has_zero i.initiator then Some Initiator
-    else (if has_zero i.target then Some Target
-    else (if has_zero i.user then Some User else None))
+    if name_has_zero i.initiator then Some Initiator
+    else (if name_has_zero i.target then Some Target
+    else (if name_has_zero i.user then Some User else None))
 
 -- a login isn't begun exactly where a name holds a zero byte, unless memory runs out
 abbrev pub BeginsLogin : {A : Type 0} → LoginInfo → Result A LoginRefusal → Type 0

@@ -2,7 +2,7 @@
 
 ghost use Rattle.std.specs.Prelude.{◌≡◌, IfOk};
 ghost use Rattle.nb_iscsipdu.specs.Answers.{login_response_parts};
-ghost use Rattle.nb_login.specs.LoginVerdicts.{has_value, has_other_value, has_digest, chooses_chap, names_method, binary_of_key, goes_astray, is_same_stage, is_value, answers_back};
+ghost use Rattle.nb_login.specs.LoginVerdicts.{has_value, has_other_value, has_digest, chooses_chap, names_method, binary_of_key, goes_astray, is_same_stage, is_wanted_value, answers_back};
 
 use crate::info::LoginInfo;
 use crate::step::LoginStep;
@@ -106,7 +106,7 @@ impl LoginInfo {
 }
 
 fn is_value(given: &Option<Text>, wanted: &[u8]) -> bool
-    ensures { result ≡ is_value given.now wanted.now }
+    ensures { result ≡ is_wanted_value given.now wanted.now }
 {
     match given {
         Some(value) => value.as_slice() == wanted,

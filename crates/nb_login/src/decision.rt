@@ -4,7 +4,7 @@
 ghost use Rattle.std.specs.Prelude.{◌≡◌, IfOk};
 ghost use Rattle.nb_terms.specs.declared.reason.Reason.TheVariants as reason;
 ghost use Rattle.nb_iscsipdu.specs.Answers.{answer_parts, login_response_parts};
-ghost use Rattle.nb_login.specs.LoginVerdicts.{decided, by_response, by_keys, begin_chap, challenge_in, at_method, at_challenge, at_response, at_parameters, go_on, ask_again, broken, chap_kind};
+ghost use Rattle.nb_login.specs.LoginVerdicts.{decided, by_response, by_keys, begin_chap, challenge_in, at_method, at_challenge, at_response, at_parameters, go_on, ask_again, broken_login, chap_kind};
 
 use crate::answers::{chooses_chap, goes_astray, has_digest, names_method};
 use crate::challenge::challenge_in;
@@ -20,7 +20,7 @@ const MAX_REPEATS: u8 = 4;
 
 /// The answer isn't allowed in its place.
 fn broken(rec: u32) -> Decision
-    ensures { result ≡ broken rec }
+    ensures { result ≡ broken_login rec }
 {
     Decision::End(Reason::Broken { rec })
 }

@@ -2,7 +2,7 @@
 
 ghost use Rattle.std.specs.Prelude.{◌≡◌};
 ghost use Rattle.nb_login.specs.Infos.{is_set};
-ghost use Rattle.nb_login.specs.Refusals.{has_zero};
+ghost use Rattle.nb_login.specs.Refusals.{name_has_zero};
 
 use crate::refusal::SentName;
 use nb_wire::Text;
@@ -97,7 +97,7 @@ fn is_set(text: &Text) -> bool
 }
 
 fn has_zero(name: &Text) -> bool
-    ensures { result ≡ has_zero name.now }
+    ensures { result ≡ name_has_zero name.now }
 {
     name.as_slice().contains(&0)
 }

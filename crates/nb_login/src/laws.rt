@@ -10,7 +10,7 @@ ghost use Rattle.nb_iscsipdu.specs.KeyTexts.{texts_between};
 ghost use Rattle.nb_login.specs.Infos.{is_set, asks_back};
 ghost use Rattle.nb_login.specs.Refusals.{zero_name};
 ghost use Rattle.nb_login.specs.KeysSent.{request_lines};
-ghost use Rattle.nb_login.specs.Asking.{login_text, carried, request_keys};
+ghost use Rattle.nb_login.specs.Asking.{login_text, carried_keys, request_keys};
 ghost use Rattle.nb_login.specs.LoginHistory.{PduCame, LoginEntry, LoginMeets, end_given, last_done, repeats};
 ghost use Rattle.nb_login.specs.LoginStands.{session_opened};
 ghost use Rattle.nb_login.specs.LoginEndings.{LoginEnding, HasProof};
@@ -65,9 +65,9 @@ pub fn secrets_are_not_sent()
 /// said; with names of usual lengths it has all of its keys.
 pub fn requests_are_pdus()
     ensures fields { (i : LoginInfo) (request : NextRequest) (sn : ℕ) → sn < 2 ^ 32
-        → IsLoginText (login_text i request sn) sn (carried (request_keys i request)) }
+        → IsLoginText (login_text i request sn) sn (carried_keys (request_keys i request)) }
     ensures keys { (i : LoginInfo) (request : NextRequest) → HasUsualNames i
-        → carried (request_keys i request) ≡ request_keys i request }
+        → carried_keys (request_keys i request) ≡ request_keys i request }
     ensures alone { LoginsSayOnlyRequests }
 {}
 

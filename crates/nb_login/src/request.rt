@@ -1,7 +1,7 @@
 //! The text of each request (RFC 7143, section 11.12).
 
 ghost use Rattle.std.specs.Prelude.{◌≡◌, ◌≤◌, length, IfOk};
-ghost use Rattle.nb_login.specs.Asking.{carried, login_text, request_parts};
+ghost use Rattle.nb_login.specs.Asking.{carried_keys, login_text, request_parts};
 
 use crate::info::LoginInfo;
 use crate::step::NextRequest;
@@ -46,7 +46,7 @@ impl LoginInfo {
 
 /// The keys, or none where no PDU can carry them.
 fn carried(keys: &[u8]) -> &[u8]
-    ensures value { result.now ≡ carried keys.now }
+    ensures value { result.now ≡ carried_keys keys.now }
     ensures few { length result.now ≤ 8192 }
 {
     if keys.len() <= MAX_SEGMENT { keys } else { &[] }

@@ -4,7 +4,7 @@ ghost use Rattle.std.specs.Prelude.{◌≡◌, IfOk, OnErr, false};
 ghost use Rattle.nb_iscsipdu.specs.PduTexts.{pdu_parts};
 ghost use Rattle.nb_iscsipdu.specs.Answers.{answer_parts};
 ghost use Rattle.nb_login.specs.LoginHistory.{pdu_came, login_ending, expected_by, expected_of};
-ghost use Rattle.nb_login.specs.LoginStands.{TakesPdu, decided_by, next_of, FollowsFrom, is_negotiating, session_held, after_handing, session_of};
+ghost use Rattle.nb_login.specs.LoginStands.{TakesPdu, decided_by, next_of_decision, FollowsFrom, is_negotiating, session_held, after_handing, session_after_login};
 ghost use Rattle.nb_login.specs.declared.state.State.TheVariants.{Negotiating, Opened};
 
 use crate::info::LoginInfo;
@@ -61,7 +61,7 @@ impl Negotiation {
     /// What a PDU comes to.
     fn next(&self, alloc: Global, rec: u32, pdu: &Pdu<'_>) -> Result<Next, NoMemory>
         ensures { IfOk result (λ next. next
-            ≡ next_of self.now (expected_of (pdu_came rec (pdu_parts pdu.now)))
+            ≡ next_of_decision self.now (expected_of (pdu_came rec (pdu_parts pdu.now)))
             (decided_by self.now (pdu_came rec (pdu_parts pdu.now)))) }
     {
         let answer = Answer::read(pdu);
@@ -72,7 +72,7 @@ impl Negotiation {
 
     /// Makes the text of a request.
     fn prepare(&self, alloc: Global, exp_stat_sn: u32, decision: Decision) -> Result<Next, NoMemory>
-        ensures { IfOk result (λ next. next ≡ next_of self.now exp_stat_sn decision) }
+        ensures { IfOk result (λ next. next ≡ next_of_decision self.now exp_stat_sn decision) }
     {
         match decision {
             Decision::Ask(request) => {
@@ -86,7 +86,7 @@ impl Negotiation {
 
     /// The session that it opens.
     fn opened(self, chap: Chap, exp_stat_sn: u32) -> Session
-        ensures { result ≡ session_of self.info exp_stat_sn chap }
+        ensures { result ≡ session_after_login self.info exp_stat_sn chap }
     {
         let Negotiation { info, .. } = self;
         Session {
@@ -151,7 +151,7 @@ impl State {
 
     fn open(&mut self, chap: Chap, exp_stat_sn: u32)
         ensures { (n : Negotiation) → self.old ≡ Negotiating n
-            → self.new ≡ Opened (session_of n.info exp_stat_sn chap) }
+            → self.new ≡ Opened (session_after_login n.info exp_stat_sn chap) }
     {
         if let State::Negotiating(negotiation) = mem::replace(self, State::Over) {
             *self = State::Opened(negotiation.opened(chap, exp_stat_sn));

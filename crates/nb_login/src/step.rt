@@ -2,7 +2,7 @@
 
 ghost use Rattle.std.specs.Prelude.{◌≡◌};
 ghost use Rattle.nb_login.specs.Asking.{step_again, step_of, current_stage, next_stage};
-ghost use Rattle.nb_login.specs.LoginHistory.{counted};
+ghost use Rattle.nb_login.specs.LoginHistory.{counted_repeats};
 ghost use Rattle.nb_login.specs.LoginStands.{chap_number};
 ghost use Rattle.nb_login.specs.declared.step.Decision.TheVariants.{Ask};
 
@@ -129,7 +129,7 @@ impl NextRequest {
 
     /// How many requests without keys were made with it, after so many before it.
     pub(crate) fn repeats(&self, before: u8) -> u8
-        ensures { result ≡ counted before (Ask self.now) }
+        ensures { result ≡ counted_repeats before (Ask self.now) }
     {
         match self {
             NextRequest::Again(_, number) => *number,

@@ -34,8 +34,8 @@ abbrev pub drive_open_of : Live → Option DriveOpen
 drive_open_of l = option_map (drive_open_by l) (login_of_kind l.kind)
 
 -- what the boot table says; without a described drive there is none
-abbrev pub boot_info : State → Option Info
-boot_info s = drive_info (net0_mac s.devices) s.table (described_opens s.drives (filter_map drive_open_of s.live))
+abbrev pub boot_table_info : State → Option Info
+boot_table_info s = drive_info (net0_mac s.devices) s.table (described_opens s.drives (filter_map drive_open_of s.live))
 
 unfoldable pub boot_table : State → Option (List ℕ)
-boot_table s = option_map ibft (boot_info s)
+boot_table s = option_map ibft (boot_table_info s)

@@ -18,7 +18,7 @@ use Rattle.nb_command.specs.SettingAddresses.{host}
 use Rattle.nb_machine.specs.CommandRecords.{no_route}
 use Rattle.nb_machine.specs.Sendings.{has_route, send_records, advance_records}
 use Rattle.nb_machine.specs.Lives.{OpenInput, message, tcp_segment, time, task, close, Exchange, Live}
-use Rattle.nb_machine.specs.Transfers.{earlier, end_records}
+use Rattle.nb_machine.specs.Transfers.{earlier_end, end_records}
 
 -- an open's connection: the open's number, its server, both ends, of which the client's SYN has this number, and when it was begun
 pub record Connection : Type 0 where
@@ -84,7 +84,7 @@ loses_way c link sends = list_any (λ s. not (has_route link (outgoing_message c
 
 -- how an exchange ends the open, if it does: as the promise says, or else because a segment found no route
 abbrev pub talk_end : Connection → Client → Put → Option Cause
-talk_end c link p = earlier p.over (if loses_way c link p.sends then Some (no_route c.server) else None)
+talk_end c link p = earlier_end p.over (if loses_way c link p.sends then Some (no_route c.server) else None)
 
 -- the records of what is put: how far the stream has come, the segments, and the end
 abbrev pub put_records : Connection → Client → Put → List Out

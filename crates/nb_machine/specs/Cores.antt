@@ -20,7 +20,7 @@ use Rattle.nb_machine.specs.CommandRecords.{no_route}
 use Rattle.nb_machine.specs.Sendings.{has_route, send_records, acts_records}
 use Rattle.nb_machine.specs.Saying.{datagram_from}
 use Rattle.nb_machine.specs.Lives.{OpenInput, message, tcp_segment, time, task, close, Exchange, exchange, Live}
-use Rattle.nb_machine.specs.Transfers.{finds_none, earlier, end_records}
+use Rattle.nb_machine.specs.Transfers.{finds_none, earlier_end, end_records}
 
 -- what the open looks up, by a query of this number
 abbrev pub look_up_of : ℕ → Live → Lookup
@@ -36,7 +36,7 @@ first_message_records l link m = if has_route link m then Some (send_records lin
 
 -- how an exchange ends the open, if it does: as its core says, or else because a message found no route
 abbrev pub core_end : ℕ → Client → Acts → Option Cause
-core_end server link acts = earlier acts.over (if finds_none link acts then Some (no_route server) else None)
+core_end server link acts = earlier_end acts.over (if finds_none link acts then Some (no_route server) else None)
 
 -- the records of an exchange in which a core asked that
 abbrev pub core_records : ℕ → ℕ → Client → Acts → List Out

@@ -20,7 +20,7 @@ use Rattle.nb_machine.specs.Errands.{Onward}
 use Rattle.nb_machine.specs.FirstText.{first_reading, text_refusal, lines_of}
 use Rattle.nb_machine.specs.Running.{Running, first_script, coming, passing, leaving, beginning, entered, further, behind_line, with_result, anew, script_within, script_in_place, counting_on, no_label}
 use Rattle.nb_machine.specs.CommandRecords.{command_record, command_records, no_route, stopped_cause}
-use Rattle.nb_machine.specs.Drives.{first_block}
+use Rattle.nb_machine.specs.Drives.{first_block_read}
 use Rattle.nb_machine.specs.Lives.{task, close, Live, open_record, end_record}
 use Rattle.nb_machine.specs.Kinds.{first_records}
 use Rattle.nb_machine.specs.States.{State, state_at_start, with_images, with_settings, with_live, with_drive, with_opened, with_one_made}
@@ -128,7 +128,7 @@ pub record AsksBlock (s : State) (number : ℕ) (put : List Out) (s' : State) (o
   pub l : Live
   pub parted : s.live ≡ before ++ l ∷ behind
   pub its : l.number ≡ number
-  pub takes : AllTake s.devices (task first_block s.now) (l ∷ []) put after over
+  pub takes : AllTake s.devices (task first_block_read s.now) (l ∷ []) put after over
   pub leaves : s' ≡ with_live s (before ++ after ++ behind)
 
 -- so a command asks, and these records are put

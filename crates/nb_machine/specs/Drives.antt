@@ -9,16 +9,16 @@ use Rattle.nb_machine.specs.Lives.{OpenInput, message, tcp_segment, time, task, 
 use Rattle.nb_machine.specs.Connections.{came_on, Talking, connection_of, talk_of, KeepsTalk}
 
 -- what came to a session: of all that comes from above, the tasks
-abbrev pub came_to_session : OpenInput → List (Came ReadTask)
-came_to_session (message rec port body now) = came_on (message rec port body now)
-came_to_session (tcp_segment rec g now) = came_on (tcp_segment rec g now)
-came_to_session (time now) = came_on (time now)
-came_to_session (task t now) = by_task t now ∷ []
-came_to_session (close cause) = came_on (close cause)
+abbrev pub input_to_session : OpenInput → List (Came ReadTask)
+input_to_session (message rec port body now) = came_on (message rec port body now)
+input_to_session (tcp_segment rec g now) = came_on (tcp_segment rec g now)
+input_to_session (time now) = came_on (time now)
+input_to_session (task t now) = by_task t now ∷ []
+input_to_session (close cause) = came_on (close cause)
 
 -- it speaks as it reads, and as tasks are asked of it
 abbrev pub session_talking : LoginInfo → Talking ReadTask
-session_talking i = record { talker = session_talker i; reads = came_to_session }
+session_talking i = record { talker = session_talker i; reads = input_to_session }
 
 abbrev pub KeepsSession : ℕ → LoginInfo → Live → Type 0
 KeepsSession isn i l = KeepsTalk (session_talking i) isn l
@@ -53,8 +53,8 @@ abbrev pub session_answered : ℕ → LoginInfo → Live → Option DriveAnswer
 session_answered isn i l = let d = session_of isn i l in session_answer l.server i (front (talk_held isn d)) d.tasks
 
 -- the read of a disk's first block, by which it is booted
-abbrev pub first_block : ReadTask
-first_block = record { lba = 0; blocks = 1 }
+abbrev pub first_block_read : ReadTask
+first_block_read = record { lba = 0; blocks = 1 }
 
 -- the bytes of a read, if it was answered by all of them
 abbrev pub bytes_read : TaskAnswer → Option (List ℕ)

@@ -34,8 +34,8 @@ no_server = as_cause (reason.Plain plain.NoServer)
 abbrev pub dns_in : TableLists → Option Ip4
 dns_in table = nonzero (value_address (look None (Tag 6) table))
 
-abbrev pub is_dot : ℕ → Bool
-is_dot byte = byte == 46
+abbrev pub is_dot_byte : ℕ → Bool
+is_dot_byte byte = byte == 46
 
 abbrev pub after_dot : List ℕ → List ℕ → List ℕ
 after_dot text [] = text
@@ -47,4 +47,4 @@ domain_bytes (Some value) = value.bytes
 
 -- a name without a dot gets `domain`, which has tag 15, after it, where that is set
 abbrev pub with_domain : TableLists → List ℕ → List ℕ
-with_domain table text = if list_any is_dot text then text else after_dot text (domain_bytes (look None (Tag 15) table))
+with_domain table text = if list_any is_dot_byte text then text else after_dot text (domain_bytes (look None (Tag 15) table))

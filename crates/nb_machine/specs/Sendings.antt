@@ -55,5 +55,5 @@ abbrev pub too_large_image : Cause
 too_large_image = record { code = 6; a = 1; b = 0 }
 
 -- the end of an open whose body is this now: the transfer's own, unless the body has grown too large
-abbrev pub end_of : List ℕ → Acts → Option Cause
-end_of body acts = if is_over_limit body then Some too_large_image else acts.over
+abbrev pub end_with_body : List ℕ → Acts → Option Cause
+end_with_body body acts = if is_over_limit body then Some too_large_image else acts.over

@@ -13,7 +13,7 @@ use Rattle.nb_tftp.specs.History.{Call, came, ticked, Entry, entry, got}
 use Rattle.nb_tftp.specs.Sentences.{Meets}
 use Rattle.nb_command.specs.SettingAddresses.{host}
 use Rattle.nb_machine.specs.CommandRecords.{no_route}
-use Rattle.nb_machine.specs.Sendings.{has_route, request_of, send_records, acts_records, end_of}
+use Rattle.nb_machine.specs.Sendings.{has_route, request_of, send_records, acts_records, end_with_body}
 use Rattle.nb_machine.specs.Lives.{OpenInput, message, tcp_segment, time, task, close, Exchange, exchange, Live}
 
 -- the request that it begins with
@@ -36,14 +36,14 @@ abbrev pub finds_none : Client → Acts → Bool
 finds_none link acts = list_any (λ m. not (has_route link m)) acts.sends.items
 
 -- the first of two ends
-abbrev pub earlier : Option Cause → Option Cause → Option Cause
-earlier (Some cause) later = Some cause
-earlier None later = later
+abbrev pub earlier_end : Option Cause → Option Cause → Option Cause
+earlier_end (Some cause) later = Some cause
+earlier_end None later = later
 
 -- how an exchange ends the open, if it does: as its transfer says, or else because a message found no route
 abbrev pub transfer_end : ℕ → Client → List ℕ → Acts → Option Cause
 transfer_end server link body acts =
-    earlier (end_of body acts) (if finds_none link acts then Some (no_route server) else None)
+    earlier_end (end_with_body body acts) (if finds_none link acts then Some (no_route server) else None)
 
 abbrev pub end_records : ℕ → Option Cause → List Out
 end_records number None = []

@@ -26,7 +26,7 @@ use Rattle.nb_network.specs.Takes.{still_awaited}
 use Rattle.nb_network.proofs.Lists.{HasOtherNumber, all_both, all_but}
 use Rattle.nb_network.proofs.Ports.{either_test}
 use Rattle.nb_network.proofs.Traces.{own_are}
-use Rattle.nb_network.specs.Drives.{DriveNews, has_answered, noted, read_by}
+use Rattle.nb_network.specs.Drives.{DriveNews, has_answered, noted, last_read_by}
 use Rattle.nb_network.proofs.Noting.{all_noted, of_number_noted}
 
 -- one after another
@@ -100,7 +100,7 @@ module _ (g h : Objects Obj) (list list' : List Living) (before : List Living) (
       by (inr i) = inr i
 
   newest_by : (k : ℕ) (c : Chain) (x : Living) (e : Ended) (s : Spelling) (b : Bool) → (o.speaker.number == k) ≡ b → IsNewestBut (Some k) c (record { graph = g; list = list }) →
-      IsNewestBut (still_awaited (Some k) (cond b (Some (record { number = o.speaker.number; cause = e.cause; body = e.body; moved = e.moved; bytes = found_bytes o.objects s.bytes; address = s.address; answered = has_answered x; read = read_by x })) None)) c (record { graph = h; list = list' })
+      IsNewestBut (still_awaited (Some k) (cond b (Some (record { number = o.speaker.number; cause = e.cause; body = e.body; moved = e.moved; bytes = found_bytes o.objects s.bytes; address = s.address; answered = has_answered x; read = last_read_by x })) None)) c (record { graph = h; list = list' })
   newest_by k c x e s true t n = λ y live. by y (parts k y c live n)
     where
       by : (y : ℕ) → IsOfNumber k y (before ++ behind) ⊎ (y ≤ c.top.0) → y ≤ c.top.0
@@ -109,7 +109,7 @@ module _ (g h : Objects Obj) (list list' : List Living) (before : List Living) (
   newest_by k c x e s false f n = λ y live. subst (λ os. IsOfNumber k y os ⊎ (y ≤ c.top.0)) (sym new) (parts k y c live n)
 
   tied_by : (k : ℕ) (x : Living) (e : Ended) (s : Spelling) (b : Bool) → (o.speaker.number == k) ≡ b → HasTiedOnlyOf (Some k) (record { graph = g; list = list }) →
-      HasTiedOnlyOf (still_awaited (Some k) (cond b (Some (record { number = o.speaker.number; cause = e.cause; body = e.body; moved = e.moved; bytes = found_bytes o.objects s.bytes; address = s.address; answered = has_answered x; read = read_by x })) None)) (record { graph = h; list = list' })
+      HasTiedOnlyOf (still_awaited (Some k) (cond b (Some (record { number = o.speaker.number; cause = e.cause; body = e.body; moved = e.moved; bytes = found_bytes o.objects s.bytes; address = s.address; answered = has_answered x; read = last_read_by x })) None)) (record { graph = h; list = list' })
   tied_by k x e s true t n = subst (AllByRecursion IsUntied) (sym new)
       (all_both (λ p. p.speaker.number ≡ k → ⊥) (IsUntiedBut k) IsUntied (before ++ behind) (λ p d f. f d) (others_differ k (eqb-true o.speaker.number k t)) (all_but (IsUntiedBut k) before o behind (subst (AllByRecursion (IsUntiedBut k)) is n)))
   tied_by k x e s false f n = subst (AllByRecursion (IsUntiedBut k)) (sym new) (all_but (IsUntiedBut k) before o behind (subst (AllByRecursion (IsUntiedBut k)) is n))

@@ -22,7 +22,7 @@ use Rattle.nb_machine.specs.Cores.{CoreExchanged, at_first, takes_message, takes
 use Rattle.nb_machine.specs.Kinds.{Keeps, KeepsBy, fetched_by, granted_of, moved_by, resolved_of}
 use Rattle.nb_machine.specs.Lives.{OpenInput, message, time, OpenKind, tftp, http, iscsi, dns, dhcp, ping, Exchange, exchange, Live, continued}
 use Rattle.nb_machine.specs.Connections.{Connection, connection_of, came_on, talk_of, KeepsAt, EachExchange, Talking}
-use Rattle.nb_machine.specs.Drives.{came_to_session, session_of, session_talking}
+use Rattle.nb_machine.specs.Drives.{input_to_session, session_of, session_talking}
 use Rattle.nb_login.specs.declared.info.LoginInfo.{LoginInfo}
 use Rattle.nb_sans.specs.Sessions.{ReadTask, session_talker}
 use Rattle.nb_drivechains.specs.declared.drive_chain.DriveChain.{DriveChain}
@@ -129,7 +129,7 @@ talk_bare : (isn : ℕ) (l : Live) (x : Exchange) → talk_of (web_talking l.tar
 talk_bare isn l x = ap (talk_after (web_at l.target) isn l.since) (same_found (λ y. came_on y.came) l.exchanges (bared x) x refl)
 
 session_bare : (isn : ℕ) (i : LoginInfo) (l : Live) (x : Exchange) → session_of isn i (continued l (bared x)) ≡ session_of isn i (continued l x)
-session_bare isn i l x = ap (talk_after (session_talker i) isn l.since) (same_found (λ y. came_to_session y.came) l.exchanges (bared x) x refl)
+session_bare isn i l x = ap (talk_after (session_talker i) isn l.since) (same_found (λ y. input_to_session y.came) l.exchanges (bared x) x refl)
 
 fetched_bare : (k : OpenKind) (l : Live) (x : Exchange) → fetched_by k (continued l (bared x)) ≡ fetched_by k (continued l x)
 fetched_bare tftp l x = ap file (same_found (λ y. datagram_in y.came) l.exchanges (bared x) x refl)

@@ -9,9 +9,9 @@ use Rattle.nb_stack.specs.Brings.{Brought, arp_message}
 use Rattle.nb_stack.specs.Takes.{client_after}
 use Rattle.nb_stack.specs.Sends.{way_of, put_on}
 use Rattle.nb_stack.proofs.WayLaws.{same_way, same_put}
-use Rattle.nb_machine.specs.Sendings.{is_on_its_way, has_route, try_records, send_records, sends_records, advance_records, acts_records, end_of}
+use Rattle.nb_machine.specs.Sendings.{is_on_its_way, has_route, try_records, send_records, sends_records, advance_records, acts_records, end_with_body}
 use Rattle.nb_machine.specs.States.{bare}
-use Rattle.nb_machine.specs.Transfers.{transfer_records, transfer_end, end_records, earlier}
+use Rattle.nb_machine.specs.Transfers.{transfer_records, transfer_end, end_records, earlier_end}
 use Rattle.nb_machine.specs.Cores.{core_records, core_end}
 use Rattle.nb_machine.specs.CommandRecords.{no_route}
 use Rattle.nb_machine.specs.Connections.{Connection, segment_records, loses_way, talk_end, put_records}
@@ -49,12 +49,12 @@ bare_any c (m ∷ ms) = ap (λ b. not b || list_any (λ m. not (has_route (bare 
 pub bare_transfer : (k server : ℕ) (c : Client) (body : List ℕ) (acts : Acts) → transfer_records k server (bare c) body acts ≡ transfer_records k server c body acts
 bare_transfer k server c body acts =
     ap (λ z. z ++ end_records k (transfer_end server (bare c) body acts)) (bare_acts c k acts)
-    ∙ ap (λ b. acts_records c k acts ++ end_records k (earlier (end_of body acts) (cond b (Some (no_route server)) None))) (bare_any c acts.sends.items)
+    ∙ ap (λ b. acts_records c k acts ++ end_records k (earlier_end (end_with_body body acts) (cond b (Some (no_route server)) None))) (bare_any c acts.sends.items)
 
 pub bare_core : (k server : ℕ) (c : Client) (acts : Acts) → core_records k server (bare c) acts ≡ core_records k server c acts
 bare_core k server c acts =
     ap (λ z. z ++ end_records k (core_end server (bare c) acts)) (bare_acts c k acts)
-    ∙ ap (λ b. acts_records c k acts ++ end_records k (earlier acts.over (cond b (Some (no_route server)) None))) (bare_any c acts.sends.items)
+    ∙ ap (λ b. acts_records c k acts ++ end_records k (earlier_end acts.over (cond b (Some (no_route server)) None))) (bare_any c acts.sends.items)
 
 -- what a connection puts
 segments_bare : (c : Connection) (link : Client) (sends : Sends) → segment_records c (bare link) sends ≡ segment_records c link sends
@@ -71,4 +71,4 @@ loses_bare c link (s ∷ sends) =
 pub put_bare : (c : Connection) (link : Client) (p : Put) → put_records c (bare link) p ≡ put_records c link p
 put_bare c link p =
     ap (λ z. (advance_records c.number p.advance ++ z) ++ end_records c.number (talk_end c (bare link) p)) (segments_bare c link p.sends)
-    ∙ ap (λ b. (advance_records c.number p.advance ++ segment_records c link p.sends) ++ end_records c.number (earlier p.over (cond b (Some (no_route c.server)) None))) (loses_bare c link p.sends)
+    ∙ ap (λ b. (advance_records c.number p.advance ++ segment_records c link p.sends) ++ end_records c.number (earlier_end p.over (cond b (Some (no_route c.server)) None))) (loses_bare c link p.sends)

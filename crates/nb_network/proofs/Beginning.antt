@@ -22,7 +22,7 @@ use Rattle.nb_open.specs.Begins.{BeginsBeside, BeginsOpen, IsLatest, SetsOutOr, 
 use Rattle.nb_open.specs.Objects.{objects_ids}
 use Rattle.nb_open.specs.Open.{pieces_of}
 use Rattle.nb_open.specs.Opening.{chain_kind, own_by}
-use Rattle.nb_network.specs.Many.{AreSound, HasNoneTied, IsApartFrom, IsOpenOf, LivesSome, WaitsBeside, port_for, bare_open}
+use Rattle.nb_network.specs.Many.{AreSound, HasNoneTied, IsApartFrom, IsLivingOf, IsLivingOfSome, WaitsBeside, port_for, bare_open}
 use Rattle.nb_network.specs.Openings.{EntersBy, OpensOne}
 use Rattle.nb_network.proofs.Begun.{begun_first, number_is, begun_state, begun_traces}
 use Rattle.nb_network.proofs.BegunSound.{begun_sound, begun_tied}
@@ -41,17 +41,17 @@ all_under waits (p ∷ os) h = (λ c e. (h c e).0, all_under waits os (λ c e. (
 
 module _ (a : Opening) (number now : ℕ) (waits : Option Chain) (link : Client) (g h : Objects Obj) (list list' : List Living) (made told : Spelling) (o : Living) (ended : Option Cause) (kept : o.drive ≡ drive_by a) (x : BeginsOpen a number now waits link g h made told (record { «open» = bare_open o; ended = ended })) (noded : AreNoded rank_of_obj h) (latest : IsLatest waits g)
     (beside : (c : Chain) → waits ≡ Some c → WaitsBeside (chain_kind a) c (record { graph = g; list = list })) (net' : Client) (end : Option Cause) (same : end ≡ ended) (enters : EntersBy end o list link list' net') where
-  far_one : (p : Living) → LivesSome g p → ((c : Chain) → waits ≡ Some c → IsApartFrom (chain_ids c) p) → IsApartFrom (objects_ids o.objects) p
+  far_one : (p : Living) → IsLivingOfSome g p → ((c : Chain) → waits ≡ Some c → IsApartFrom (chain_ids c) p) → IsApartFrom (objects_ids o.objects) p
   far_one p lives far y own =
       either_test (is_one_of (objects_ids o.objects) y)
       (λ t. absurd (let f = x.leaves.fresh y t (lives.1.chained.given y own) in
       let no : true ≡ false = sym (top_first f.0) ∙ ap (is_one_of (chain_ids f.0)) (sym f.2) ∙ far f.0 f.1 y own in cc))
       (λ f. f)
 
-  far_all : AllByRecursion (LivesSome g) list → AllByRecursion (IsApartFrom (objects_ids o.objects)) list
-  far_all lives = all_both (LivesSome g) (λ p. (c : Chain) → waits ≡ Some c → IsApartFrom (chain_ids c) p) (IsApartFrom (objects_ids o.objects)) list far_one lives (all_under waits list (λ c e. (beside c e).apart))
+  far_all : AllByRecursion (IsLivingOfSome g) list → AllByRecursion (IsApartFrom (objects_ids o.objects)) list
+  far_all lives = all_both (IsLivingOfSome g) (λ p. (c : Chain) → waits ≡ Some c → IsApartFrom (chain_ids c) p) (IsApartFrom (objects_ids o.objects)) list far_one lives (all_under waits list (λ c e. (beside c e).apart))
 
-  stay : (p : Living) (l : Live) → IsApartFrom (objects_ids o.objects) p → IsOpenOf g p l → IsOpenOf h p l
+  stay : (p : Living) (l : Live) → IsApartFrom (objects_ids o.objects) p → IsLivingOf g p l → IsLivingOf h p l
   stay p l far i = open_stays g h p l noded (λ y own. x.leaves.others y (i.chained.given y own) (far y own)) x.leaves.later i
 
   sets : SetsOutOr end a number now link (bare_open o) x.mid h x.records
@@ -78,17 +78,17 @@ module _ (a : Opening) (number now : ℕ) (waits : Option Chain) (link : Client)
 
 module _ (kind : ChainKind) (a : Opening) (number now : ℕ) (link : Client) (g h : Objects Obj) (list list' : List Living) (made told : Spelling) (c : Chain) (o : Living) (ended : Option Cause) (kept : o.drive ≡ drive_by a) (x : BeginsBeside kind a number now link g h made told c (record { «open» = bare_open o; ended = ended })) (noded : AreNoded rank_of_obj h)
     (net' : Client) (end : Option Cause) (same : end ≡ ended) (enters : EntersBy end o list link list' net') where
-  beside_one : (p : Living) → LivesSome g p → IsApartFrom (objects_ids o.objects) p
+  beside_one : (p : Living) → IsLivingOfSome g p → IsApartFrom (objects_ids o.objects) p
   beside_one p lives y own =
       either_test (is_one_of (objects_ids o.objects) y)
       (λ t. absurd (let low = lives.1.chained.given y own in let high = x.leaves.after y t in let first = x.leaves.first in omega (arith, low, high, first)))
       (λ f. f)
 
-  beside_all : (os : List Living) → AllByRecursion (LivesSome g) os → AllByRecursion (IsApartFrom (objects_ids o.objects)) os
+  beside_all : (os : List Living) → AllByRecursion (IsLivingOfSome g) os → AllByRecursion (IsApartFrom (objects_ids o.objects)) os
   beside_all [] lives = tt
   beside_all (p ∷ os) lives = (beside_one p lives.0, beside_all os lives.1)
 
-  beside_stay : (p : Living) (l : Live) → IsApartFrom (objects_ids o.objects) p → IsOpenOf g p l → IsOpenOf h p l
+  beside_stay : (p : Living) (l : Live) → IsApartFrom (objects_ids o.objects) p → IsLivingOf g p l → IsLivingOf h p l
   beside_stay p l far i = open_stays g h p l noded (λ y own. x.leaves.others y (i.chained.given y own)) x.leaves.later i
 
   beside_sets : SetsOutOr end a number now link (bare_open o) x.mid h x.records
@@ -121,15 +121,15 @@ module _ (kind : ChainKind) (a : Opening) (number now : ℕ) (link : Client) (g 
   waits_apart : (p : Living) → ((y : ℕ) → is_one_of (objects_ids p.objects) y ≡ true → y ≡ c.top.0 → ⊥) → IsApartFrom (chain_ids c) p
   waits_apart p differ y own = either_test (is_one_of (chain_ids c) y) (λ t. absurd (differ y own (one_of_top y t))) (λ f. f)
 
-  waits_all : (os : List Living) → AllByRecursion (LivesSome g) os → AllByRecursion (IsApartFrom (chain_ids c)) os
+  waits_all : (os : List Living) → AllByRecursion (IsLivingOfSome g) os → AllByRecursion (IsApartFrom (chain_ids c)) os
   waits_all [] lives = tt
   waits_all (p ∷ os) lives =
       (waits_apart p (λ y own e. let low = lives.0.1.chained.given y own in let first = x.leaves.first in omega (arith, low, e, first)), waits_all os lives.1)
 
-  waits_by : (e : Option Cause) → EntersBy e o list link list' net' → AllByRecursion (LivesSome g) list → AllByRecursion (IsApartFrom (chain_ids c)) list'
+  waits_by : (e : Option Cause) → EntersBy e o list link list' net' → AllByRecursion (IsLivingOfSome g) list → AllByRecursion (IsApartFrom (chain_ids c)) list'
   waits_by None enter lives = subst (AllByRecursion (IsApartFrom (chain_ids c))) (sym enter.0) (all_append (IsApartFrom (chain_ids c)) list (o ∷ []) (waits_all list lives)
       (waits_apart o (λ y own e. let high = x.leaves.after y own in omega (arith, high, e)), tt))
   waits_by (Some cause) enter lives = subst (AllByRecursion (IsApartFrom (chain_ids c))) (sym enter.0) (waits_all list lives)
 
-  pub beside_waits : AllByRecursion (LivesSome g) list → WaitsBeside kind c (record { graph = h; list = list' })
+  pub beside_waits : AllByRecursion (IsLivingOfSome g) list → WaitsBeside kind c (record { graph = h; list = list' })
   beside_waits lives = record { waits = x.leaves.waits; apart = waits_by end enters lives }

@@ -25,7 +25,7 @@ use Rattle.nb_open.specs.Objects.{objects_ids}
 use Rattle.nb_open.specs.Begins.{IsLatest, MakesObjects, SetsOutOr, waiting_pieces}
 use Rattle.nb_open.specs.Open.{objects_pieces}
 use Rattle.nb_open.specs.Opening.{chain_kind, kind_by, live_by, speaker_for}
-use Rattle.nb_network.specs.Many.{AreOpensOf, FitsHoldings, IsApartFrom, IsOpenOf, IsStateOf, kin_of, bare_open}
+use Rattle.nb_network.specs.Many.{AreOpensOf, FitsHoldings, IsApartFrom, IsLivingOf, IsStateOf, kin_of, bare_open}
 use Rattle.nb_network.specs.Openings.{BegunBy, EntersBy, FirstBy, begun_records}
 use Rattle.nb_network.specs.Takes.{TracesOn}
 use Rattle.nb_network.proofs.Lists.{opens_append, opens_move}
@@ -99,7 +99,7 @@ first_by : (end : Option Cause) (a : Opening) (number now : ℕ) (link : Client)
 first_by None a number now link o mid h told sets = sets.first
 first_by (Some cause) a number now link o mid h told sets = (sets.1.first, sets.1.silent, sets.0)
 
-module _ (a : Opening) (number now : ℕ) (link : Client) (o : Living) (mid : GraphState) (g h : Objects Obj) (list list' : List Living) (net' : Client) (told : List Out) (kept : o.drive ≡ drive_by a) (far : AllByRecursion (IsApartFrom (objects_ids o.objects)) list) (stay : (p : Living) (l : Live) → IsApartFrom (objects_ids o.objects) p → IsOpenOf g p l → IsOpenOf h p l) where
+module _ (a : Opening) (number now : ℕ) (link : Client) (o : Living) (mid : GraphState) (g h : Objects Obj) (list list' : List Living) (net' : Client) (told : List Out) (kept : o.drive ≡ drive_by a) (far : AllByRecursion (IsApartFrom (objects_ids o.objects)) list) (stay : (p : Living) (l : Live) → IsApartFrom (objects_ids o.objects) p → IsLivingOf g p l → IsLivingOf h p l) where
   pub begun_first : (end : Option Cause) → SetsOutOr end a number now link (bare_open o) mid h told → FirstBy end (live_by a number now) link (without_graph told)
   begun_first end sets = first_by end a number now link o mid h told sets
 

@@ -25,7 +25,7 @@ use Rattle.nb_open.specs.Objects.{objects_ids}
 use Rattle.nb_open.specs.Begins.{SetsOutOr}
 use Rattle.nb_open.specs.Open.{AreOfKind, IsSpeakerOf, carrier_for, kind_for}
 use Rattle.nb_open.specs.Opening.{chain_kind, kind_by, live_by, own_by, speaker_for}
-use Rattle.nb_network.specs.Many.{AreApart, AreRising, AreSound, AreUntied, HasNoneTied, HasOwnPort, HasTiedOnlyOf, IsApartFrom, IsOpenOf, IsUntied, IsUntiedBut, LivesSome, bound_port, lease_count, lease_count_of, leases_in, own_port_for, own_protocol_for, port_for, protocol_for, bare_open}
+use Rattle.nb_network.specs.Many.{AreApart, AreRising, AreSound, AreUntied, HasNoneTied, HasOwnPort, HasTiedOnlyOf, IsApartFrom, IsLivingOf, IsUntied, IsUntiedBut, IsLivingOfSome, bound_port, lease_count, lease_count_of, leases_in, own_port_for, own_protocol_for, port_for, protocol_for, bare_open}
 use Rattle.nb_network.specs.Openings.{EntersBy, number_by}
 use Rattle.nb_network.proofs.Matching.{tcp_of}
 use Rattle.nb_network.proofs.Lists.{all_append, all_map, apart_more, count_more, rising_more}
@@ -93,12 +93,12 @@ no_leases : (os : List Living) → AllByRecursion IsUntied os → sum_by lease_c
 no_leases [] u = refl
 no_leases (p ∷ os) u = let s = sum_by-cons lease_count_of p os in let i = no_lease_in p.objects u.0 in let j = no_leases os u.1 in omega (arith, s, i, j)
 
-all_live : (g h : Objects Obj) (P : Living → Type 0) → ((p : Living) (l : Live) → P p → IsOpenOf g p l → IsOpenOf h p l) → (os : List Living) → AllByRecursion P os → AllByRecursion (LivesSome g) os → AllByRecursion (LivesSome h) os
+all_live : (g h : Objects Obj) (P : Living → Type 0) → ((p : Living) (l : Live) → P p → IsLivingOf g p l → IsLivingOf h p l) → (os : List Living) → AllByRecursion P os → AllByRecursion (IsLivingOfSome g) os → AllByRecursion (IsLivingOfSome h) os
 all_live g h P f [] far i = tt
 all_live g h P f (p ∷ os) far i = ((i.0.0, f p i.0.0 far.0 i.0.1), all_live g h P f os far.1 i.1)
 
 module _ (a : Opening) (w number now : ℕ) (link : Client) (o : Living) (is : o.speaker ≡ speaker_for a number) (mid : GraphState) (g h : Objects Obj) (list list' : List Living) (net' : Client) (told : List Out) (kept : o.drive ≡ drive_by a)
-    (far : AllByRecursion (IsApartFrom (objects_ids o.objects)) list) (stay : (p : Living) (l : Live) → IsApartFrom (objects_ids o.objects) p → IsOpenOf g p l → IsOpenOf h p l) (same_room : h.book.room ≡ g.book.room) where
+    (far : AllByRecursion (IsApartFrom (objects_ids o.objects)) list) (stay : (p : Living) (l : Live) → IsApartFrom (objects_ids o.objects) p → IsLivingOf g p l → IsLivingOf h p l) (same_room : h.book.room ≡ g.book.room) where
   own_port_so : IsSpeakerOf (bare_open o) (live_by a number now) → own_by a ≡ port_for (chain_kind a) w number → HasOwnPort w o
   own_port_so called own = record {
     port = sym called.own ∙ own ∙ ap (λ k. port_for k w number) (kind_is a) ∙ port_by_objects o.objects (live_by a number now) w number called.kind ∙ ap (own_port_for o.objects w) (sym (number_is a number o is));
@@ -118,7 +118,7 @@ module _ (a : Opening) (w number now : ℕ) (link : Client) (o : Living) (is : o
         own = subst (AllByRecursion (HasOwnPort w)) (sym enters.0) (all_append (HasOwnPort w) list (o ∷ []) sound.own (own_port_so called own, tt));
         one_lease = subst (λ os. sum_by lease_count_of os ≤ 1) (sym enters.0)
             (let e = count_more lease_count_of list o in let i = leases_by_objects o.objects l (sum_by lease_count_of list) called.kind sound.one_lease (λ k. no_leases list (lease (kind_is a ∙ k))) in omega (arith, e, i));
-        lives = subst (AllByRecursion (LivesSome h)) (sym enters.0) (all_append (LivesSome h) list (o ∷ []) (all_live g h (IsApartFrom (objects_ids o.objects)) stay list far sound.lives) ((l, begins_as a number now h o kept sets.lives), tt));
+        lives = subst (AllByRecursion (IsLivingOfSome h)) (sym enters.0) (all_append (IsLivingOfSome h) list (o ∷ []) (all_live g h (IsApartFrom (objects_ids o.objects)) stay list far sound.lives) ((l, begins_as a number now h o kept sets.lives), tt));
         apart = subst AreApart (sym enters.0) (apart_more list o sound.apart far);
         room = same_room ∙ sound.room;
       }
@@ -129,7 +129,7 @@ module _ (a : Opening) (w number now : ℕ) (link : Client) (o : Living) (is : o
     rising = subst (AreRising 0 (number + 1)) (sym enters.0) (rising_on 0 number list sound.rising);
     own = subst (AllByRecursion (HasOwnPort w)) (sym enters.0) sound.own;
     one_lease = subst (λ os. sum_by lease_count_of os ≤ 1) (sym enters.0) sound.one_lease;
-    lives = subst (AllByRecursion (LivesSome h)) (sym enters.0) (all_live g h (IsApartFrom (objects_ids o.objects)) stay list far sound.lives);
+    lives = subst (AllByRecursion (IsLivingOfSome h)) (sym enters.0) (all_live g h (IsApartFrom (objects_ids o.objects)) stay list far sound.lives);
     apart = subst AreApart (sym enters.0) sound.apart;
     room = same_room ∙ sound.room;
   }

@@ -20,7 +20,7 @@ use Rattle.nb_open.specs.Opening.{live_by, server_by}
 use Rattle.nb_network.specs.declared.living.KeptDrive.{KeptDrive}
 use Rattle.nb_network.specs.declared.living.Living.{Living}
 use Rattle.nb_network.specs.Drives.{drive_by, drive_of}
-use Rattle.nb_network.specs.Many.{IsOpenOf, bare_open}
+use Rattle.nb_network.specs.Many.{IsLivingOf, bare_open}
 use Rattle.nb_network.proofs.Hearing.{living_is}
 
 -- nothing of its stream has come
@@ -56,5 +56,5 @@ drive_begun (Name a) number now = refl
 drive_begun (Lease a) number now = refl
 drive_begun (Echo a) number now = refl
 
-pub begins_as : (a : Opening) (number now : ℕ) (h : Objects Obj) (o : Living) → o.drive ≡ drive_by a → IsBareOf h (bare_open o) (live_by a number now) → IsOpenOf h o (live_by a number now)
+pub begins_as : (a : Opening) (number now : ℕ) (h : Objects Obj) (o : Living) → o.drive ≡ drive_by a → IsBareOf h (bare_open o) (live_by a number now) → IsLivingOf h o (live_by a number now)
 begins_as a number now h o kept i = living_is i (kept ∙ drive_begun a number now)

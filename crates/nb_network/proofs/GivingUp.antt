@@ -22,16 +22,16 @@ use Rattle.nb_network.specs.declared.living.Living.{Living}
 use Rattle.nb_open.specs.Ends.{GivesUp}
 use Rattle.nb_open.specs.Open.{pieces_of}
 use Rattle.nb_network.specs.Closings.{GivesUpWaiting}
-use Rattle.nb_network.specs.Many.{AreSound, IsApartFrom, IsOpenOf, LivesSome}
+use Rattle.nb_network.specs.Many.{AreSound, IsApartFrom, IsLivingOf, IsLivingOfSome}
 use Rattle.nb_network.proofs.Lists.{opens_move}
 use Rattle.nb_network.proofs.Staying.{open_stays}
 use Rattle.nb_network.proofs.Traces.{serials_are}
 
 module _ (kind : ChainKind) (c : Chain) (g h : Objects Obj) (list : List Living) (freed : Spelling) (x : GivesUp kind c g h freed) (noded : AreNoded rank_of_obj h) (apart : AllByRecursion (IsApartFrom (chain_ids c)) list) where
-  stay : (p : Living) (l : Live) → IsApartFrom (chain_ids c) p → IsOpenOf g p l → IsOpenOf h p l
+  stay : (p : Living) (l : Live) → IsApartFrom (chain_ids c) p → IsLivingOf g p l → IsLivingOf h p l
   stay p l far i = open_stays g h p l noded (λ y own. x.released.others.others y (i.chained.given y own) (far y own)) (let e = x.released.others.same_made in omega (arith, e)) i
 
-  all_live : (os : List Living) → AllByRecursion (IsApartFrom (chain_ids c)) os → AllByRecursion (LivesSome g) os → AllByRecursion (LivesSome h) os
+  all_live : (os : List Living) → AllByRecursion (IsApartFrom (chain_ids c)) os → AllByRecursion (IsLivingOfSome g) os → AllByRecursion (IsLivingOfSome h) os
   all_live [] far i = tt
   all_live (p ∷ os) far i = ((i.0.0, stay p i.0.0 far.0 i.0.1), all_live os far.1 i.1)
 

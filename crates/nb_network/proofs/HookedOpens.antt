@@ -19,9 +19,9 @@ use Rattle.nb_open.specs.Open.{AreOfKind, AreUnderWay}
 use Rattle.nb_teller.specs.declared.speaker.Speaker.{Speaker}
 use Rattle.nb_network.specs.declared.living.KeptDrive.{KeptDrive}
 use Rattle.nb_network.specs.declared.living.Living.{Living}
-use Rattle.nb_network.specs.Drives.{drive_of, has_answered, kept_of, read_by}
+use Rattle.nb_network.specs.Drives.{drive_of, has_answered, kept_drive_of, last_read_by}
 use Rattle.nb_network.specs.Hooked.{hooked_as, hooked_by, hooked_with}
-use Rattle.nb_network.specs.Many.{AreOpensOf, IsOpenOf}
+use Rattle.nb_network.specs.Many.{AreOpensOf, IsLivingOf}
 use Rattle.nb_network.proofs.Hearing.{drive_kind, no_answer, no_login, some_chap, web_login}
 use Rattle.nb_network.proofs.Keeping.{chap_in}
 
@@ -32,7 +32,7 @@ chap_is None = refl
 chap_is (Some a) = refl
 
 -- of a drive
-same_drive : (who : Speaker) (port : ℕ) (l : Live) (i : LoginInfo) → l.number ≡ who.number → l.server ≡ who.server.0 → port ≡ l.port → hooked_with who port (kept_of l i) ≡ drive_open_by l i
+same_drive : (who : Speaker) (port : ℕ) (l : Live) (i : LoginInfo) → l.number ≡ who.number → l.server ≡ who.server.0 → port ≡ l.port → hooked_with who port (kept_drive_of l i) ≡ drive_open_by l i
 same_drive who port l i number server asked =
     ap (λ n. (let d : DriveOpen = record { number = n; server = who.server; port = port; chap = unwrap_or (chap_in (answered l)) 0; login = i } in d)) (sym number)
     ∙ (ap (λ n. (let d : DriveOpen = record { number = l.number; server = host n; port = port; chap = unwrap_or (chap_in (answered l)) 0; login = i } in d)) (sym server)
@@ -45,24 +45,24 @@ module _ (g : Objects Obj) (who : Speaker) (l : Live) (number : l.number ≡ who
   hooked_of (objects.Web port own chain) called u = sym (ap (option_map (drive_open_by l)) (web_login l.kind own chain g l u))
   hooked_of (objects.Drive port own chain) called u =
       let d = drive_kind l.kind own chain g l u in
-      ap (λ k. option_map (hooked_with who port) (option_map (kept_of l) (login_of_kind k))) d.2
+      ap (λ k. option_map (hooked_with who port) (option_map (kept_drive_of l) (login_of_kind k))) d.2
       ∙ (ap Some (same_drive who port l d.1 number server called.1) ∙ sym (ap (λ k. option_map (drive_open_by l) (login_of_kind k)) d.2))
 
-hooked_is : (g : Objects Obj) (o : Living) (l : Live) → IsOpenOf g o l → hooked_by o ≡ drive_open_of l
+hooked_is : (g : Objects Obj) (o : Living) (l : Live) → IsLivingOf g o l → hooked_by o ≡ drive_open_of l
 hooked_is g o l is = ap (hooked_as o.objects o.speaker) is.drive ∙ hooked_of g o.speaker l is.called.number is.called.server o.objects is.called.kind is.under_way
 
 answered_by_login : (l : Live) (login : Option LoginInfo) → login_of_kind l.kind ≡ login → is_some (option_and_then (λ (d : KeptDrive). d.chap) (drive_of l)) ≡ is_some (answered l)
-answered_by_login l None e = ap (λ z. is_some (option_and_then (λ (d : KeptDrive). d.chap) (option_map (kept_of l) z))) e ∙ sym (ap is_some (no_answer l.kind l e))
-answered_by_login l (Some i) e = ap (λ z. is_some (option_and_then (λ (d : KeptDrive). d.chap) (option_map (kept_of l) z))) e ∙ some_chap (answered l)
+answered_by_login l None e = ap (λ z. is_some (option_and_then (λ (d : KeptDrive). d.chap) (option_map (kept_drive_of l) z))) e ∙ sym (ap is_some (no_answer l.kind l e))
+answered_by_login l (Some i) e = ap (λ z. is_some (option_and_then (λ (d : KeptDrive). d.chap) (option_map (kept_drive_of l) z))) e ∙ some_chap (answered l)
 
-answers_as : (g : Objects Obj) (o : Living) (l : Live) → IsOpenOf g o l → has_answered o ≡ is_some (answered l)
+answers_as : (g : Objects Obj) (o : Living) (l : Live) → IsLivingOf g o l → has_answered o ≡ is_some (answered l)
 answers_as g o l is = ap (λ z. is_some (option_and_then (λ (d : KeptDrive). d.chap) z)) is.drive ∙ answered_by_login l (login_of_kind l.kind) refl
 
 read_by_login : (l : Live) (login : Option LoginInfo) → login_of_kind l.kind ≡ login → option_and_then (λ (d : KeptDrive). d.read) (drive_of l) ≡ read_last l
-read_by_login l None e = ap (λ z. option_and_then (λ (d : KeptDrive). d.read) (option_map (kept_of l) z)) e ∙ sym (ap (option_and_then last_read) (no_answer l.kind l e))
-read_by_login l (Some i) e = ap (λ z. option_and_then (λ (d : KeptDrive). d.read) (option_map (kept_of l) z)) e
+read_by_login l None e = ap (λ z. option_and_then (λ (d : KeptDrive). d.read) (option_map (kept_drive_of l) z)) e ∙ sym (ap (option_and_then last_read) (no_answer l.kind l e))
+read_by_login l (Some i) e = ap (λ z. option_and_then (λ (d : KeptDrive). d.read) (option_map (kept_drive_of l) z)) e
 
-reads_as : (g : Objects Obj) (o : Living) (l : Live) → IsOpenOf g o l → read_by o ≡ read_last l
+reads_as : (g : Objects Obj) (o : Living) (l : Live) → IsLivingOf g o l → last_read_by o ≡ read_last l
 reads_as g o l is = ap (option_and_then (λ (d : KeptDrive). d.read)) is.drive ∙ read_by_login l (login_of_kind l.kind) refl
 
 -- ALL
@@ -92,16 +92,16 @@ found_answered k g (o ∷ os) (l ∷ ls) are = ap (λ z. has_some_answered (cond
     on true e = answers_as g o l are.0
     on false e = e
 
-pub found_read : (k : ℕ) (g : Objects Obj) (os : List Living) (ls : List Live) → AreOpensOf g os ls → option_and_then read_by (find (λ o. o.speaker.number == k) os) ≡ option_and_then read_last (find (has_number k) ls)
+pub found_read : (k : ℕ) (g : Objects Obj) (os : List Living) (ls : List Live) → AreOpensOf g os ls → option_and_then last_read_by (find (λ o. o.speaker.number == k) os) ≡ option_and_then read_last (find (has_number k) ls)
 found_read k g [] [] are = refl
 found_read k g [] (l ∷ ls) are = absurd are
 found_read k g (o ∷ os) [] are = absurd are
-found_read k g (o ∷ os) (l ∷ ls) are = ap (λ z. option_and_then read_by (cond z (Some o) (find (λ (p : Living). p.speaker.number == k) os))) here ∙ on (l.number == k) (found_read k g os ls are.1)
+found_read k g (o ∷ os) (l ∷ ls) are = ap (λ z. option_and_then last_read_by (cond z (Some o) (find (λ (p : Living). p.speaker.number == k) os))) here ∙ on (l.number == k) (found_read k g os ls are.1)
   where
     here : (o.speaker.number == k) ≡ (l.number == k)
     here = ap (λ n. n == k) (sym are.0.called.number)
 
-    on : (z : Bool) → option_and_then read_by (find (λ (p : Living). p.speaker.number == k) os) ≡ option_and_then read_last (find (has_number k) ls)
-        → option_and_then read_by (cond z (Some o) (find (λ (p : Living). p.speaker.number == k) os)) ≡ option_and_then read_last (cond z (Some l) (find (has_number k) ls))
+    on : (z : Bool) → option_and_then last_read_by (find (λ (p : Living). p.speaker.number == k) os) ≡ option_and_then read_last (find (has_number k) ls)
+        → option_and_then last_read_by (cond z (Some o) (find (λ (p : Living). p.speaker.number == k) os)) ≡ option_and_then read_last (cond z (Some l) (find (has_number k) ls))
     on true e = reads_as g o l are.0
     on false e = e

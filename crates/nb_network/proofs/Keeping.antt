@@ -10,7 +10,7 @@ use Rattle.nb_machine.specs.Kinds.{answered}
 use Rattle.nb_machine.specs.Lives.{Live}
 use Rattle.nb_open.specs.DriveAnswers.{AnswersAfter, AsksAfter, bytes_so_far, is_reading, read_answer, takes_task, with_none_last, would_take}
 use Rattle.nb_network.specs.declared.living.KeptDrive.{KeptDrive}
-use Rattle.nb_network.specs.Drives.{asks, brings, kept_of, with_answer, with_blocks, with_news}
+use Rattle.nb_network.specs.Drives.{asks, brings, kept_drive_of, with_answer, with_blocks, with_news}
 
 -- which kind of CHAP an answer names, and how many blocks
 abbrev pub chap_in : Option DriveAnswer → Option ℕ
@@ -42,7 +42,7 @@ answer_kept i server a None bytes blocks later = refl
 answer_kept i server a (Some before) bytes blocks later = refl
 
 module _ (i : LoginInfo) (l after : Live) where
-  pub brought_is : (answer : Option Told) (blocks : List ℕ) → AnswersAfter l after answer blocks → with_news (brings answer blocks) (kept_of l i) ≡ kept_of after i
+  pub brought_is : (answer : Option Told) (blocks : List ℕ) → AnswersAfter l after answer blocks → with_news (brings answer blocks) (kept_drive_of l i) ≡ kept_drive_of after i
   brought_is None blocks h =
       blocks_kept i (answered l) (is_reading l) (bytes_so_far l) blocks
       ∙ (ap (λ z. kept i z (coming (is_reading l) (bytes_so_far l ++ blocks))) (sym h.0)
@@ -67,10 +67,10 @@ is_coming : (reading : Bool) (bytes : List ℕ) → is_some (coming reading byte
 is_coming true bytes = refl
 is_coming false bytes = refl
 
-pub asked_is : (i : LoginInfo) (l after : Live) (t : ReadTask) → AsksAfter t l after → with_news (asks t) (kept_of l i) ≡ kept_of after i
+pub asked_is : (i : LoginInfo) (l after : Live) (t : ReadTask) → AsksAfter t l after → with_news (asks t) (kept_drive_of l i) ≡ kept_drive_of after i
 asked_is i l after t h =
     let w = answered l in
-    ap (λ z. cond (would_take z t (size_in w)) (let d : KeptDrive = record { login = i; chap = chap_in w; capacity = size_in w; coming = Some []; read = None } in d) (kept_of l i)) (is_coming (is_reading l) (bytes_so_far l))
+    ap (λ z. cond (would_take z t (size_in w)) (let d : KeptDrive = record { login = i; chap = chap_in w; capacity = size_in w; coming = Some []; read = None } in d) (kept_drive_of l i)) (is_coming (is_reading l) (bytes_so_far l))
     ∙ (asked_kept i t (is_reading l) (bytes_so_far l) w (takes_task t l)
     ∙ (ap (λ z. kept i z (coming (cond (takes_task t l) true (is_reading l)) (cond (takes_task t l) [] (bytes_so_far l)))) (sym h.answer)
     ∙ (ap (λ z. kept i (answered after) (coming (cond (takes_task t l) true (is_reading l)) z)) (sym h.bytes) ∙ ap (λ z. kept i (answered after) (coming z (bytes_so_far after))) (sym h.reading))))

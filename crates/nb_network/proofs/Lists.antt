@@ -9,7 +9,7 @@ use Rattle.nb_chains.specs.Chains.{AreOthers}
 use Rattle.nb_machine.specs.Lives.{Live}
 use Rattle.nb_open.specs.Objects.{objects_ids}
 use Rattle.nb_network.specs.declared.living.Living.{Living}
-use Rattle.nb_network.specs.Many.{AreApart, AreOpensOf, AreRising, IsApartFrom, IsOpenOf}
+use Rattle.nb_network.specs.Many.{AreApart, AreOpensOf, AreRising, IsApartFrom, IsLivingOf}
 
 -- ALL OF A LIST
 
@@ -70,7 +70,7 @@ pub record PartedAt (g : Objects Obj) (before : List Living) (o : Living) (behin
   pub back : List Live
   pub all : ls ≡ front ++ live ∷ back
   pub fronts : AreOpensOf g before front
-  pub is : IsOpenOf g o live
+  pub is : IsLivingOf g o live
   pub backs : AreOpensOf g behind back
 
 one_first : (g : Objects Obj) (before : List Living) (o : Living) (behind : List Living) (ls front back : List Live) → ls ≡ front ++ back → AreOpensOf g before front → AreOpensOf g (o ∷ behind) back → PartedAt g before o behind ls
@@ -81,7 +81,7 @@ pub opens_part_at : (g : Objects Obj) (before : List Living) (o : Living) (behin
 opens_part_at g before o behind ls h = let p = opens_part g before (o ∷ behind) ls h in one_first g before o behind ls p.front p.back p.all p.fronts p.backs
 
 -- on another graph, where each stays
-pub opens_move : (g h : Objects Obj) (P : Living → Type 0) → ((o : Living) (l : Live) → P o → IsOpenOf g o l → IsOpenOf h o l) → (os : List Living) (ls : List Live) → AllByRecursion P os → AreOpensOf g os ls → AreOpensOf h os ls
+pub opens_move : (g h : Objects Obj) (P : Living → Type 0) → ((o : Living) (l : Live) → P o → IsLivingOf g o l → IsLivingOf h o l) → (os : List Living) (ls : List Live) → AllByRecursion P os → AreOpensOf g os ls → AreOpensOf h os ls
 opens_move g h P f [] [] a k = tt
 opens_move g h P f [] (l ∷ ls) a k = absurd k
 opens_move g h P f (o ∷ os) [] a k = absurd k

@@ -19,7 +19,7 @@ use Rattle.nb_open.specs.declared.objects.OpenObjects.TheVariants.{Chain, Drive,
 use Rattle.nb_network.specs.declared.living.Living.{Living}
 use Rattle.nb_open.specs.Exchanges.{SuitsBy}
 use Rattle.nb_open.specs.Open.{AreOfKind, carrier_for, kind_for}
-use Rattle.nb_network.specs.Many.{AreOpensOf, IsOpenOf}
+use Rattle.nb_network.specs.Many.{AreOpensOf, IsLivingOf}
 use Rattle.nb_network.specs.Receiving.{port_by_carrier}
 use Rattle.nb_network.specs.Steps.{counts_by, counts_by_kind}
 use Rattle.nb_network.proofs.Ports.{IsElsewhere, and_false, and_true, either_test}
@@ -31,7 +31,7 @@ not_own : (own port : ℕ) → (own ≡ port → ⊥) → (own == port) ≡ fals
 not_own own port h = either_test (own == port) (λ e. absurd (h (eqb-true own port e))) (λ e. e)
 
 -- none of these opens of the machine is such, where none of ours is
-none_of : (g : Objects Obj) (f : Live → Bool) (P : Living → Type 0) → ((o : Living) (l : Live) → IsOpenOf g o l → P o → f l ≡ false) → (os : List Living) (ls : List Live) → AreOpensOf g os ls → AllByRecursion P os → list_any f ls ≡ false
+none_of : (g : Objects Obj) (f : Live → Bool) (P : Living → Type 0) → ((o : Living) (l : Live) → IsLivingOf g o l → P o → f l ≡ false) → (os : List Living) (ls : List Live) → AreOpensOf g os ls → AllByRecursion P os → list_any f ls ≡ false
 none_of g f P each [] [] i h = refl
 none_of g f P each [] (l ∷ ls) i h = absurd i
 none_of g f P each (o ∷ os) [] i h = absurd i
@@ -68,7 +68,7 @@ not_for_kind (dns id) p d l h = middle_false (l.device == net0) (l.own == d.dst_
 not_for_kind (dhcp a) p d l h = middle_false (l.device == net0) (l.own == d.dst_port) (takes_from (dhcp a) l p d) (not_own l.own d.dst_port (h refl))
 not_for_kind ping p d l h = and_false ((l.device == net0) && (l.own == d.dst_port))
 
-not_for : (g : Objects Obj) (p : PacketParts) (d : UdpParts) (o : Living) (l : Live) → IsOpenOf g o l → IsElsewhere 17 d.dst_port o → is_for net0 p d l ≡ false
+not_for : (g : Objects Obj) (p : PacketParts) (d : UdpParts) (o : Living) (l : Live) → IsLivingOf g o l → IsElsewhere 17 d.dst_port o → is_for net0 p d l ≡ false
 not_for g p d o l i h = not_for_kind l.kind p d l (λ e f. h (ap carrier_number i.called.carrier ∙ e) (sym i.called.own ∙ f))
 
 pub none_for : (g : Objects Obj) (p : PacketParts) (d : UdpParts) (os : List Living) (ls : List Live) → AreOpensOf g os ls → AllByRecursion (IsElsewhere 17 d.dst_port) os → list_any (is_for net0 p d) ls ≡ false
@@ -87,7 +87,7 @@ takes_as_counts (Chain kind chain) l server p d i e c = takes_as_kind l.kind l s
 takes_as_counts (Web port own chain) l server p d i e c = absurd (let t = tcp_of l.kind i.0 in omega (arith, c, t))
 takes_as_counts (Drive port own chain) l server p d i e c = absurd (let t = tcp_of l.kind i.0 in omega (arith, c, t))
 
-pub for_as_counts : (g : Objects Obj) (p : PacketParts) (d : UdpParts) (o : Living) (l : Live) → IsOpenOf g o l → carrier_number o.speaker.carrier ≡ 17 → o.speaker.own_port ≡ d.dst_port → is_for net0 p d l ≡ counts_by o.objects o.speaker.server p.src d.src_port
+pub for_as_counts : (g : Objects Obj) (p : PacketParts) (d : UdpParts) (o : Living) (l : Live) → IsLivingOf g o l → carrier_number o.speaker.carrier ≡ 17 → o.speaker.own_port ≡ d.dst_port → is_for net0 p d l ≡ counts_by o.objects o.speaker.server p.src d.src_port
 for_as_counts g p d o l i c own =
     ap (λ b. (b && (l.own == d.dst_port)) && takes_from l.kind l p d) (eq-eqb l.device net0 i.called.device)
     ∙ ap (λ b. b && takes_from l.kind l p d) (eq-eqb l.own d.dst_port (i.called.own ∙ own))
@@ -104,7 +104,7 @@ not_reply_kind (dns id) p e l h = refl
 not_reply_kind (dhcp a) p e l h = refl
 not_reply_kind ping p e l h = middle_false (l.device == net0) (l.own == e.ident) (p.src.0 == l.server) (not_own l.own e.ident (h refl))
 
-not_reply : (g : Objects Obj) (p : PacketParts) (e : EchoParts) (o : Living) (l : Live) → IsOpenOf g o l → IsElsewhere 1 e.ident o → is_reply_for net0 p e l ≡ false
+not_reply : (g : Objects Obj) (p : PacketParts) (e : EchoParts) (o : Living) (l : Live) → IsLivingOf g o l → IsElsewhere 1 e.ident o → is_reply_for net0 p e l ≡ false
 not_reply g p e o l i h = not_reply_kind l.kind p e l (λ c f. h (ap carrier_number i.called.carrier ∙ c) (sym i.called.own ∙ f))
 
 pub none_reply : (g : Objects Obj) (p : PacketParts) (e : EchoParts) (os : List Living) (ls : List Live) → AreOpensOf g os ls → AllByRecursion (IsElsewhere 1 e.ident) os → list_any (is_reply_for net0 p e) ls ≡ false
@@ -123,7 +123,7 @@ reply_as_objects (Chain kind chain) l server source port i e c = reply_as_kind l
 reply_as_objects (Web asked own chain) l server source port i e c = absurd (let t = tcp_of l.kind i.0 in omega (arith, c, t))
 reply_as_objects (Drive asked own chain) l server source port i e c = absurd (let t = tcp_of l.kind i.0 in omega (arith, c, t))
 
-pub reply_as_counts : (g : Objects Obj) (p : PacketParts) (e : EchoParts) (port : ℕ) (o : Living) (l : Live) → IsOpenOf g o l → carrier_number o.speaker.carrier ≡ 1 → o.speaker.own_port ≡ e.ident → is_reply_for net0 p e l ≡ counts_by o.objects o.speaker.server p.src port
+pub reply_as_counts : (g : Objects Obj) (p : PacketParts) (e : EchoParts) (port : ℕ) (o : Living) (l : Live) → IsLivingOf g o l → carrier_number o.speaker.carrier ≡ 1 → o.speaker.own_port ≡ e.ident → is_reply_for net0 p e l ≡ counts_by o.objects o.speaker.server p.src port
 reply_as_counts g p e port o l i c own =
     ap (λ b. ((is_ping l.kind && b) && (l.own == e.ident)) && (p.src.0 == l.server)) (eq-eqb l.device net0 i.called.device)
     ∙ ap (λ b. ((is_ping l.kind && true) && b) && (p.src.0 == l.server)) (eq-eqb l.own e.ident (i.called.own ∙ own))
@@ -131,7 +131,7 @@ reply_as_counts g p e port o l i c own =
 
 -- A SEGMENT
 
-not_at_port : (g : Objects Obj) (port : ℕ) (o : Living) (l : Live) → IsOpenOf g o l → IsElsewhere 6 port o → has_port net0 port l ≡ false
+not_at_port : (g : Objects Obj) (port : ℕ) (o : Living) (l : Live) → IsLivingOf g o l → IsElsewhere 6 port o → has_port net0 port l ≡ false
 not_at_port g port o l i h =
     either_test (is_connection l.kind)
     (λ c. ap (λ b. (is_connection l.kind && (l.device == net0)) && b) (not_own l.own port (λ e. h (ap carrier_number i.called.carrier ∙ tcp_of l.kind c) (sym i.called.own ∙ e))) ∙ and_false (is_connection l.kind && (l.device == net0)))
@@ -140,13 +140,13 @@ not_at_port g port o l i h =
 pub none_at_port : (g : Objects Obj) (port : ℕ) (os : List Living) (ls : List Live) → AreOpensOf g os ls → AllByRecursion (IsElsewhere 6 port) os → list_any (has_port net0 port) ls ≡ false
 none_at_port g port os ls i h = none_of g (has_port net0 port) (IsElsewhere 6 port) (not_at_port g port) os ls i h
 
-not_segment : (g : Objects Obj) (p : PacketParts) (x : SegmentParts) (o : Living) (l : Live) → IsOpenOf g o l → IsElsewhere 6 x.dst_port o → is_segment_for net0 p x l ≡ false
+not_segment : (g : Objects Obj) (p : PacketParts) (x : SegmentParts) (o : Living) (l : Live) → IsLivingOf g o l → IsElsewhere 6 x.dst_port o → is_segment_for net0 p x l ≡ false
 not_segment g p x o l i h = ap (λ b. (b && (p.src.0 == l.server)) && (x.src_port == l.port)) (not_at_port g x.dst_port o l i h)
 
 pub none_segment : (g : Objects Obj) (p : PacketParts) (x : SegmentParts) (os : List Living) (ls : List Live) → AreOpensOf g os ls → AllByRecursion (IsElsewhere 6 x.dst_port) os → list_any (is_segment_for net0 p x) ls ≡ false
 none_segment g p x os ls i h = none_of g (is_segment_for net0 p x) (IsElsewhere 6 x.dst_port) (not_segment g p x) os ls i h
 
-pub at_port_of : (g : Objects Obj) (port : ℕ) (o : Living) (l : Live) → IsOpenOf g o l → carrier_number o.speaker.carrier ≡ 6 → o.speaker.own_port ≡ port → has_port net0 port l ≡ true
+pub at_port_of : (g : Objects Obj) (port : ℕ) (o : Living) (l : Live) → IsLivingOf g o l → carrier_number o.speaker.carrier ≡ 6 → o.speaker.own_port ≡ port → has_port net0 port l ≡ true
 at_port_of g port o l i c own =
     ap (λ b. (b && (l.device == net0)) && (l.own == port)) (by_tcp l.kind (sym (ap carrier_number i.called.carrier) ∙ c))
     ∙ ap (λ b. b && (l.own == port)) (eq-eqb l.device net0 i.called.device)
@@ -157,7 +157,7 @@ segment_as_objects (Chain kind chain) l server source port i e c = absurd (false
 segment_as_objects (Web asked own chain) l server source port i e c = ap (λ z. (source.0 == z) && (port == l.port)) e ∙ ap (λ z. (source.0 == server.0) && (port == z)) (sym i.1)
 segment_as_objects (Drive asked own chain) l server source port i e c = ap (λ z. (source.0 == z) && (port == l.port)) e ∙ ap (λ z. (source.0 == server.0) && (port == z)) (sym i.1)
 
-pub segment_as_counts : (g : Objects Obj) (p : PacketParts) (x : SegmentParts) (o : Living) (l : Live) → IsOpenOf g o l → carrier_number o.speaker.carrier ≡ 6 → o.speaker.own_port ≡ x.dst_port → is_segment_for net0 p x l ≡ counts_by o.objects o.speaker.server p.src x.src_port
+pub segment_as_counts : (g : Objects Obj) (p : PacketParts) (x : SegmentParts) (o : Living) (l : Live) → IsLivingOf g o l → carrier_number o.speaker.carrier ≡ 6 → o.speaker.own_port ≡ x.dst_port → is_segment_for net0 p x l ≡ counts_by o.objects o.speaker.server p.src x.src_port
 segment_as_counts g p x o l i c own =
     ap (λ b. (b && (p.src.0 == l.server)) && (x.src_port == l.port)) (at_port_of g x.dst_port o l i c own)
     ∙ segment_as_objects o.objects l o.speaker.server p.src x.src_port i.called.kind i.called.server (by_tcp l.kind (sym (ap carrier_number i.called.carrier) ∙ c))
@@ -188,7 +188,7 @@ suits_objects (Chain kind chain) l server a port i e t f = suits_kind l.kind l s
 suits_objects (Web asked own chain) l server a port i e t f = suits_connection l.kind l server.0 a port asked e i.0 i.1 t f
 suits_objects (Drive asked own chain) l server a port i e t f = suits_connection l.kind l server.0 a port asked e i.0 i.1 t f
 
-pub suits : (g : Objects Obj) (o : Living) (l : Live) (a : Arrival) (port : ℕ) → IsOpenOf g o l → counts_by o.objects o.speaker.server a.source port ≡ true → a.port ≡ port_by_carrier o.speaker.carrier o.speaker.own_port port → SuitsBy l.kind l a
+pub suits : (g : Objects Obj) (o : Living) (l : Live) (a : Arrival) (port : ℕ) → IsLivingOf g o l → counts_by o.objects o.speaker.server a.source port ≡ true → a.port ≡ port_by_carrier o.speaker.carrier o.speaker.own_port port → SuitsBy l.kind l a
 suits g o l a port i t f =
     suits_objects o.objects l o.speaker.server a port i.called.kind i.called.server t
     (f ∙ ap (λ c. port_by_carrier c o.speaker.own_port port) i.called.carrier ∙ ap (λ own. port_by_carrier (carrier_for l.kind) own port) (sym i.called.own))

@@ -29,7 +29,7 @@ use Rattle.nb_open.specs.declared.objects.OpenObjects.TheVariants as objects
 use Rattle.nb_open.specs.Objects.{objects_ids}
 use Rattle.nb_open.specs.Open.{pieces_of}
 use Rattle.nb_network.specs.Closings.{ClosesMany, closes_with}
-use Rattle.nb_network.specs.Many.{AreApart, AreOpensOf, AreRising, AreSound, FitsHoldings, HasOwnPort, IsApartFrom, IsOpenOf, IsStateOf, LivesSome, Many, WaitsBeside, bound_port, kin_of, lease_count_of, bare_open}
+use Rattle.nb_network.specs.Many.{AreApart, AreOpensOf, AreRising, AreSound, FitsHoldings, HasOwnPort, IsApartFrom, IsLivingOf, IsStateOf, IsLivingOfSome, Many, WaitsBeside, bound_port, kin_of, lease_count_of, bare_open}
 use Rattle.nb_network.specs.Shutting.{LetsWaitingGo, ShutsFirst, ends_beside, parted_by}
 use Rattle.nb_network.specs.Takes.{TracesOn}
 use Rattle.nb_network.proofs.Closes.{closes_before, closes_none, no_close}
@@ -87,10 +87,10 @@ module _ (kind : ChainKind) (m : Many) (net : Client) (w opens now : ℕ) (cause
   later : m.graph.book.made ≤ m1.graph.book.made
   later = let e = x.shuts.others.same_made in omega (arith, e)
 
-  stay : (p : Living) (l : Live) → IsFar (objects_ids o.objects ++ chain_ids_of with_it) p → IsOpenOf m.graph p l → IsOpenOf m1.graph p l
+  stay : (p : Living) (l : Live) → IsFar (objects_ids o.objects ++ chain_ids_of with_it) p → IsLivingOf m.graph p l → IsLivingOf m1.graph p l
   stay p l a i = open_stays m.graph m1.graph p l x.noded (λ y own. x.shuts.others.others y (i.chained.given y own) (a y own)) later i
 
-  all_live : (os : List Living) → AllByRecursion (IsFar (objects_ids o.objects ++ chain_ids_of with_it)) os → AllByRecursion (LivesSome m.graph) os → AllByRecursion (LivesSome m1.graph) os
+  all_live : (os : List Living) → AllByRecursion (IsFar (objects_ids o.objects ++ chain_ids_of with_it)) os → AllByRecursion (IsLivingOfSome m.graph) os → AllByRecursion (IsLivingOfSome m1.graph) os
   all_live [] a i = tt
   all_live (p ∷ os) a i = ((i.0.0, stay p i.0.0 a.0 i.0.1), all_live os a.1 i.1)
 
@@ -110,7 +110,7 @@ module _ (kind : ChainKind) (m : Many) (net : Client) (w opens now : ℕ) (cause
         rising = subst (AreRising 0 opens) (sym x.list) (rising_without 0 opens [] o rest rising);
         own = subst (AllByRecursion (HasOwnPort w)) (sym x.list) own.1;
         one_lease = subst (λ os. sum_by lease_count_of os ≤ 1) (sym x.list) (count_without lease_count_of [] o rest 1 one);
-        lives = subst (AllByRecursion (LivesSome m1.graph)) (sym x.list) (all_live rest far (subst (AllByRecursion (LivesSome m.graph)) is sound.lives).1);
+        lives = subst (AllByRecursion (IsLivingOfSome m1.graph)) (sym x.list) (all_live rest far (subst (AllByRecursion (IsLivingOfSome m.graph)) is sound.lives).1);
         apart = subst AreApart (sym x.list) around.rest;
         room = x.shuts.same_room ∙ sound.room;
       }

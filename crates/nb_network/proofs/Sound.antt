@@ -8,7 +8,7 @@ use Rattle.nb_stack.specs.Brings.{Brought, arp_message}
 use Rattle.nb_stack.specs.Client.{Client}
 use Rattle.nb_stack.specs.Takes.{client_after}
 use Rattle.nb_network.specs.declared.living.Living.{Living}
-use Rattle.nb_network.specs.Many.{AreApart, AreOpensOf, AreRising, AreSound, HasOwnPort, LivesSome, Many, bound_port, lease_count_of, most_objects}
+use Rattle.nb_network.specs.Many.{AreApart, AreOpensOf, AreRising, AreSound, HasOwnPort, IsLivingOfSome, Many, bound_port, lease_count_of, most_objects}
 
 pub sound_over : (w opens : ℕ) (net net' : Client) (m : Many) → net'.ports ≡ net.ports → AreSound w opens net m → AreSound w opens net' m
 sound_over w opens net net' m ports s = record {
@@ -36,12 +36,12 @@ sound_none w net m fits ports none room = record {
   rising = subst (AreRising 0 0) (sym none) tt;
   own = subst (AllByRecursion (HasOwnPort w)) (sym none) tt;
   one_lease = subst (λ os. sum_by lease_count_of os ≤ 1) (sym none) (omega arith);
-  lives = subst (AllByRecursion (LivesSome m.graph)) (sym none) tt;
+  lives = subst (AllByRecursion (IsLivingOfSome m.graph)) (sym none) tt;
   apart = subst AreApart (sym none) tt;
   room = room;
 }
 
 -- those of the machine that live, where each of ours does
-pub some_live : (g : Objects Obj) (os : List Living) → AllByRecursion (LivesSome g) os → (ls : List Live) × AreOpensOf g os ls
+pub some_live : (g : Objects Obj) (os : List Living) → AllByRecursion (IsLivingOfSome g) os → (ls : List Live) × AreOpensOf g os ls
 some_live g [] lives = ([], tt)
 some_live g (o ∷ os) lives = let more = some_live g os lives.1 in (lives.0.0 ∷ more.0, (lives.0.1, more.1))

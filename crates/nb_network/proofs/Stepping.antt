@@ -34,7 +34,7 @@ use Rattle.nb_open.specs.Objects.{objects_ids}
 use Rattle.nb_open.specs.DriveAnswers.{found_bytes}
 use Rattle.nb_open.specs.Exchanges.{Exchanges, HandsOut, IsLeaseMessage, last_put, with_exchange}
 use Rattle.nb_network.specs.declared.over.HasEnded.{HasEnded}
-use Rattle.nb_network.specs.Many.{AreApart, AreOpensOf, AreRising, AreSound, HasOwnPort, HasTiedOnlyOf, IsApartFrom, IsNewestBut, IsOpenOf, LivesSome, Many, WaitsBeside, bound_port, kin_of, lease_count_of, bare_open}
+use Rattle.nb_network.specs.Many.{AreApart, AreOpensOf, AreRising, AreSound, HasOwnPort, HasTiedOnlyOf, IsApartFrom, IsNewestBut, IsLivingOf, IsLivingOfSome, Many, WaitsBeside, bound_port, kin_of, lease_count_of, bare_open}
 use Rattle.nb_network.specs.Steps.{ComesAt, GoesOnSo, EndIsSettled, TracesAt, answer_for, freed_of, left_by, step_records}
 use Rattle.nb_network.specs.Takes.{AnswersBy, BeginsWithEntry, IsEndOf, KeepsWaiting, awaited_over}
 use Rattle.nb_network.proofs.Awaiting.{tied_ends, tied_stay, lived, newest_ends, newest_stays}
@@ -43,7 +43,7 @@ use Rattle.nb_network.proofs.Lists.{HasOtherNumber, all_append, all_at, all_back
 use Rattle.nb_network.proofs.Ports.{either_test, freed_port, stands_alone}
 use Rattle.nb_network.proofs.Staying.{open_stays, waits_on}
 use Rattle.nb_network.proofs.Traces.{begins_entry, came_by, traces_end, traces_on}
-use Rattle.nb_network.specs.Drives.{DriveNews, has_answered, heard_by, noted, read_by}
+use Rattle.nb_network.specs.Drives.{DriveNews, has_answered, news_by, noted, last_read_by}
 use Rattle.nb_network.proofs.Hearing.{IsLastOf, known_last, noted_is}
 use Rattle.nb_network.proofs.Noting.{all_noted, apart_noted, leases_noted, map_noted, port_noted, rising_noted}
 
@@ -79,7 +79,7 @@ pub answers_none : (awaited : Option ℕ) (answer : Option HasEnded) → answer 
 answers_none awaited answer e = subst (λ z. AnswersBy z (awaited_over awaited [])) (sym e) (subst (AnswersBy None) (sym (answer_none awaited)) tt)
 
 pub is_end : (o : Living) (l : Live) (e : Ended) (s : Spelling) → l.number ≡ o.speaker.number → (is_ok_cause e.cause ≡ true → HandsOut (bare_open o) l e s) → IsLeaseMessage (found_bytes o.objects s.bytes) → IsLastOf l o.drive →
-    IsEndOf (record { number = o.speaker.number; cause = e.cause; body = e.body; moved = e.moved; bytes = found_bytes o.objects s.bytes; address = s.address; answered = has_answered o; read = read_by o }) (record { live = l; cause = e.cause })
+    IsEndOf (record { number = o.speaker.number; cause = e.cause; body = e.body; moved = e.moved; bytes = found_bytes o.objects s.bytes; address = s.address; answered = has_answered o; read = last_read_by o }) (record { live = l; cause = e.cause })
 is_end o l e s same hands message answers = record {
   number = same;
   cause = refl;
@@ -98,7 +98,7 @@ answers_one None o l e s same hands message answers = tt
 answers_one (Some k) o l e s same hands message answers =
     let number = o.speaker.number in
     let over : Over = record { live = l; cause = e.cause } in
-    let found : HasEnded = record { number = number; cause = e.cause; body = e.body; moved = e.moved; bytes = found_bytes o.objects s.bytes; address = s.address; answered = has_answered o; read = read_by o } in
+    let found : HasEnded = record { number = number; cause = e.cause; body = e.body; moved = e.moved; bytes = found_bytes o.objects s.bytes; address = s.address; answered = has_answered o; read = last_read_by o } in
     subst (λ b. AnswersBy (answer_for (Some k) o e s) (cond b (Some over) None)) (sym (ap (λ z. z == k) same))
     (either_test {P = AnswersBy (cond (number == k) (Some found) None) (cond (number == k) (Some over) None)} (number == k)
     (λ t. subst (λ b. AnswersBy (cond b (Some found) None) (cond b (Some over) None)) (sym t) (is_end o l e s same hands message answers))
@@ -111,11 +111,11 @@ pub texts_more : (xs ys : List Out) → out_texts (xs ++ ys) ≡ out_texts xs ++
 texts_more xs ys = flat_map-append out_text xs ys
 
 module _ (suits : Live → Type 0) (came : OpenInput) (way : Option Way) (begun : Option ℕ) (m : Many) (net : Client) (opens : ℕ) (before : List Living) (o : Living) (behind : List Living) (awaited : Option ℕ) (m' : Many) (old new : Logged) (is : m.list ≡ before ++ o ∷ behind) where
-  gives_on : (told : Spelling) (heard : DriveNews) (answer : Option HasEnded) (net' : Client) → heard ≡ heard_by came told → EndIsSettled None before o behind net begun awaited heard told m'.list net' answer old new →
-      (l : Live) → IsOpenOf m.graph o l → Exchanges (bare_open o) l came (bare net) way m.graph m'.graph told None → OneGives m net opens before o behind l came way begun awaited None heard answer m' old new
+  gives_on : (told : Spelling) (heard : DriveNews) (answer : Option HasEnded) (net' : Client) → heard ≡ news_by came told → EndIsSettled None before o behind net begun awaited heard told m'.list net' answer old new →
+      (l : Live) → IsLivingOf m.graph o l → Exchanges (bare_open o) l came (bare net) way m.graph m'.graph told None → OneGives m net opens before o behind l came way begun awaited None heard answer m' old new
   gives_on told heard answer net' hears s l i x =
       let put = without_graph x.records in
-      let lives : IsOpenOf m'.graph (noted (heard_by came told) o) (continued l (exchange came (bare net) put)) = noted_is m.graph l came (bare net) put told o i m'.graph x.does.lives (x.answers (bare net) put) in
+      let lives : IsLivingOf m'.graph (noted (news_by came told) o) (continued l (exchange came (bare net) put)) = noted_is m.graph l came (bare net) put told o i m'.graph x.does.lives (x.answers (bare net) put) in
       record {
         records = x.records;
         puts = subst (Puts old new) (ap (λ z. out_texts (step_records begun) ++ z) x.text ∙ sym (texts_more (step_records begun) x.records)) s.3;
@@ -124,14 +124,14 @@ module _ (suits : Live → Type 0) (came : OpenInput) (way : Option Way) (begun 
         takes = subst (λ z. AllTake (bare net ∷ []) came (l ∷ []) z (continued l (exchange came (bare net) put) ∷ []) []) (append-nil put)
             (lives_on l [] [] (bare net) put [] [] (its_link net l.device i.called.device) x.does.keeps x.does.no_end all_have);
         list = s.0;
-        lives = (subst (λ z. IsOpenOf m'.graph (noted z o) (continued l (exchange came (bare net) put))) (sym hears) lives, tt);
+        lives = (subst (λ z. IsLivingOf m'.graph (noted z o) (continued l (exchange came (bare net) put))) (sym hears) lives, tt);
         answers = answers_none awaited answer s.2;
         traces = λ n. traces_on heard n m opens before o behind way x.records m' is s.0 x.does.call x.does.no_close;
         first = λ n. subst (BeginsBySome (came_by n o.speaker.number way)) (append-nil x.records) (begins_some n o way x.records m.graph m'.graph x.does.call []);
       }
 
-  gives_last : (e : Ended) (told : Spelling) (heard : DriveNews) (answer : Option HasEnded) (net' : Client) → heard ≡ heard_by came told → EndIsSettled (Some e) before o behind net begun awaited heard told m'.list net' answer old new →
-      (l : Live) → IsOpenOf m.graph o l → Exchanges (bare_open o) l came (bare net) way m.graph m'.graph told (Some e) → OneGives m net opens before o behind l came way begun awaited (Some e) heard answer m' old new
+  gives_last : (e : Ended) (told : Spelling) (heard : DriveNews) (answer : Option HasEnded) (net' : Client) → heard ≡ news_by came told → EndIsSettled (Some e) before o behind net begun awaited heard told m'.list net' answer old new →
+      (l : Live) → IsLivingOf m.graph o l → Exchanges (bare_open o) l came (bare net) way m.graph m'.graph told (Some e) → OneGives m net opens before o behind l came way begun awaited (Some e) heard answer m' old new
   gives_last e told heard answer net' hears s l i x =
       let k = o.speaker.number in
       let all = x.records ++ ended k e.cause ∷ [] in
@@ -155,13 +155,13 @@ module _ (suits : Live → Type 0) (came : OpenInput) (way : Option Way) (begun 
         first = λ n. begins_some n o way x.records m.graph m'.graph x.does.call (ended k e.cause ∷ []);
       }
 
-  gives_by : (end : Option Ended) (told : Spelling) (heard : DriveNews) (answer : Option HasEnded) (net' : Client) → heard ≡ heard_by came told → EndIsSettled end before o behind net begun awaited heard told m'.list net' answer old new →
-      (l : Live) → IsOpenOf m.graph o l → Exchanges (bare_open o) l came (bare net) way m.graph m'.graph told end → OneGives m net opens before o behind l came way begun awaited end heard answer m' old new
+  gives_by : (end : Option Ended) (told : Spelling) (heard : DriveNews) (answer : Option HasEnded) (net' : Client) → heard ≡ news_by came told → EndIsSettled end before o behind net begun awaited heard told m'.list net' answer old new →
+      (l : Live) → IsLivingOf m.graph o l → Exchanges (bare_open o) l came (bare net) way m.graph m'.graph told end → OneGives m net opens before o behind l came way begun awaited end heard answer m' old new
   gives_by None told heard answer net' hears s l i x = gives_on told heard answer net' hears s l i x
   gives_by (Some e) told heard answer net' hears s l i x = gives_last e told heard answer net' hears s l i x
 
   pub one_gives : (end : Option Ended) (answer : Option HasEnded) (net' : Client) → (c : ComesAt suits came way begun m net before o behind awaited end answer m' net' old new) →
-      (l : Live) → IsOpenOf m.graph o l → suits l → OneGives m net opens before o behind l came way begun awaited end c.heard answer m' old new
+      (l : Live) → IsLivingOf m.graph o l → suits l → OneGives m net opens before o behind l came way begun awaited end c.heard answer m' old new
   one_gives end answer net' c l i fit = gives_by end c.told c.heard answer net' (c.heard_is l fit) c.settles l i (exchanges_bare (bare_open o) l came net way m.graph m'.graph c.told end (c.does l i fit))
 
 -- WHAT IT LEAVES
@@ -181,13 +181,13 @@ top_apart c o far =
     either_test (is_one_of (objects_ids o.objects) c.top.0) (λ t. absurd (let no : true ≡ false = sym (top_first c) ∙ far c.top.0 t in cc)) (λ f. f)
 
 module _ (g h : Objects Obj) (o : Living) (noded : AreNoded rank_of_obj h) (kept : KeepsOthers (is_one_of (objects_ids o.objects)) g h) where
-  pub other_open : (p : Living) (l : Live) → IsApartFrom (objects_ids o.objects) p → IsOpenOf g p l → IsOpenOf h p l
+  pub other_open : (p : Living) (l : Live) → IsApartFrom (objects_ids o.objects) p → IsLivingOf g p l → IsLivingOf h p l
   other_open p l far i = open_stays g h p l noded (λ x own. kept.others x (i.chained.given x own) (far x own)) (let e = kept.same_made in omega (arith, e)) i
 
   pub other_opens : (os : List Living) (ls : List Live) → AllByRecursion (IsApartFrom (objects_ids o.objects)) os → AreOpensOf g os ls → AreOpensOf h os ls
   other_opens os ls far i = opens_move g h (IsApartFrom (objects_ids o.objects)) other_open os ls far i
 
-  pub other_lives : (os : List Living) → AllByRecursion (IsApartFrom (objects_ids o.objects)) os → AllByRecursion (LivesSome g) os → AllByRecursion (LivesSome h) os
+  pub other_lives : (os : List Living) → AllByRecursion (IsApartFrom (objects_ids o.objects)) os → AllByRecursion (IsLivingOfSome g) os → AllByRecursion (IsLivingOfSome h) os
   other_lives [] far i = tt
   other_lives (p ∷ os) far i = ((i.0.0, other_open p i.0.0 far.0 i.0.1), other_lives os far.1 i.1)
 
@@ -206,10 +206,10 @@ module _ (m : Many) (net : Client) (w opens : ℕ) (before : List Living) (o : L
   around : AreAround before o behind
   around = apart_around before o behind (subst AreApart is sound.apart)
 
-  lives_as : AllByRecursion (LivesSome m.graph) (before ++ o ∷ behind)
-  lives_as = subst (AllByRecursion (LivesSome m.graph)) is sound.lives
+  lives_as : AllByRecursion (IsLivingOfSome m.graph) (before ++ o ∷ behind)
+  lives_as = subst (AllByRecursion (IsLivingOfSome m.graph)) is sound.lives
 
-  pub leaves_on : (heard : DriveNews) → m'.list ≡ before ++ noted heard o ∷ behind → net' ≡ net → LivesSome m'.graph (noted heard o) → LeavesAll m net w opens o m' net'
+  pub leaves_on : (heard : DriveNews) → m'.list ≡ before ++ noted heard o ∷ behind → net' ≡ net → IsLivingOfSome m'.graph (noted heard o) → LeavesAll m net w opens o m' net'
   leaves_on heard new same lives =
       record {
         sound = record {
@@ -219,9 +219,9 @@ module _ (m : Many) (net : Client) (w opens : ℕ) (before : List Living) (o : L
           rising = subst (AreRising 0 opens) (sym new) (rising_noted heard 0 opens before o behind (subst (AreRising 0 opens) is sound.rising));
           own = subst (AllByRecursion (HasOwnPort w)) (sym new) (all_noted heard (HasOwnPort w) before o behind (port_noted heard w o) (subst (AllByRecursion (HasOwnPort w)) is sound.own));
           one_lease = subst (λ os. sum_by lease_count_of os ≤ 1) (sym new) (leases_noted heard before o behind (subst (λ os. sum_by lease_count_of os ≤ 1) is sound.one_lease));
-          lives = subst (AllByRecursion (LivesSome m'.graph)) (sym new) (all_append (LivesSome m'.graph) before (noted heard o ∷ behind)
-              (other_lives m.graph m'.graph o noded kept before around.front (all_front (LivesSome m.graph) before (o ∷ behind) lives_as))
-              (lives, other_lives m.graph m'.graph o noded kept behind around.back (all_back (LivesSome m.graph) before (o ∷ behind) lives_as).1));
+          lives = subst (AllByRecursion (IsLivingOfSome m'.graph)) (sym new) (all_append (IsLivingOfSome m'.graph) before (noted heard o ∷ behind)
+              (other_lives m.graph m'.graph o noded kept before around.front (all_front (IsLivingOfSome m.graph) before (o ∷ behind) lives_as))
+              (lives, other_lives m.graph m'.graph o noded kept behind around.back (all_back (IsLivingOfSome m.graph) before (o ∷ behind) lives_as).1));
           apart = subst AreApart (sym new) (apart_noted heard before o behind (subst AreApart is sound.apart));
           room = room ∙ sound.room;
         };
@@ -246,9 +246,9 @@ module _ (m : Many) (net : Client) (w opens : ℕ) (before : List Living) (o : L
           rising = subst (AreRising 0 opens) (sym new) (rising_without 0 opens before o behind rising);
           own = subst (AllByRecursion (HasOwnPort w)) (sym new) (all_but (HasOwnPort w) before o behind own);
           one_lease = subst (λ os. sum_by lease_count_of os ≤ 1) (sym new) (count_without lease_count_of before o behind 1 one);
-          lives = subst (AllByRecursion (LivesSome m'.graph)) (sym new) (all_append (LivesSome m'.graph) before behind
-              (other_lives m.graph m'.graph o noded kept before around.front (all_front (LivesSome m.graph) before (o ∷ behind) lives_as))
-              (other_lives m.graph m'.graph o noded kept behind around.back (all_back (LivesSome m.graph) before (o ∷ behind) lives_as).1));
+          lives = subst (AllByRecursion (IsLivingOfSome m'.graph)) (sym new) (all_append (IsLivingOfSome m'.graph) before behind
+              (other_lives m.graph m'.graph o noded kept before around.front (all_front (IsLivingOfSome m.graph) before (o ∷ behind) lives_as))
+              (other_lives m.graph m'.graph o noded kept behind around.back (all_back (IsLivingOfSome m.graph) before (o ∷ behind) lives_as).1));
           apart = subst AreApart (sym new) around.rest;
           room = room ∙ sound.room;
         };
@@ -259,18 +259,18 @@ module _ (m : Many) (net : Client) (w opens : ℕ) (before : List Living) (o : L
       }
 
 module _ (suits : Live → Type 0) (came : OpenInput) (way : Option Way) (begun : Option ℕ) (m : Many) (net : Client) (w opens : ℕ) (before : List Living) (o : Living) (behind : List Living) (awaited : Option ℕ) (m' : Many) (net' : Client) (old new : Logged) (is : m.list ≡ before ++ o ∷ behind) (noded : AreNoded rank_of_obj m'.graph) (sound : AreSound w opens net m) where
-  leaves_by : (end : Option Ended) (told : Spelling) (heard : DriveNews) (answer : Option HasEnded) → heard ≡ heard_by came told → EndIsSettled end before o behind net begun awaited heard told m'.list net' answer old new →
-      (l : Live) → IsOpenOf m.graph o l → Exchanges (bare_open o) l came net way m.graph m'.graph told end → LeavesAll m net w opens o m' net'
+  leaves_by : (end : Option Ended) (told : Spelling) (heard : DriveNews) (answer : Option HasEnded) → heard ≡ news_by came told → EndIsSettled end before o behind net begun awaited heard told m'.list net' answer old new →
+      (l : Live) → IsLivingOf m.graph o l → Exchanges (bare_open o) l came net way m.graph m'.graph told end → LeavesAll m net w opens o m' net'
   leaves_by None told heard answer hears s l i x =
       let put = without_graph x.records in
-      let lives : IsOpenOf m'.graph (noted (heard_by came told) o) (with_exchange l came net put) = noted_is m.graph l came net put told o i m'.graph x.does.lives (x.answers net put) in
+      let lives : IsLivingOf m'.graph (noted (news_by came told) o) (with_exchange l came net put) = noted_is m.graph l came net put told o i m'.graph x.does.lives (x.answers net put) in
       leaves_on m net w opens before o behind m' net' is noded x.does.others.others x.does.others.same_room sound heard s.0 s.1
-      (with_exchange l came net put, subst (λ z. IsOpenOf m'.graph (noted z o) (with_exchange l came net put)) (sym hears) lives)
+      (with_exchange l came net put, subst (λ z. IsLivingOf m'.graph (noted z o) (with_exchange l came net put)) (sym hears) lives)
   leaves_by (Some e) told heard answer hears s l i x = leaves_last m net w opens before o behind m' net' is noded x.does.released.others x.does.released.same_room sound s.0 s.1
 
-  pub one_leaves : (end : Option Ended) (answer : Option HasEnded) → ComesAt suits came way begun m net before o behind awaited end answer m' net' old new → ((l : Live) → IsOpenOf m.graph o l → suits l) → LeavesAll m net w opens o m' net'
+  pub one_leaves : (end : Option Ended) (answer : Option HasEnded) → ComesAt suits came way begun m net before o behind awaited end answer m' net' old new → ((l : Live) → IsLivingOf m.graph o l → suits l) → LeavesAll m net w opens o m' net'
   one_leaves end answer c fit =
-      let some = all_at (LivesSome m.graph) before o behind (subst (AllByRecursion (LivesSome m.graph)) is sound.lives) in
+      let some = all_at (IsLivingOfSome m.graph) before o behind (subst (AllByRecursion (IsLivingOfSome m.graph)) is sound.lives) in
       leaves_by end c.told c.heard answer (c.heard_is some.0 (fit some.0 some.1)) c.settles some.0 some.1 (c.does some.0 some.1 (fit some.0 some.1))
 
 -- WHAT IS AWAITED
@@ -282,7 +282,7 @@ pub record AwaitsOn (m : Many) (awaited : Option ℕ) (answer : Option HasEnded)
 
 module _ (suits : Live → Type 0) (came : OpenInput) (way : Option Way) (begun : Option ℕ) (m : Many) (net : Client) (w opens : ℕ) (before : List Living) (o : Living) (behind : List Living) (awaited : Option ℕ) (m' : Many) (net' : Client) (old new : Logged) (is : m.list ≡ before ++ o ∷ behind) (sound : AreSound w opens net m) where
   awaits_by : (end : Option Ended) (told : Spelling) (heard : DriveNews) (answer : Option HasEnded) → EndIsSettled end before o behind net begun awaited heard told m'.list net' answer old new →
-      (l : Live) → IsOpenOf m.graph o l → Exchanges (bare_open o) l came net way m.graph m'.graph told end → AwaitsOn m awaited answer m'
+      (l : Live) → IsLivingOf m.graph o l → Exchanges (bare_open o) l came net way m.graph m'.graph told end → AwaitsOn m awaited answer m'
   awaits_by None told heard answer s l i x =
       let back = lived o way x.records (lowest_of (own_serials (kin_of o))) m.graph m'.graph x.does.call i.chained in
       record {
@@ -300,7 +300,7 @@ module _ (suits : Live → Type 0) (came : OpenInput) (way : Option Way) (begun 
         newest = λ c. subst (λ z. GoesOnSo (λ k y. IsNewestBut k c y) awaited z m m') (sym s.2) (newest_ends m.graph m'.graph m.list m'.list before o behind is s.0 back x.does.released.gone differ awaited heard c e told);
       }
 
-  pub one_awaits : (end : Option Ended) (answer : Option HasEnded) → ComesAt suits came way begun m net before o behind awaited end answer m' net' old new → ((l : Live) → IsOpenOf m.graph o l → suits l) → AwaitsOn m awaited answer m'
+  pub one_awaits : (end : Option Ended) (answer : Option HasEnded) → ComesAt suits came way begun m net before o behind awaited end answer m' net' old new → ((l : Live) → IsLivingOf m.graph o l → suits l) → AwaitsOn m awaited answer m'
   one_awaits end answer c fit =
-      let some = all_at (LivesSome m.graph) before o behind (subst (AllByRecursion (LivesSome m.graph)) is sound.lives) in
+      let some = all_at (IsLivingOfSome m.graph) before o behind (subst (AllByRecursion (IsLivingOfSome m.graph)) is sound.lives) in
       awaits_by end c.told c.heard answer c.settles some.0 some.1 (c.does some.0 some.1 (fit some.0 some.1))

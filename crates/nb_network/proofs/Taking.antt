@@ -24,7 +24,7 @@ use Rattle.nb_teller.specs.Speakers.{carrier_number}
 use Rattle.nb_network.specs.declared.living.Living.{Living}
 use Rattle.nb_open.specs.Exchanges.{IsInput, by_message}
 use Rattle.nb_network.specs.declared.over.HasEnded.{HasEnded}
-use Rattle.nb_network.specs.Many.{AreApart, AreOpensOf, AreSound, IsOpenOf, IsStateOf, Many, bare_open}
+use Rattle.nb_network.specs.Many.{AreApart, AreOpensOf, AreSound, IsLivingOf, IsStateOf, Many, bare_open}
 use Rattle.nb_network.specs.Receiving.{GoesTo, ReceivesAt}
 use Rattle.nb_network.specs.Steps.{counts_by, left_by}
 use Rattle.nb_network.specs.Takes.{ArrivesAt, at_port, at_echo, at_connection, TakesRecord, arrival}
@@ -65,7 +65,7 @@ module _ (m : Many) (net : Client) (now w opens n : ℕ) (bytes : List ℕ) (mos
 
   -- whichever of the machine's it is
   abbrev pub ComesToIt : OpenInput → Type 0
-  ComesToIt came = (l : Live) → IsOpenOf m.graph o l → IsInput (bare_open o) l n a now came
+  ComesToIt came = (l : Live) → IsLivingOf m.graph o l → IsInput (bare_open o) l n a now came
 
   a_message : (proto_of ≡ 6 → ⊥) → length a.body.now ≤ 1480 → ComesToIt (message n a.port a.body.now now)
   a_message other short l i = by_message (not_by_tcp l.kind (λ c. other (ap carrier_number i.called.carrier ∙ c))) (suits m.graph o l a goes.port i goes.counts goes.port_is) short

@@ -17,7 +17,7 @@ use Rattle.nb_chains.specs.declared.chain.Chain.{Chain}
 use Rattle.nb_chains.specs.declared.kind.ChainKind.{ChainKind}
 use Rattle.nb_chains.specs.Chains.{below_ids, chain_ids}
 use Rattle.nb_traced.specs.Holdings.{Holdings, GraphObject, lowest_of, serials}
-use Rattle.nb_traced.specs.Outputs.{Arrived, CallsOpen, Traced, arrived, last_step, own_serials, step_by, apart, calls, ends}
+use Rattle.nb_traced.specs.Outputs.{Arrived, CallsOpen, Traced, arrived_by_way, last_step, own_serials, step_by, apart, calls, ends}
 use Rattle.nb_traced.specs.Pieces.{IsCallOn, IsOfOpen, first_close_of}
 use Rattle.nb_traced.proofs.OnEntries.{begins_with, each_on_entries}
 use Rattle.nb_open.specs.declared.objects.OpenObjects.{OpenObjects}
@@ -84,7 +84,7 @@ abbrev pub came_by : ℕ → ℕ → Option Way → List Arrived
 came_by n k None = []
 came_by n k (Some way) = arrival k way n ∷ []
 
-arrived_is : (outs : List Out) (n k : ℕ) (way : Option Way) → last_step outs ≡ n → arrived outs k way ≡ came_by n k way
+arrived_is : (outs : List Out) (n k : ℕ) (way : Option Way) → last_step outs ≡ n → arrived_by_way outs k way ≡ came_by n k way
 arrived_is outs n k None e = refl
 arrived_is outs n k (Some way) e = ap (λ z. arrival k way z ∷ []) e
 

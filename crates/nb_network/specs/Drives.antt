@@ -22,8 +22,8 @@ abbrev pub coming_of : Live → Option (List ℕ)
 coming_of l = if is_reading l then Some (bytes_so_far l) else None
 
 -- what is kept of it, by its login
-abbrev pub kept_of : Live → LoginInfo → KeptDrive
-kept_of l login = record {
+abbrev pub kept_drive_of : Live → LoginInfo → KeptDrive
+kept_drive_of l login = record {
   login = login;
   chap = option_map (λ (a : DriveAnswer). a.chap) (answered l);
   capacity = option_map (λ (a : DriveAnswer). a.capacity) (answered l);
@@ -33,7 +33,7 @@ kept_of l login = record {
 
 -- so of an open, where it is a drive's
 abbrev pub drive_of : Live → Option KeptDrive
-drive_of l = option_map (kept_of l) (login_of_kind l.kind)
+drive_of l = option_map (kept_drive_of l) (login_of_kind l.kind)
 
 -- of one that begins
 abbrev pub drive_by : Opening → Option KeptDrive
@@ -79,18 +79,18 @@ abbrev pub has_answered : Living → Bool
 has_answered o = is_some (option_and_then (λ (d : KeptDrive). d.chap) o.drive)
 
 -- what it has read last as a drive
-abbrev pub read_by : Living → Option (List ℕ)
-read_by o = option_and_then (λ (d : KeptDrive). d.read) o.drive
+abbrev pub last_read_by : Living → Option (List ℕ)
+last_read_by o = option_and_then (λ (d : KeptDrive). d.read) o.drive
 
 -- what is noted, as something comes to it; what was asked of it is answered later
-abbrev pub heard_by : OpenInput → Spelling → DriveNews
-heard_by (message rec port body now) s = brings s.answer s.blocks
-heard_by (tcp_segment rec g now) s = brings s.answer s.blocks
-heard_by (time now) s = brings s.answer s.blocks
-heard_by (task t now) s = asks t
-heard_by (close cause) s = brings s.answer s.blocks
+abbrev pub news_by : OpenInput → Spelling → DriveNews
+news_by (message rec port body now) s = brings s.answer s.blocks
+news_by (tcp_segment rec g now) s = brings s.answer s.blocks
+news_by (time now) s = brings s.answer s.blocks
+news_by (task t now) s = asks t
+news_by (close cause) s = brings s.answer s.blocks
 
 -- so by what was told, unless this was asked
-abbrev pub heard_of : Option BlocksAsked → Spelling → DriveNews
-heard_of None s = brings s.answer s.blocks
-heard_of (Some a) s = asks (record { lba = a.block; blocks = a.count })
+abbrev pub news_of : Option BlocksAsked → Spelling → DriveNews
+news_of None s = brings s.answer s.blocks
+news_of (Some a) s = asks (record { lba = a.block; blocks = a.count })

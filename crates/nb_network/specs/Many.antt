@@ -40,22 +40,22 @@ abbrev pub kin_of : Living → Kin
 kin_of o = record { number = o.speaker.number; pieces = objects_pieces o.objects }
 
 -- the open lives on this graph, is this one of the machine's, and of a drive its login and its answer are kept
-pub record IsOpenOf (g : Objects Obj) (o : Living) (l : Live) : Type 0 where
+pub record IsLivingOf (g : Objects Obj) (o : Living) (l : Live) : Type 0 where
   pub chained : AreObjectsChained g o.objects
   pub called : IsSpeakerOf (bare_open o) l
   pub under_way : AreUnderWay o.objects g l
   pub drive : o.drive ≡ drive_of l
 
 -- so it is of some
-abbrev pub LivesSome : Objects Obj → Living → Type 0
-LivesSome g o = (l : Live) × IsOpenOf g o l
+abbrev pub IsLivingOfSome : Objects Obj → Living → Type 0
+IsLivingOfSome g o = (l : Live) × IsLivingOf g o l
 
 -- each is one of the machine's, in their order
 abbrev pub AreOpensOf : Objects Obj → List Living → List Live → Type 0
 AreOpensOf g [] [] = Unit {0}
 AreOpensOf g [] (l ∷ ls) = ⊥
 AreOpensOf g (o ∷ os) [] = ⊥
-AreOpensOf g (o ∷ os) (l ∷ ls) = IsOpenOf g o l × AreOpensOf g os ls
+AreOpensOf g (o ∷ os) (l ∷ ls) = IsLivingOf g o l × AreOpensOf g os ls
 
 -- The state of the machine has these opens, at this time, over the one device of this link.
 pub record IsStateOf (m : Many) (net : Client) (now : ℕ) (s : State) : Type 0 where
@@ -139,7 +139,7 @@ pub record AreSound (w opens : ℕ) (net : Client) (m : Many) : Type 0 where
   pub rising : AreRising 0 opens m.list
   pub own : AllByRecursion (HasOwnPort w) m.list
   pub one_lease : sum_by lease_count_of m.list ≤ 1
-  pub lives : AllByRecursion (LivesSome m.graph) m.list
+  pub lives : AllByRecursion (IsLivingOfSome m.graph) m.list
   pub apart : AreApart m.list
   pub room : m.graph.book.room ≡ most_objects
 

@@ -28,12 +28,12 @@ use Rattle.nb_open.specs.declared.ended.Ended.{Ended}
 use Rattle.nb_open.specs.DriveAnswers.{found_bytes}
 use Rattle.nb_open.specs.Ends.{ClosesOpen}
 use Rattle.nb_open.specs.Exchanges.{Exchanges}
-use Rattle.nb_network.specs.Many.{AreOpensOf, AreSound, FitsHoldings, HasTiedOnlyOf, IsNewestBut, IsOpenOf, Many, bare_open}
+use Rattle.nb_network.specs.Many.{AreOpensOf, AreSound, FitsHoldings, HasTiedOnlyOf, IsNewestBut, IsLivingOf, Many, bare_open}
 use Rattle.nb_network.specs.Takes.{AnswersBy, BeginsWithEntry, KeepsWaiting, TracesOn, arrival, awaited_over, still_awaited}
 use Rattle.nb_graph.specs.Noded.{AreNoded}
 use Rattle.nb_nodes.specs.Objects.{rank_of_obj}
 use Rattle.nb_terms.specs.declared.cause.Cause.{Cause}
-use Rattle.nb_network.specs.Drives.{DriveNews, has_answered, heard_by, noted, read_by}
+use Rattle.nb_network.specs.Drives.{DriveNews, has_answered, news_by, noted, last_read_by}
 use Rattle.nb_network.specs.declared.over.HasEnded.{HasEnded}
 
 -- records that are no step, from which the output goes on so
@@ -54,7 +54,7 @@ abbrev pub answer_for : Option ℕ → Living → Ended → Spelling → Option 
 answer_for None o e s = None
 answer_for (Some k) o e s =
     if o.speaker.number == k
-    then Some (record { number = o.speaker.number; cause = e.cause; body = e.body; moved = e.moved; bytes = found_bytes o.objects s.bytes; address = s.address; answered = has_answered o; read = read_by o })
+    then Some (record { number = o.speaker.number; cause = e.cause; body = e.body; moved = e.moved; bytes = found_bytes o.objects s.bytes; address = s.address; answered = has_answered o; read = last_read_by o })
     else None
 
 -- the STEP, where one begins
@@ -95,9 +95,9 @@ EndIsSettled (Some e) before o behind net begun awaited heard s list' net' answe
 -- Something comes to this open by this way, or from above, among the others, and what is told of it is put.
 pub record ComesAt (suits : Live → Type 0) (came : OpenInput) (way : Option Way) (begun : Option ℕ) (m : Many) (net : Client) (before : List Living) (o : Living) (behind : List Living) (awaited : Option ℕ) (ended : Option Ended) (answer : Option HasEnded) (m' : Many) (net' : Client) (old new : Logged) : Type 0 where
   pub told : Spelling
-  pub does : (l : Live) → IsOpenOf m.graph o l → suits l → Exchanges (bare_open o) l came net way m.graph m'.graph told ended
+  pub does : (l : Live) → IsLivingOf m.graph o l → suits l → Exchanges (bare_open o) l came net way m.graph m'.graph told ended
   pub heard : DriveNews
-  pub heard_is : (l : Live) → suits l → heard ≡ heard_by came told
+  pub heard_is : (l : Live) → suits l → heard ≡ news_by came told
   pub settles : EndIsSettled ended before o behind net begun awaited heard told m'.list net' answer old new
   pub noded : AreNoded rank_of_obj m'.graph
 
@@ -115,7 +115,7 @@ pub record TimesGive (m : Many) (net : Client) (opens now : ℕ) (ls : List Live
 
 -- it stays what it is
 abbrev pub StaysOn : Objects Obj → Objects Obj → Living → Type 0
-StaysOn g h o = (l : Live) → IsOpenOf g o l → IsOpenOf h o l
+StaysOn g h o = (l : Live) → IsLivingOf g o l → IsLivingOf h o l
 
 pub record TimesCome (m : Many) (net : Client) (opens now : ℕ) (done rest : List Living) (awaited : Option ℕ) (answer : Option HasEnded) (m' : Many) (net' : Client) (old new : Logged) : Type 0 where
   pub left : List Living

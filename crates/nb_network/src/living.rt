@@ -5,7 +5,7 @@ ghost use Rattle.std.specs.Option.{is_some};
 ghost use Rattle.nb_drivelogin.specs.DriveLogins.{FitsTable};
 ghost use Rattle.nb_drivelogin.specs.DriveOpens.{drive_open};
 ghost use Rattle.nb_ibft.specs.Infos.{IsShortText};
-ghost use Rattle.nb_network.specs.Drives.{brings, drive_by, has_answered, heard_of, noted, read_by, with_news, with_read};
+ghost use Rattle.nb_network.specs.Drives.{brings, drive_by, has_answered, news_of, noted, last_read_by, with_news, with_read};
 ghost use Rattle.nb_network.specs.Hooked.{hooked_by, hooked_with};
 ghost use Rattle.nb_network.specs.Many.{bare_open};
 ghost use Rattle.nb_open.specs.DriveAnswers.{would_take};
@@ -95,7 +95,7 @@ impl Living {
 
     /// What it has read last as a drive.
     pub(crate) fn read(&self) -> Option<&Text>
-        ensures { option_copied result ≡ read_by self.now }
+        ensures { option_copied result ≡ last_read_by self.now }
     {
         match &self.drive {
             Some(drive) => drive.read.as_ref(),
@@ -111,7 +111,7 @@ impl Living {
         asked: Option<BlocksAsked>,
         told: &Spelled,
     ) -> Result<(), NoMemory>
-        ensures { OnOk result (self.new ≡ noted (heard_of asked told.now) self.old) }
+        ensures { OnOk result (self.new ≡ noted (news_of asked told.now) self.old) }
     {
         match &mut self.drive {
             Some(drive) => drive.note(alloc, asked, told),
@@ -142,7 +142,7 @@ impl KeptDrive {
         asked: Option<BlocksAsked>,
         told: &Spelled,
     ) -> Result<(), NoMemory>
-        ensures { OnOk result (self.new ≡ with_news (heard_of asked told.now) self.old) }
+        ensures { OnOk result (self.new ≡ with_news (news_of asked told.now) self.old) }
     {
         match asked {
             Some(asked) => {

@@ -1,6 +1,6 @@
 ghost use Rattle.std.specs.Prelude.{◌≡◌, ◌<◌, ℕ, List, ◌∷◌, ◌++◌, [], length, option_copied, Some, IfOk, OnErr};
 ghost use Rattle.nb_defs.specs.Records.{out_texts, ended};
-ghost use Rattle.nb_network.specs.Drives.{heard_of};
+ghost use Rattle.nb_network.specs.Drives.{news_of};
 ghost use Rattle.nb_network.specs.Steps.{EndIsPut, EndIsSettled, IsOpenAt, answer_for, freed_of, step_records};
 ghost use Rattle.nb_open.specs.DriveAnswers.{found_bytes};
 ghost use Rattle.nb_network.specs.declared.living.Living.{Living as TheLiving};
@@ -37,7 +37,7 @@ impl Opens {
         requires place { place < length self.old.list }
         ensures graph { self.new.graph ≡ self.old.graph }
         ensures settles { IfOk result (λ answer. (o : TheLiving) → (at : IsOpenAt self.old.list place o) → EndIsSettled ended at.before o at.behind
-            net.old begun awaited (heard_of asked desk.now.told.value) desk.now.told.value self.new.list net.new answer log.old log.new) }
+            net.old begun awaited (news_of asked desk.now.told.value) desk.now.told.value self.new.list net.new answer log.old log.new) }
         ensures nothing { OnErr result (log.new ≡ log.old) }
         ensures mac { net.new.mac ≡ net.old.mac }
         ensures address { net.new.address ≡ net.old.address }

@@ -17,7 +17,7 @@ use Rattle.nb_nodes.specs.declared.fetch.Fetch.TheVariants.{Gathering, Whole, Ha
 use Rattle.nb_nodes.specs.declared.load.Load.{Load}
 use Rattle.nb_nodes.specs.declared.obj.Obj.{Obj}
 use Rattle.nb_nodes.specs.Carried.{CarriesNothing, AsksNone, both_closes}
-use Rattle.nb_nodes.specs.Fetches.{body_too_large, is_gathering, is_complete, HasBody, moved_text, brings_move, ends_fetch, first_end, is_ok_close, closed_well, moved_by, moved_in, gathers, taken_below, passed_close, AsksUp, AsksMove, AsksOfUp, AsksHandDown, AsksOfFetch, EachOf, FetchStands, after_bytes_up, after_move, after_up, after_closing, gathered_len}
+use Rattle.nb_nodes.specs.Fetches.{body_too_large, is_gathering, is_complete, HasBody, moved_uri, brings_move, ends_fetch, first_end, is_ok_close, closed_well, moved_by_entry, moved_in, gathers, taken_below, passed_close, AsksUp, AsksMove, AsksOfUp, AsksHandDown, AsksOfFetch, EachOf, FetchStands, after_bytes_up, after_move, after_up, after_closing, gathered_len}
 
 -- a trace with one entry more
 taken_more : (t : List (NodeEntry Obj Load)) (e : NodeEntry Obj Load) → taken_below (t ++ e ∷ []) ≡ taken_below t ++ taken_by 1 e
@@ -45,7 +45,7 @@ well_cond : (b : Bool) (e : NodeEntry Obj Load) → option_map_or is_ok_close (c
 well_cond true e = refl
 well_cond false e = refl
 
-moved_cond : (b : Bool) (e : NodeEntry Obj Load) → option_and_then moved_by (cond b (Some e) None) ≡ (if b then moved_by e else None)
+moved_cond : (b : Bool) (e : NodeEntry Obj Load) → option_and_then moved_by_entry (cond b (Some e) None) ≡ (if b then moved_by_entry e else None)
 moved_cond true e = refl
 moved_cond false e = refl
 
@@ -62,15 +62,15 @@ complete_more : (g : Fetch) (t : List (NodeEntry Obj Load)) (e : NodeEntry Obj L
 complete_more g t e true h going ended = going refl ∙ sym (ap (λ z. option_map_or is_ok_close z false) (ends_first t e h) ∙ well_cond (ends_fetch e) e)
 complete_more g t e false h going ended = ended refl ∙ sym (ap (λ z. option_map_or is_ok_close z false) (ends_before t e h))
 
-moved_more : (g : Fetch) (t : List (NodeEntry Obj Load)) (e : NodeEntry Obj Load) (b : Bool) → gathers t ≡ b → (b ≡ true → moved_text g ≡ (if ends_fetch e then moved_by e else None)) → (b ≡ false → moved_text g ≡ moved_in t) → moved_text g ≡ moved_in (t ++ e ∷ [])
-moved_more g t e true h going ended = going refl ∙ sym (ap (option_and_then moved_by) (ends_first t e h) ∙ moved_cond (ends_fetch e) e)
-moved_more g t e false h going ended = ended refl ∙ sym (ap (option_and_then moved_by) (ends_before t e h))
+moved_more : (g : Fetch) (t : List (NodeEntry Obj Load)) (e : NodeEntry Obj Load) (b : Bool) → gathers t ≡ b → (b ≡ true → moved_uri g ≡ (if ends_fetch e then moved_by_entry e else None)) → (b ≡ false → moved_uri g ≡ moved_in t) → moved_uri g ≡ moved_in (t ++ e ∷ [])
+moved_more g t e true h going ended = going refl ∙ sym (ap (option_and_then moved_by_entry) (ends_first t e h) ∙ moved_cond (ends_fetch e) e)
+moved_more g t e false h going ended = ended refl ∙ sym (ap (option_and_then moved_by_entry) (ends_before t e h))
 
 -- what it gathers, whether that is whole, and whether it moved, after an entry
 fetch_on : (f g : Fetch) (t : List (NodeEntry Obj Load)) (e : NodeEntry Obj Load) → FetchStands f t → AsksOfFetch t e → HasBody g (taken_below t ++ taken_by 1 e)
     → (gathers t ≡ true → is_gathering g ≡ not (ends_fetch e)) → (gathers t ≡ true → is_complete g ≡ (ends_fetch e && is_ok_close e))
     → (gathers t ≡ false → is_gathering g ≡ false) → (gathers t ≡ false → is_complete g ≡ is_complete f)
-    → (gathers t ≡ true → moved_text g ≡ (if ends_fetch e then moved_by e else None)) → (gathers t ≡ false → moved_text g ≡ moved_text f) → FetchStands g (t ++ e ∷ [])
+    → (gathers t ≡ true → moved_uri g ≡ (if ends_fetch e then moved_by_entry e else None)) → (gathers t ≡ false → moved_uri g ≡ moved_uri f) → FetchStands g (t ++ e ∷ [])
 fetch_on f g t e s asks body goes becomes stops stays moves rests =
     record {
       body = subst (λ (z : List ℕ). HasBody g z) (sym (taken_more t e)) body;
@@ -87,7 +87,7 @@ incomplete HandedOut h = absurd (let z = h in cc)
 incomplete (Moved u) h = refl
 incomplete Failed h = refl
 
-unmoved : (f : Fetch) → is_gathering f ≡ true → moved_text f ≡ None
+unmoved : (f : Fetch) → is_gathering f ≡ true → moved_uri f ≡ None
 unmoved (Gathering b al) h = refl
 unmoved (Whole b) h = refl
 unmoved HandedOut h = refl
@@ -101,7 +101,7 @@ fetch_idle f t e s asks none going =
     (λ h. s.gathering ∙ h ∙ sym (ap not (going h)))
     (λ h. incomplete f (s.gathering ∙ h) ∙ sym (ap (λ z. z && is_ok_close e) (going h)))
     (λ h. s.gathering ∙ h) (λ h. refl)
-    (λ h. unmoved f (s.gathering ∙ h) ∙ sym (ap (λ z. if z then moved_by e else None) (going h))) (λ h. refl)
+    (λ h. unmoved f (s.gathering ∙ h) ∙ sym (ap (λ z. if z then moved_by_entry e else None) (going h))) (λ h. refl)
 
 pub fetch_down : (f : Fetch) (t : List (NodeEntry Obj Load)) (m : Said) (now : ℕ) (fx : Fx Obj Load) → FetchStands f t → AsksHandDown (is_gathering f) m fx → FetchStands f (t ++ down m now true fx ∷ [])
 fetch_down f t m now fx s asks = fetch_idle f t (down m now true fx) s (λ _. subst (λ (z : Bool). AsksHandDown z m fx) s.gathering asks) refl (λ _. refl)
@@ -128,7 +128,7 @@ close_complete al true true b = refl
 close_complete al true false b = refl
 close_complete al false ok b = refl
 
-close_moved : (al : Global) (one ok : Bool) (b : List ℕ) → moved_text (if one then (if ok then Whole b else Failed) else Gathering b al) ≡ (if one then None else None)
+close_moved : (al : Global) (one ok : Bool) (b : List ℕ) → moved_uri (if one then (if ok then Whole b else Failed) else Gathering b al) ≡ (if one then None else None)
 close_moved al true true b = refl
 close_moved al true false b = refl
 close_moved al false ok b = refl
@@ -181,7 +181,7 @@ up_complete al true false false b c = refl
 up_complete al false big true b c = refl
 up_complete al false big false b c = refl
 
-up_moved : (al : Global) (one big ends move : Bool) (b c rest : List ℕ) → move ≡ false → moved_text (if one then (if big then Failed else Gathering c al) else Gathering b al) ≡ (if ends then (if move then Some rest else None) else None)
+up_moved : (al : Global) (one big ends move : Bool) (b c rest : List ℕ) → move ≡ false → moved_uri (if one then (if big then Failed else Gathering c al) else Gathering b al) ≡ (if ends then (if move then Some rest else None) else None)
 up_moved al one big ends true b c rest h = absurd (let z = h in cc)
 up_moved al true true true false b c rest h = refl
 up_moved al true true false false b c rest h = refl

@@ -14,13 +14,13 @@ use Rattle.nb_dnsmsg.specs.declared.answer.Answer.{Answer}
 use Rattle.nb_dnsmsg.specs.Names.{IsLabel}
 use Rattle.nb_dns.specs.declared.state.State.{State}
 use Rattle.nb_dns.specs.WrittenNames.{name_labels, without_final_dot, IsLookupName}
-use Rattle.nb_dns.specs.Lookups.{Lookup, AsksOneQuery, asks_try, query_to, address_given}
+use Rattle.nb_dns.specs.Lookups.{Lookup, AsksOneQuery, asks_lookup_try, query_to, address_given}
 use Rattle.nb_dns.specs.LookupCalls.{DnsDatagram, LookupCall, arrived, LookupEntry, lookup_entry, datagrams, lookup_ended, IsSilentCall, FirstReply}
 use Rattle.nb_dns.specs.LookupStands.{LookupStands}
 use Rattle.nb_dns.proofs.CallsLemmas.{lookup_ended-append}
 use Rattle.nb_nodes.specs.declared.load.Load.{Load}
 use Rattle.nb_nodes.specs.Exchanges.{CallsMore, GivesAtEnd, GivesOnly, IsStarted, LeavesByZero, said_up}
-use Rattle.nb_nodes.specs.LookupExchanges.{LookupAsked, lookup_ask_in, is_label, can_look_up, lookup_for, lookup_asked, IsFoundBy, address_said, lookup_service, address_emit}
+use Rattle.nb_nodes.specs.LookupExchanges.{LookupAsked, lookup_ask_in, is_dns_label, can_look_up, lookup_for, lookup_asked, IsFoundBy, address_said, lookup_service, address_emit}
 
 -- the look-up stands for one call more
 abbrev pub LookupOnce : State → State → LookupCall → Acts → Type 0
@@ -106,30 +106,30 @@ and_parts : (a b : Bool) → (a && b) ≡ true → (a ≡ true) × (b ≡ true)
 and_parts true b h = (refl, h)
 and_parts false b h = absurd (false≢true h)
 
-label_on : (x : List ℕ) → IsLabel x → is_label x ≡ true
+label_on : (x : List ℕ) → IsLabel x → is_dns_label x ≡ true
 label_on x is = and_on (nat_lt 0 (length x)) (nat_lt (length x) 64) (lt-ltb 0 (length x) is.some) (lt-ltb (length x) 64 is.few)
 
-label_of : (x : List ℕ) → is_label x ≡ true → IsLabel x
+label_of : (x : List ℕ) → is_dns_label x ≡ true → IsLabel x
 label_of x h =
     let both = and_parts (nat_lt 0 (length x)) (nat_lt (length x) 64) h in
     record { some = ltb-true 0 (length x) both.0; few = ltb-true (length x) 64 both.1 }
 
-labels_on : (xs : List (List ℕ)) → AllByRecursion IsLabel xs → list_all is_label xs ≡ true
+labels_on : (xs : List (List ℕ)) → AllByRecursion IsLabel xs → list_all is_dns_label xs ≡ true
 labels_on [] are = refl
-labels_on (x ∷ xs) are = and_on (is_label x) (list_all is_label xs) (label_on x are.0) (labels_on xs are.1)
+labels_on (x ∷ xs) are = and_on (is_dns_label x) (list_all is_dns_label xs) (label_on x are.0) (labels_on xs are.1)
 
-labels_of : (xs : List (List ℕ)) → list_all is_label xs ≡ true → AllByRecursion IsLabel xs
+labels_of : (xs : List (List ℕ)) → list_all is_dns_label xs ≡ true → AllByRecursion IsLabel xs
 labels_of [] h = tt
 labels_of (x ∷ xs) h =
-    let both = and_parts (is_label x) (list_all is_label xs) h in
+    let both = and_parts (is_dns_label x) (list_all is_dns_label xs) h in
     (label_of x both.0, labels_of xs both.1)
 
 pub good_name : (text : List ℕ) → IsLookupName text → can_look_up text ≡ true
-good_name text is = and_on (list_all is_label (name_labels text)) (nat_le (length (without_final_dot text)) 253) (labels_on (name_labels text) is.are) (le-leb (length (without_final_dot text)) 253 is.short)
+good_name text is = and_on (list_all is_dns_label (name_labels text)) (nat_le (length (without_final_dot text)) 253) (labels_on (name_labels text) is.are) (le-leb (length (without_final_dot text)) 253 is.short)
 
 is_good : (text : List ℕ) → can_look_up text ≡ true → IsLookupName text
 is_good text h =
-    let both = and_parts (list_all is_label (name_labels text)) (nat_le (length (without_final_dot text)) 253) h in
+    let both = and_parts (list_all is_dns_label (name_labels text)) (nat_le (length (without_final_dot text)) 253) h in
     record { are = labels_of (name_labels text) both.0; short = leb-true (length (without_final_dot text)) 253 both.1 }
 
 unless_true : (b : Bool) → (b ≡ true → ⊥) → b ≡ false
@@ -140,7 +140,7 @@ pub bad_name : (text : List ℕ) → (IsLookupName text → ⊥) → can_look_up
 bad_name text isnt = unless_true (can_look_up text) (λ h. isnt (is_good text h))
 
 -- a look-up of a name was started
-pub lookup_started : (bytes : List ℕ) (v : LookupAsked) (now : ℕ) (core : State) (acts : Acts) → lookup_ask_in bytes ≡ Some v → IsLookupName v.name → acts ≡ asks_try (query_to (lookup_for v)) 1 → LookupStands (lookup_for v) now core [] → IsStarted lookup_service bytes now core acts
+pub lookup_started : (bytes : List ℕ) (v : LookupAsked) (now : ℕ) (core : State) (acts : Acts) → lookup_ask_in bytes ≡ Some v → IsLookupName v.name → acts ≡ asks_lookup_try (query_to (lookup_for v)) 1 → LookupStands (lookup_for v) now core [] → IsStarted lookup_service bytes now core acts
 lookup_started bytes v now core acts asks good query stands = record {
   asked = lookup_for v;
   asks = asked_good bytes v asks (good_name v.name good);

@@ -25,7 +25,7 @@ use Rattle.std.specs.Prelude.{IfSome}
 use Rattle.nb_effects.specs.declared.effects.Emit.{Emit}
 use Rattle.nb_graph.specs.Effects.{IsDown, IsUp, AreCloses}
 use Rattle.nb_nodes.specs.Carried.{EffectsOf, AsksNone, AsksWithin}
-use Rattle.nb_nodes.specs.Conversations.{Conversation, unbegun, under_way, over, cancelled, talk_has_ended, ended_of, talk_went_on, is_datagram, is_begin, first_acts, is_idle, is_fatal, TakesWhole, AsksOfIdle, PassesClose, Continues, begins, receives, ticks, ends, rests, RunsTo, WorksAt, waits, runs, stays, never, is_waiting, talk_is_done, TftpStands, ContinuesAs}
+use Rattle.nb_nodes.specs.Conversations.{Conversation, unbegun, under_way, over, cancelled, talk_has_ended, conversation_ended, talk_went_on, is_datagram, is_begin, first_acts, is_idle, is_fatal, TakesWhole, AsksOfIdle, PassesClose, Continues, begins, receives, ticks, ends, rests, RunsTo, WorksAt, waits, runs, stays, never, is_waiting, talk_is_done, TftpStands, ContinuesAs}
 
 and_off : (a : Bool) → (a && false) ≡ false
 and_off true = refl
@@ -36,14 +36,14 @@ pub rests_on : (w : Work) (e : NodeEntry Obj Load) → ((v : Conversation) → W
 rests_on w e idle asks = λ v at. (v, rests v e (idle v at) asks, at)
 
 -- one that ends it
-over_at : (w : Work) (v : Conversation) → WorksAt w v → WorksAt Over (ended_of v)
+over_at : (w : Work) (v : Conversation) → WorksAt w v → WorksAt Over (conversation_ended v)
 over_at _ _ waits = never
 over_at _ _ (runs b start calls state stands alive) = stays b start calls stands.meets
 over_at _ _ (stays b start calls meets) = stays b start calls meets
 over_at _ _ never = never
 
 pub ends_on : (w : Work) (e : NodeEntry Obj Load) → ((v : Conversation) → WorksAt w v → is_fatal v e ≡ true) → PassesClose e → ContinuesAs w Over e
-ends_on w e fatal passes = λ v at. (ended_of v, ends v e (fatal v at) passes, over_at w v at)
+ends_on w e fatal passes = λ v at. (conversation_ended v, ends v e (fatal v at) passes, over_at w v at)
 
 pub fails_on : (w new : Work) (e : NodeEntry Obj Load) → new ≡ Over → ((v : Conversation) → is_fatal v e ≡ true) → PassesClose e → ContinuesAs w new e
 fails_on w new e o fatal passes = subst (λ (z : Work). ContinuesAs w z e) (sym o) (ends_on w e (λ v at. fatal v) passes)

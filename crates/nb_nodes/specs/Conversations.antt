@@ -47,11 +47,11 @@ talk_has_ended (over b start calls) = true
 talk_has_ended cancelled = true
 
 -- at its end
-abbrev pub ended_of : Conversation → Conversation
-ended_of unbegun = cancelled
-ended_of (under_way b start calls) = over b start calls
-ended_of (over b start calls) = over b start calls
-ended_of cancelled = cancelled
+abbrev pub conversation_ended : Conversation → Conversation
+conversation_ended unbegun = cancelled
+conversation_ended (under_way b start calls) = over b start calls
+conversation_ended (over b start calls) = over b start calls
+conversation_ended cancelled = cancelled
 
 -- after these calls, of which the last asked this
 abbrev pub talk_went_on : Begun → ℕ → List Step → Acts → Conversation
@@ -113,7 +113,7 @@ pub data Continues : Conversation → NodeEntry Obj Load → Conversation → Ty
       → EffectsOf m acts fx → TakesWhole m fx → Continues (under_way b start calls) (up slot m now true fx) (talk_went_on b start (calls ++ entry (came (received m.rec m.a m.bytes) now) acts ∷ []) acts)
   ticks : (b : Begun) (start : ℕ) (calls : List Step) (now : ℕ) (fx : Fx Obj Load) (acts : Acts)
       → EffectsOf silence acts fx → Continues (under_way b start calls) (time now true fx) (talk_went_on b start (calls ++ entry (ticked now) acts ∷ []) acts)
-  ends : (v : Conversation) (e : NodeEntry Obj Load) → is_fatal v e ≡ true → PassesClose e → Continues v e (ended_of v)
+  ends : (v : Conversation) (e : NodeEntry Obj Load) → is_fatal v e ≡ true → PassesClose e → Continues v e (conversation_ended v)
   rests : (v : Conversation) (e : NodeEntry Obj Load) → is_idle v e ≡ true → AsksOfIdle e → Continues v e v
 
 -- the entries lead from one to the other

@@ -56,12 +56,12 @@ HasBody (Moved text) bytes = Unit {0}
 HasBody Failed bytes = Unit {0}
 
 -- the URI of its file where that is elsewhere
-abbrev pub moved_text : Fetch → Option (List ℕ)
-moved_text (Gathering body alloc) = None
-moved_text (Whole body) = None
-moved_text HandedOut = None
-moved_text (Moved text) = Some text
-moved_text Failed = None
+abbrev pub moved_uri : Fetch → Option (List ℕ)
+moved_uri (Gathering body alloc) = None
+moved_uri (Whole body) = None
+moved_uri HandedOut = None
+moved_uri (Moved text) = Some text
+moved_uri Failed = None
 
 -- a message from below has the text of a move
 abbrev pub brings_move : ℕ → Said → Bool
@@ -91,15 +91,15 @@ abbrev pub closed_well : List (NodeEntry Obj Load) → Bool
 closed_well t = option_map_or is_ok_close (first_end t) false
 
 -- it is a move, with this text
-abbrev pub moved_by : NodeEntry Obj Load → Option (List ℕ)
-moved_by (up slot m now done fx) = if done && brings_move slot m then Some m.bytes else None
-moved_by (down m now done fx) = None
-moved_by (closed slot cause now fx) = None
-moved_by (time now done fx) = None
-moved_by (regain load) = None
+abbrev pub moved_by_entry : NodeEntry Obj Load → Option (List ℕ)
+moved_by_entry (up slot m now done fx) = if done && brings_move slot m then Some m.bytes else None
+moved_by_entry (down m now done fx) = None
+moved_by_entry (closed slot cause now fx) = None
+moved_by_entry (time now done fx) = None
+moved_by_entry (regain load) = None
 
 abbrev pub moved_in : List (NodeEntry Obj Load) → Option (List ℕ)
-moved_in t = option_and_then moved_by (first_end t)
+moved_in t = option_and_then moved_by_entry (first_end t)
 
 -- nothing has ended it
 abbrev pub gathers : List (NodeEntry Obj Load) → Bool
@@ -187,7 +187,7 @@ pub record FetchStands (f : Fetch) (t : List (NodeEntry Obj Load)) : Type 0 wher
   pub body : HasBody f (taken_below t)
   pub gathering : is_gathering f ≡ gathers t
   pub whole : is_complete f ≡ closed_well t
-  pub moved : moved_text f ≡ moved_in t
+  pub moved : moved_uri f ≡ moved_in t
   pub asks : EachOf AsksOfFetch [] t
 
 -- a whole body is handed out once

@@ -9,7 +9,7 @@ use Rattle.nb_graph.specs.Trace.{Said}
 use Rattle.nb_dnsmsg.specs.declared.answer.Answer.{Answer}
 use Rattle.nb_dns.specs.declared.state.State.{State}
 use Rattle.nb_dns.specs.WrittenNames.{name_labels, without_final_dot}
-use Rattle.nb_dns.specs.Lookups.{Lookup, lookup, query_to, asks_try, address_given}
+use Rattle.nb_dns.specs.Lookups.{Lookup, lookup, query_to, asks_lookup_try, address_given}
 use Rattle.nb_dns.specs.LookupCalls.{DnsDatagram, dns_datagram, arrived, clocked, LookupEntry, lookup_entry, datagrams, lookup_ended, IsSilentCall, FirstReply}
 use Rattle.nb_dns.specs.LookupPromises.{LookupMeets}
 use Rattle.nb_dns.specs.LookupStands.{LookupStands}
@@ -43,11 +43,11 @@ abbrev pub lookup_ask_in : List ℕ → Option LookupAsked
 lookup_ask_in bytes = if nat_le 8 (length bytes) then Some (lookup_ask_at bytes) else None
 
 -- a name can be looked up: each label has 1 to 63 bytes, and without the dot at its end it has at most 253
-abbrev pub is_label : List ℕ → Bool
-is_label label = nat_lt 0 (length label) && nat_lt (length label) 64
+abbrev pub is_dns_label : List ℕ → Bool
+is_dns_label label = nat_lt 0 (length label) && nat_lt (length label) 64
 
 abbrev pub can_look_up : List ℕ → Bool
-can_look_up text = list_all is_label (name_labels text) && nat_le (length (without_final_dot text)) 253
+can_look_up text = list_all is_dns_label (name_labels text) && nat_le (length (without_final_dot text)) 253
 
 abbrev pub lookup_for : LookupAsked → Lookup
 lookup_for v = lookup v.server v.own_port v.id v.name
@@ -81,7 +81,7 @@ pub record GivesAddress (rec : ℕ) (l : Lookup) (calls : List LookupEntry) (giv
 abbrev pub lookup_service : Service State Lookup LookupEntry
 lookup_service = record {
   asked = lookup_asked;
-  opening = λ l. asks_try (query_to l) 1;
+  opening = λ l. asks_lookup_try (query_to l) 1;
   takes = is_from_names;
   received = λ m now acts. lookup_entry (arrived (dns_datagram_in m) now) acts;
   timed = λ now acts. lookup_entry (clocked now) acts;

@@ -9,7 +9,7 @@ ghost use Rattle.nb_nodes.specs.Fetches.{FetchStands, FetchHarvests, is_gatherin
 ghost use Rattle.nb_nodes.specs.Fetches.{after_closing, passed_close, gathered_len};
 ghost use Rattle.nb_nodes.specs.Fetches.{AsksHandDown, is_handed_down, ended_fetch, GathersBytes};
 ghost use Rattle.nb_nodes.specs.Fetches.{body_too_large, stop_cause, moved_cause, move_closes};
-ghost use Rattle.nb_nodes.specs.Fetches.{AsksMove, AsksOfUp, after_move, after_up, brings_move, moved_text};
+ghost use Rattle.nb_nodes.specs.Fetches.{AsksMove, AsksOfUp, after_move, after_up, brings_move, moved_uri};
 ghost use Rattle.nb_nodes.specs.Carried.{both_closes};
 ghost use Rattle.nb_image.specs.declared.error.PushError.TheVariants as PushError;
 ghost use Rattle.std.specs.Prelude.{◌∷◌};
@@ -76,7 +76,7 @@ impl Fetch {
 
     /// The URI that the file is at instead, where a move ended it.
     pub fn moved(&self) -> Option<&[u8]>
-        ensures { option_map (λ text. text.now) result ≡ moved_text self.now }
+        ensures { option_map (λ text. text.now) result ≡ moved_uri self.now }
     {
         match self {
             Fetch::Gathering(_, _) => None,

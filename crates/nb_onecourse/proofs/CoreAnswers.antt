@@ -12,7 +12,7 @@ use Rattle.nb_tftp.specs.Received.{fixed_port}
 use Rattle.nb_tftp.specs.Blocks.{count}
 use Rattle.nb_tftp.specs.Sentences.{Meets, AsksSo}
 use Rattle.nb_tftp.proofs.HistoryLemmas.{watched-append}
-use Rattle.nb_dns.specs.Lookups.{Lookup, asks_end, asks_by, lookup_cause}
+use Rattle.nb_dns.specs.Lookups.{Lookup, asks_lookup_end, asks_by, lookup_cause}
 use Rattle.nb_dns.specs.LookupCalls.{DnsDatagram, LookupCall, arrived, clocked, LookupEntry, lookup_entry, datagrams, lookup_times, said_by}
 use Rattle.nb_dns.specs.LookupPromises.{AsksAt, AsksInTurn, LookupMeets}
 use Rattle.nb_dns.proofs.CallsLemmas.{lookup_times-append, each-last, reply_one}
@@ -54,7 +54,7 @@ one_answer b began es (ticked now) a c p q =
 
 -- a datagram of a name server
 pub arrived_one : (l : Lookup) (before : List DnsDatagram) (m : DnsDatagram) (now : ℕ) (a c : Acts) → AsksAt l before (arrived m now) a → AsksAt l before (arrived m now) c → a ≡ c
-arrived_one l before m now a c (inl x) (inl y) = x.ends ∙ ap (λ z. asks_end (lookup_cause m.rec z)) (reply_one l m x.answer y.answer x.replies y.replies) ∙ sym y.ends
+arrived_one l before m now a c (inl x) (inl y) = x.ends ∙ ap (λ z. asks_lookup_end (lookup_cause m.rec z)) (reply_one l m x.answer y.answer x.replies y.replies) ∙ sym y.ends
 arrived_one l before m now a c (inl x) (inr (none, nothing)) = absurd (none x.answer x.replies)
 arrived_one l before m now a c (inr (none, nothing)) (inl y) = absurd (none y.answer y.replies)
 arrived_one l before m now a c (inr (none, nothing)) (inr (none', nothing')) = nothing ∙ sym nothing'

@@ -6,7 +6,7 @@ use Rattle.nb_defs.specs.Records.{Out, step, sent, text, command, result, script
 use Rattle.nb_terms.specs.declared.acts.Acts.{Acts}
 use Rattle.nb_stack.specs.Client.{Client}
 use Rattle.nb_machine.specs.Sendings.{acts_records}
-use Rattle.nb_machine.specs.Transfers.{earlier, finds_none, end_records}
+use Rattle.nb_machine.specs.Transfers.{earlier_end, finds_none, end_records}
 use Rattle.nb_machine.specs.Takings.{end_told, end_among}
 
 -- the same lists, cut before their last items
@@ -68,7 +68,7 @@ pub not_closed : (k : ℕ) (cause : Cause) → end_among k (ended k cause ∷ []
 not_closed k cause e = let no : Some cause ≡ None = sym (own_end k (Some cause)) ∙ e in cc
 
 -- neither end came where the first of both didn't
-pub earlier_parts : (x y : Option Cause) → earlier x y ≡ None → (x ≡ None) × (y ≡ None)
+pub earlier_parts : (x y : Option Cause) → earlier_end x y ≡ None → (x ≡ None) × (y ≡ None)
 earlier_parts None y e = (refl, e)
 earlier_parts (Some cause) y e = let no : Some cause ≡ None = e in absurd (cc)
 

@@ -31,7 +31,7 @@ use Rattle.nb_imagecmd.specs.Arriving.{arrived, arrived_image, taken_unless, arr
 use Rattle.nb_imagecmd.specs.Asking.{target_uri}
 use Rattle.nb_imagecmd.specs.Moving.{moved_file}
 use Rattle.nb_imagecmd.specs.CarryingOut.{image_effect}
-use Rattle.nb_imagecmd.specs.Executing.{ImageAnswer, script_of, taken_from, script_taken}
+use Rattle.nb_imagecmd.specs.Executing.{ImageAnswer, script_of, script_taken_from, script_taken}
 use Rattle.nb_machine.specs.Conclusions.{Conclusion, keeps, tells, fails, boots, runs_script, file_conclusion, conclusion}
 use Rattle.nb_machine.specs.Effects.{Effect, says, asks, goes, sleeps, shuts_device, inquires, on_images, on_drives, hooks_disk, unhooks_drive, boots_drive, concludes_at_once, Surroundings, taken_effect, image_outcome_effect, image_answer_effect, settled_effect, effect_in, next_moved, effect, expanded_effect, expansion, words_effect, planned_effect, plan_effect, device_effect, unless_full, table_after, up_after, refusal_effect, drive_answer_effect}
 use Rattle.nb_machine.specs.Queries.{for_lease}
@@ -127,7 +127,7 @@ unfolding effect
 effect_plain n table ws = expanded_plain n table (expansion table ws)
 
 -- a script that leaves the list
-from_fits : (replace : Bool) (depth i : ℕ) (list : ImageList) (o : Option Image) → Fits depth (runs_script list (record { text = []; uri = [] }) replace) → EffectFits depth (taken_effect replace (taken_from o i list))
+from_fits : (replace : Bool) (depth i : ℕ) (list : ImageList) (o : Option Image) → Fits depth (runs_script list (record { text = []; uri = [] }) replace) → EffectFits depth (taken_effect replace (script_taken_from o i list))
 from_fits replace depth i list None f = tt
 from_fits true depth i list (Some image) f = tt
 from_fits false depth i list (Some image) f = f
@@ -137,7 +137,7 @@ unfolding script_taken
 taken_fits true depth i list = from_fits true depth i list (slice_get list.images i) tt
 taken_fits false depth i list = by (nat_lt depth 8) refl
   where
-    by : (b : Bool) → nat_lt depth 8 ≡ b → EffectFits depth (taken_effect false (cond (not b) (Err ManyScripts) (taken_from (slice_get list.images i) i list)))
+    by : (b : Bool) → nat_lt depth 8 ≡ b → EffectFits depth (taken_effect false (cond (not b) (Err ManyScripts) (script_taken_from (slice_get list.images i) i list)))
     by true e = from_fits false depth i list (slice_get list.images i) (ltb-true depth 8 e)
     by false e = tt
 

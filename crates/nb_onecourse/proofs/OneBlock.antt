@@ -2,7 +2,7 @@
 use Rattle.std.proofs.Common.{◌≡◌, ℕ, List, [], ◌∷◌, ◌++◌, Option, sym, ◌∙◌, ap, subst}
 use Rattle.nb_defs.specs.Records.{Out}
 use Rattle.nb_drivecmd.specs.declared.drive.Drive.{Drive}
-use Rattle.nb_machine.specs.Drives.{first_block}
+use Rattle.nb_machine.specs.Drives.{first_block_read}
 use Rattle.nb_machine.specs.Lives.{task}
 use Rattle.nb_machine.specs.Running.{Running}
 use Rattle.nb_machine.specs.States.{State, with_live}
@@ -17,8 +17,8 @@ use Rattle.nb_onecourse.proofs.Numbered.{IsNumbered, same_place}
 asks_one : (s s1 s2 : State) (number : ℕ) (put put' : List Out) (over over' : List Over) → AreUnended s.live → IsNumbered s → AsksBlock s number put s1 over → AsksBlock s number put' s2 over' → SameStep put put' s1 s2 over over'
 asks_one s s1 s2 number put put' over over' u r h g =
     let k = same_place number s h.before g.before h.behind g.behind h.l g.l r h.parted g.parted h.its g.its in
-    let t = all_take_one s.devices (task first_block s.now) (h.l ∷ []) put put' h.after g.after over over' (other_unended h.before h.behind h.l (subst AreUnended h.parted u), tt) h.takes
-    (subst (λ z. AllTake s.devices (task first_block s.now) (z ∷ []) put' g.after over') (sym k.here) g.takes) in
+    let t = all_take_one s.devices (task first_block_read s.now) (h.l ∷ []) put put' h.after g.after over over' (other_unended h.before h.behind h.l (subst AreUnended h.parted u), tt) h.takes
+    (subst (λ z. AllTake s.devices (task first_block_read s.now) (z ∷ []) put' g.after over') (sym k.here) g.takes) in
     record {
       records = t.records;
       state = h.leaves ∙ ap (λ z. with_live s (z ++ h.after ++ h.behind)) k.front ∙ ap (λ z. with_live s (g.before ++ z ++ h.behind)) t.live

@@ -11,7 +11,7 @@ use Rattle.nb_tftp.specs.History.{Call, came, ticked, Entry, entry, got, due_of,
 use Rattle.nb_tftp.specs.Received.{fixed_port}
 use Rattle.nb_tftp.specs.Blocks.{count, file}
 use Rattle.nb_tftp.specs.Sentences.{Meets, AsksSo}
-use Rattle.nb_machine.specs.Sendings.{acts_records, end_of}
+use Rattle.nb_machine.specs.Sendings.{acts_records, end_with_body}
 use Rattle.nb_machine.specs.Lives.{OpenInput, close, Exchange, exchange, Live, continued}
 use Rattle.nb_machine.specs.Transfers.{transfer_of, arrival_of, finds_none, transfer_end, end_records, transfer_records, Exchanged, at_first, takes, closes, KeepsTransfer}
 use Rattle.nb_machine.specs.Takings.{end_among}
@@ -49,7 +49,7 @@ timer_answers b fixed last = record { rests = refl; tries = λ n. refl; ends = r
 went_on : (k server : ℕ) (link : Client) (body : List ℕ) (acts : Acts) → end_among k (transfer_records k server link body acts) ≡ None → WentOn k link acts (transfer_records k server link body acts)
 went_on k server link body acts e =
     let none = no_end k (acts_records link k acts) (transfer_end server link body acts) e in
-    let parts = earlier_parts (end_of body acts) _ none in
+    let parts = earlier_parts (end_with_body body acts) _ none in
     record {
       records = ap (λ z. acts_records link k acts ++ end_records k z) none ∙ append-nil (acts_records link k acts);
       over = chosen_none _ _ acts.over parts.0;

@@ -13,7 +13,7 @@ use Rattle.nb_machine.specs.Effects.{Effect, says, asks, goes, sleeps, shuts_dev
 use Rattle.nb_machine.specs.Errands.{Onward, fetches_now, echoes_now, looks_up_now, hooks_now}
 use Rattle.nb_machine.specs.Queries.{Query, for_lease, for_echo, for_host, for_address}
 use Rattle.nb_machine.specs.Running.{Running, anew, entered}
-use Rattle.nb_machine.specs.Drives.{first_block}
+use Rattle.nb_machine.specs.Drives.{first_block_read}
 use Rattle.nb_machine.specs.Lives.{task, Live}
 use Rattle.nb_machine.specs.States.{State, with_settings, with_images}
 use Rattle.nb_machine.specs.Takings.{Over}
@@ -93,7 +93,7 @@ asked_unended : (s : State) (number : ℕ) (put : List Out) (s' : State) (over :
 asked_unended s number put s' over u h =
     let each = subst AreUnended h.parted u in
     subst (λ (z : State). AreUnended z.live) (sym h.leaves)
-    (replaced h.before h.behind h.after h.l each (all_take_unended s.devices (task first_block s.now) (h.l ∷ []) put h.after over (other_unended h.before h.behind h.l each, tt) h.takes))
+    (replaced h.before h.behind h.after h.l each (all_take_unended s.devices (task first_block_read s.now) (h.l ∷ []) put h.after over (other_unended h.before h.behind h.l each, tt) h.takes))
 
 block_unended : (s : State) (inner : Running) (outer : List Running) (number : ℕ) (d : Option Drive) (over : List Over) → AreUnended s.live → StandsUnended (block_standing s inner outer number d over)
 block_unended s inner outer number d [] u = u

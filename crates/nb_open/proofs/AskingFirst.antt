@@ -45,7 +45,7 @@ use Rattle.nb_open.specs.declared.opening.Opening.TheVariants.{File, Web, Drive,
 use Rattle.nb_open.specs.Making.{IsAskOf}
 use Rattle.nb_open.specs.Objects.{AreObjectsReady}
 use Rattle.nb_open.specs.Open.{AreOfKind, AreUnderWay, AsksRight, IsSpeakerOf, IsUnderWay, carrier_for, kind_for}
-use Rattle.nb_open.specs.Opening.{CanOpen, carrier_by, chain_kind, is_drive, is_joined, is_web, kind_by, live_by, own_by, server_by, speaker_for}
+use Rattle.nb_open.specs.Opening.{CanOpen, carrier_by, chain_kind, is_drive_opening, is_joined, is_web, kind_by, live_by, own_by, server_by, speaker_for}
 use Rattle.nb_open.proofs.CoreKinds.{echo_speaks, lease_speaks, name_speaks}
 use Rattle.nb_open.proofs.Doings.{put_by}
 use Rattle.nb_open.proofs.DriveOrders.{HandsUp}
@@ -99,7 +99,7 @@ or_true false = refl
 
 of_kind : (a : Opening) (number now : ℕ) (x : OpenObjects) (g : Objects Obj) → AreObjectsReady a x g → AreOfKind x (live_by a number now)
 of_kind a number now (objects.Chain kind chain) g (other, same, ready) = (same_connection a ∙ other, same ∙ same_kind a)
-of_kind a number now (objects.Web port own chain) g (is, same, from, ready) = (same_connection a ∙ ap (λ b. b || is_drive a) is, same)
+of_kind a number now (objects.Web port own chain) g (is, same, from, ready) = (same_connection a ∙ ap (λ b. b || is_drive_opening a) is, same)
 of_kind a number now (objects.Drive port own chain) g (is, same, from, ready) = (same_connection a ∙ (ap (λ b. is_web a || b) is ∙ or_true (is_web a)), same)
 
 -- the open has the machine's number, server, port and kind

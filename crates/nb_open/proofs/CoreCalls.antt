@@ -22,7 +22,7 @@ use Rattle.nb_machine.specs.Cores.{CoreExchanged, KeepsCore, core_end, core_reco
 use Rattle.nb_machine.specs.Kinds.{Keeps, fetched, granted, moved as place_moved, resolved}
 use Rattle.nb_machine.specs.Lives.{Live, OpenInput, exchange}
 use Rattle.nb_machine.specs.Sendings.{acts_records}
-use Rattle.nb_machine.specs.Transfers.{earlier, end_records, finds_none}
+use Rattle.nb_machine.specs.Transfers.{earlier_end, end_records, finds_none}
 use Rattle.nb_chains.specs.declared.chain.Chain.{Chain}
 use Rattle.nb_chains.specs.declared.kind.ChainKind.{ChainKind}
 use Rattle.nb_chains.specs.Calls.{IsOpenBy, IsOpenChain}
@@ -79,8 +79,8 @@ module _ (link : Client) (o : Open) (x : ℕ) (p : Port) (by : Way) (rec : ℕ) 
 -- HOW IT ENDS
 
 module _ (number server : ℕ) (link : Client) (acts : Acts) where
-  end_by : (over : Option Cause) (lacks : _) → acts.over ≡ over → finds_none link acts ≡ lacks → core_end server link acts ≡ earlier over (cond lacks (Some (no_route server)) None)
-  end_by over lacks e f = ap (λ z. earlier z (cond (finds_none link acts) (Some (no_route server)) None)) e ∙ ap (λ z. earlier over (cond z (Some (no_route server)) None)) f
+  end_by : (over : Option Cause) (lacks : _) → acts.over ≡ over → finds_none link acts ≡ lacks → core_end server link acts ≡ earlier_end over (cond lacks (Some (no_route server)) None)
+  end_by over lacks e f = ap (λ z. earlier_end z (cond (finds_none link acts) (Some (no_route server)) None)) e ∙ ap (λ z. earlier_end over (cond z (Some (no_route server)) None)) f
 
   pub goes_records : acts.over ≡ None → finds_none link acts ≡ false → acts_records link number acts ≡ core_records number server link acts
   goes_records e f = sym (ap (λ z. acts_records link number acts ++ end_records number z) (end_by None false e f) ∙ append-nil (acts_records link number acts))

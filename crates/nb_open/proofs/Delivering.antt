@@ -20,7 +20,7 @@ use Rattle.nb_nodes.specs.LeaseExchanges.{lease_said}
 use Rattle.nb_opens.specs.AloneNotices.{alone_call, alone_end}
 use Rattle.nb_opens.specs.Notices.{tells, sent_from}
 use Rattle.std.specs.Option.{option_or}
-use Rattle.nb_drivechains.specs.DriveCalls.{answer_in}
+use Rattle.nb_drivechains.specs.DriveCalls.{drive_answer_in}
 use Rattle.nb_drivenodes.specs.DriveTags.{drive_tag_number}
 use Rattle.nb_drivenodes.specs.declared.drive_tag.DriveTag.TheVariants.{Answered}
 use Rattle.nb_teller.specs.Deliveries.{delivered_address, delivered_answer, delivered_blocks, delivered_bytes}
@@ -201,4 +201,4 @@ pub answer_then : (ns more : List Notice) → delivered_answer more ≡ None →
 unfolding delivered_answer
 answer_then [] more h = h
 answer_then (event e ∷ ns) more h = answer_then ns more h
-answer_then (message from tag rec a b bytes ∷ ns) more h = ap (option_or (answer_in tag a b)) (answer_then ns more h)
+answer_then (message from tag rec a b bytes ∷ ns) more h = ap (option_or (drive_answer_in tag a b)) (answer_then ns more h)

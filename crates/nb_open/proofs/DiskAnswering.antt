@@ -11,7 +11,7 @@ use Rattle.nb_iscsipdu.specs.declared.answer.ScsiResponse.{ScsiResponse}
 use Rattle.nb_iscsipdu.specs.declared.answer.TaskStatus.{TaskStatus}
 use Rattle.nb_iscsipdu.specs.Answers.{AnswerParts, DataInParts, login, scsi, data_in, nop_in, other, answer_read}
 use Rattle.nb_disk.specs.Histories.{DiskCall, counted, came, asked, stream_ended, TaskResult, DiskReading, SessionNumbers, nothing_read, after_answer, after_call, at_work, capacity_of, capacity_read, completes, fits, tag_at_work, with_bytes, with_status}
-use Rattle.nb_disk.specs.DiskAnswers.{answered, broken, bytes_answer, command_after, commands_put, disk_answer, ends, expected, gives, given, nop_answer, pdu_answer, refused, response_answer, data_answer, sized, tested, puts, no_answer}
+use Rattle.nb_disk.specs.DiskAnswers.{command_answered, broken, bytes_answer, command_after, commands_put, disk_answer, ends, expected_stat_sn, gives, bytes_given, nop_answer, pdu_answer, refused_cause, response_answer, data_answer, sized, tested, puts, no_answer}
 use Rattle.nb_iscsipdu.specs.Requests.{nop_pdu}
 use Rattle.nb_disk.specs.DiskStands.{IsCheck, IsTesting, IsAnsweredWell, IsSizing, IsIdleDisk, IsReadingDisk}
 use Rattle.nb_disk.proofs.WorkLemmas.{at-idle, at-reading, at-sizing, at-testing, checks-added, ready-added, size-ready, size-sized, size-testing}
@@ -153,15 +153,15 @@ module _ (o : SessionNumbers) (r : DiskReading) (rec : ℕ) where
     came = length-append r.bytes d.bytes ∙ ap (λ n. n + length d.bytes) is.came;
   })
 
-  more_bytes : (c : Command) (bytes : List ℕ) → bytes_of_read (more bytes) (Some c) ≡ bytes_of_read r (Some c) ++ given c bytes
+  more_bytes : (c : Command) (bytes : List ℕ) → bytes_of_read (more bytes) (Some c) ≡ bytes_of_read r (Some c) ++ bytes_given c bytes
   more_bytes TestUnitReady bytes = refl
   more_bytes ReadCapacity bytes = refl
   more_bytes (Read lba blocks) bytes = refl
 
-  goes_more : (c : Command) → at_work r ≡ Some c → (d : DataInParts) → fits o r (Some c) d ≡ true → Phase r → Stepped r (more d.bytes) (given c d.bytes)
+  goes_more : (c : Command) → at_work r ≡ Some c → (d : DataInParts) → fits o r (Some c) d ≡ true → Phase r → Stepped r (more d.bytes) (bytes_given c d.bytes)
   goes_more c at d fit p = record {
-    goes = subst (λ z. GoesTo r (more d.bytes) z (given c d.bytes)) (sym (still_busy r (more d.bytes) c c at at))
-        (refl, refl, ap (bytes_of_read (more d.bytes)) at ∙ (more_bytes c d.bytes ∙ ap (λ z. z ++ given c d.bytes) (sym (bytes_by r (Some c) at))), refl);
+    goes = subst (λ z. GoesTo r (more d.bytes) z (bytes_given c d.bytes)) (sym (still_busy r (more d.bytes) c c at at))
+        (refl, refl, ap (bytes_of_read (more d.bytes)) at ∙ (more_bytes c d.bytes ∙ ap (λ z. z ++ bytes_given c d.bytes) (sym (bytes_by r (Some c) at))), refl);
     phase = more_phase c at d fit p;
   }
 
@@ -208,13 +208,13 @@ module _ (o : SessionNumbers) (r : DiskReading) (rec : ℕ) where
           }
 
       tested_by : (good check few : Bool) → (s.status == 0) ≡ good → (s.status == 2) ≡ check → nat_lt (length r.results) 3 ≡ few
-          → (cond good (puts (command_after o q (length r.results + 1) ReadCapacity)) (cond (check && few) (puts (command_after o q (length r.results + 1) TestUnitReady)) (ends (refused rec s.status)))).over ≡ None → Stepped r q []
+          → (cond good (puts (command_after o q (length r.results + 1) ReadCapacity)) (cond (check && few) (puts (command_after o q (length r.results + 1) TestUnitReady)) (ends (refused_cause rec s.status)))).over ≡ None → Stepped r q []
       tested_by true check few a b c over = now_sizing a
       tested_by false true true a b c over = still_testing b c
       tested_by false true false a b c over = absurd (cc)
       tested_by false false few a b c over = absurd (cc)
 
-      tested_gives : (a b : Bool) → (cond a (puts (command_after o q (length r.results + 1) ReadCapacity)) (cond b (puts (command_after o q (length r.results + 1) TestUnitReady)) (ends (refused rec s.status)))).give ≡ []
+      tested_gives : (a b : Bool) → (cond a (puts (command_after o q (length r.results + 1) ReadCapacity)) (cond b (puts (command_after o q (length r.results + 1) TestUnitReady)) (ends (refused_cause rec s.status)))).give ≡ []
       tested_gives true b = refl
       tested_gives false true = refl
       tested_gives false false = refl
@@ -244,12 +244,12 @@ module _ (o : SessionNumbers) (r : DiskReading) (rec : ℕ) where
             phase = is_idle capacity after;
           }
 
-      sized_by : (good : Bool) (capacity : Option ℕ) → (s.status == 0) ≡ good → capacity_of (r.bytes ++ bytes) ≡ capacity → (cond good (cond (is_some capacity) no_answer (ends (broken rec))) (ends (refused rec s.status))).over ≡ None → Stepped r q []
+      sized_by : (good : Bool) (capacity : Option ℕ) → (s.status == 0) ≡ good → capacity_of (r.bytes ++ bytes) ≡ capacity → (cond good (cond (is_some capacity) no_answer (ends (broken rec))) (ends (refused_cause rec s.status))).over ≡ None → Stepped r q []
       sized_by true (Some capacity) a b over = now_sized capacity a b
       sized_by true None a b over = absurd (cc)
       sized_by false capacity a b over = absurd (cc)
 
-      sized_gives : (a b : Bool) → (cond a (cond b no_answer (ends (broken rec))) (ends (refused rec s.status))).give ≡ []
+      sized_gives : (a b : Bool) → (cond a (cond b no_answer (ends (broken rec))) (ends (refused_cause rec s.status))).give ≡ []
       sized_gives true true = refl
       sized_gives true false = refl
       sized_gives false b = refl
@@ -291,12 +291,12 @@ module _ (o : SessionNumbers) (r : DiskReading) (rec : ℕ) where
           }
 
       read_by : (good all : Bool) → (s.status == 0) ≡ good → (length r.bytes + length bytes == 512 * blocks) ≡ all
-          → (cond good (cond all (gives bytes) (ends (broken rec))) (ends (refused rec s.status))).over ≡ None → Stepped r q (cond good (cond all (gives bytes) (ends (broken rec))) (ends (refused rec s.status))).give
+          → (cond good (cond all (gives bytes) (ends (broken rec))) (ends (refused_cause rec s.status))).over ≡ None → Stepped r q (cond good (cond all (gives bytes) (ends (broken rec))) (ends (refused_cause rec s.status))).give
       read_by true true a b over = now_read a b
       read_by true false a b over = absurd (cc)
       read_by false all a b over = absurd (cc)
 
-    answered_once : (c : Command) → at_work r ≡ Some c → Phase r → (answered o r rec c bytes s).over ≡ None → Stepped r q (answered o r rec c bytes s).give
+    answered_once : (c : Command) → at_work r ≡ Some c → Phase r → (command_answered o r rec c bytes s).over ≡ None → Stepped r q (command_answered o r rec c bytes s).give
     answered_once TestUnitReady at (is_testing checks is) over = tested_once checks is over
     answered_once ReadCapacity at (is_testing checks is) over = absurd (let z : Some ReadCapacity ≡ Some TestUnitReady = sym at ∙ at-testing r checks is in cc)
     answered_once (Read lba blocks) at (is_testing checks is) over = absurd (let z : Some (Read lba blocks) ≡ Some TestUnitReady = sym at ∙ at-testing r checks is in cc)
@@ -314,7 +314,7 @@ module _ (o : SessionNumbers) (r : DiskReading) (rec : ℕ) where
   respond a None at p over = absurd (cc)
   respond a (Some c) at p over = by (completes o r (Some c) a) over
     where
-      by : (b : Bool) → (cond b (answered o r rec c [] a.status) (ends (broken rec))).over ≡ None → Stepped r (cond b (with_status r [] a.status) r) (cond b (answered o r rec c [] a.status) (ends (broken rec))).give
+      by : (b : Bool) → (cond b (command_answered o r rec c [] a.status) (ends (broken rec))).over ≡ None → Stepped r (cond b (with_status r [] a.status) r) (cond b (command_answered o r rec c [] a.status) (ends (broken rec))).give
       by true over = answered_once [] a.status c at p over
       by false over = absurd (cc)
 
@@ -333,7 +333,7 @@ module _ (o : SessionNumbers) (r : DiskReading) (rec : ℕ) where
   ping : (n : NopIn) → Phase r → Stepped r r (nop_answer o r n).give
   ping n p = by (n.target_tag == 0xffffffff)
     where
-      by : (b : Bool) → Stepped r r (cond b no_answer (puts (nop_pdu (record { lun = n.lun; target_tag = n.target_tag; cmd_sn = counted o.cmd_sn (commands_put r); exp_stat_sn = expected o r })))).give
+      by : (b : Bool) → Stepped r r (cond b no_answer (puts (nop_pdu (record { lun = n.lun; target_tag = n.target_tag; cmd_sn = counted o.cmd_sn (commands_put r); exp_stat_sn = expected_stat_sn o r })))).give
       by true = stands_still p
       by false = stands_still p
 
@@ -359,7 +359,7 @@ idle_call o r (came rec p) is idle over = by (answer_read p) over
     by (data_in d) over = absurd (let z : (data_answer o r rec None d).over ≡ None = subst (λ w. (data_answer o r rec w d).over ≡ None) idle over in cc)
     by (nop_in n) over = (nop (n.target_tag == 0xffffffff), refl)
       where
-        nop : (b : Bool) → (cond b no_answer (puts (nop_pdu (record { lun = n.lun; target_tag = n.target_tag; cmd_sn = counted o.cmd_sn (commands_put r); exp_stat_sn = expected o r })))).give ≡ []
+        nop : (b : Bool) → (cond b no_answer (puts (nop_pdu (record { lun = n.lun; target_tag = n.target_tag; cmd_sn = counted o.cmd_sn (commands_put r); exp_stat_sn = expected_stat_sn o r })))).give ≡ []
         nop true = refl
         nop false = refl
     by other over = absurd (cc)

@@ -13,7 +13,7 @@ use Rattle.nb_iscsipdu.specs.Answers.{AnswerParts, DataInParts, login, scsi, dat
 use Rattle.nb_iscsipdu.specs.Requests.{nop_pdu}
 use Rattle.nb_disk.specs.Histories.{DiskCall, counted, came, asked, stream_ended, TaskResult, DiskReading, SessionNumbers, after_answer, after_call, at_work}
 use Rattle.nb_disk.specs.Histories.{capacity_in, capacity_of, capacity_read, completes, first_capacity, fits, with_bytes, with_status}
-use Rattle.nb_disk.specs.DiskAnswers.{answered, broken, bytes_answer, commands_put, data_answer, disk_answer, ends, expected, gives, no_answer, pdu_answer, puts, refused, response_answer, sized}
+use Rattle.nb_disk.specs.DiskAnswers.{command_answered, broken, bytes_answer, commands_put, data_answer, disk_answer, ends, expected_stat_sn, gives, no_answer, pdu_answer, puts, refused_cause, response_answer, sized}
 use Rattle.nb_disk.specs.DiskStands.{IsCheck, IsReadingDisk, IsSized, IsSizing, IsTesting}
 use Rattle.nb_disk.proofs.WorkLemmas.{at-idle, at-reading, at-sizing, at-testing, ready-added, size-ready, size-sized, size-testing}
 use Rattle.nb_sans.specs.Sessions.{answers_of, blocks_read, read_refused, read_results, read_short, task_answer}
@@ -56,7 +56,7 @@ module _ (o : SessionNumbers) (r : DiskReading) (rec : ℕ) where
       size_then : capacity_read q ≡ first_capacity (result ∷ [])
       size_then = size-ready q (result ∷ []) (ready-added r q [] result is.ready refl)
 
-      unsized_by : (good : Bool) (capacity : Option ℕ) (x : Cause) → (cond good (cond (is_some capacity) no_answer (ends (broken rec))) (ends (refused rec s.status))).over ≡ Some x → cond good capacity None ≡ None
+      unsized_by : (good : Bool) (capacity : Option ℕ) (x : Cause) → (cond good (cond (is_some capacity) no_answer (ends (broken rec))) (ends (refused_cause rec s.status))).over ≡ Some x → cond good capacity None ≡ None
       unsized_by true None x over = refl
       unsized_by true (Some capacity) x over = absurd (let z = over in cc)
       unsized_by false capacity x over = refl
@@ -80,7 +80,7 @@ module _ (o : SessionNumbers) (r : DiskReading) (rec : ℕ) where
           ∙ (ap (λ z. last_answer (is.before ++ is.last ∷ []) (answers_of (is.before ++ is.last ∷ []) z)) (results_read q (is.sized.first ∷ done) sized_then.ready)
           ∙ (ap (slice_get (answers_of (is.before ++ is.last ∷ []) done)) place ∙ last_read is.before is.last is.done result is.all))
 
-      unread_by : (good all : Bool) (x : Cause) → (cond good (cond all (gives bytes) (ends (broken rec))) (ends (refused rec s.status))).over ≡ Some x → IsNotRead (Some (cond good (cond all (blocks_read (r.bytes ++ bytes)) read_short) (read_refused s.status)))
+      unread_by : (good all : Bool) (x : Cause) → (cond good (cond all (gives bytes) (ends (broken rec))) (ends (refused_cause rec s.status))).over ≡ Some x → IsNotRead (Some (cond good (cond all (blocks_read (r.bytes ++ bytes)) read_short) (read_refused s.status)))
       unread_by true true x over = absurd (let z = over in cc)
       unread_by true false x over = tt
       unread_by false all x over = tt
@@ -88,14 +88,14 @@ module _ (o : SessionNumbers) (r : DiskReading) (rec : ℕ) where
       long : (length (r.bytes ++ bytes) == 512 * is.last.1) ≡ (length r.bytes + length bytes == 512 * blocks)
       long = ap (λ n. n == 512 * is.last.1) (length-append r.bytes bytes) ∙ ap (λ n. length r.bytes + length bytes == 512 * n) same_blocks
 
-      unread : (x : Cause) → (cond (s.status == 0) (cond (length r.bytes + length bytes == 512 * blocks) (gives bytes) (ends (broken rec))) (ends (refused rec s.status))).over ≡ Some x → EndsAs r q
+      unread : (x : Cause) → (cond (s.status == 0) (cond (length r.bytes + length bytes == 512 * blocks) (gives bytes) (ends (broken rec))) (ends (refused_cause rec s.status))).over ≡ Some x → EndsAs r q
       unread x over =
           ends_badly capacity (size-sized r capacity is.done is.sized) (size-sized q capacity (is.done ++ result ∷ []) sized_then)
           (subst IsNotRead (sym last_then)
           (subst (λ b. IsNotRead (Some (cond (s.status == 0) (cond b (blocks_read (r.bytes ++ bytes)) read_short) (read_refused s.status)))) (sym long) (unread_by (s.status == 0) (length r.bytes + length bytes == 512 * blocks) x over)))
           (unread_yet r capacity wanted got is)
 
-    status_ends : (c : Command) → at_work r ≡ Some c → Phase r → (x : Cause) → (answered o r rec c bytes s).over ≡ Some x → EndsAs r q
+    status_ends : (c : Command) → at_work r ≡ Some c → Phase r → (x : Cause) → (command_answered o r rec c bytes s).over ≡ Some x → EndsAs r q
     status_ends TestUnitReady at (is_testing checks is) x over = untested checks is
     status_ends ReadCapacity at (is_testing checks is) x over = absurd (let z : Some ReadCapacity ≡ Some TestUnitReady = sym at ∙ at-testing r checks is in cc)
     status_ends (Read lba blocks) at (is_testing checks is) x over = absurd (let z : Some (Read lba blocks) ≡ Some TestUnitReady = sym at ∙ at-testing r checks is in cc)
@@ -116,7 +116,7 @@ module _ (o : SessionNumbers) (r : DiskReading) (rec : ℕ) where
   response_ends a None at p x over = still
   response_ends a (Some c) at p x over = by (completes o r (Some c) a) over
     where
-      by : (b : Bool) → (cond b (answered o r rec c [] a.status) (ends (broken rec))).over ≡ Some x → EndsAs r (cond b (with_status r [] a.status) r)
+      by : (b : Bool) → (cond b (command_answered o r rec c [] a.status) (ends (broken rec))).over ≡ Some x → EndsAs r (cond b (with_status r [] a.status) r)
       by true over = status_ends [] a.status c at p x over
       by false over = still
 
@@ -146,7 +146,7 @@ module _ (o : SessionNumbers) (r : DiskReading) (rec : ℕ) where
   idle_pdu (data_in d) idle x over = (ap (λ (w : Option Command). (data_answer o r rec w d).give) idle, ap (λ (w : Option Command). cond (fits o r w d) (with_bytes r d.bytes d.status) r) idle)
   idle_pdu (nop_in n) idle x over = (nop (n.target_tag == 0xffffffff), refl)
     where
-      nop : (b : Bool) → (cond b no_answer (puts (nop_pdu (record { lun = n.lun; target_tag = n.target_tag; cmd_sn = counted o.cmd_sn (commands_put r); exp_stat_sn = expected o r })))).give ≡ []
+      nop : (b : Bool) → (cond b no_answer (puts (nop_pdu (record { lun = n.lun; target_tag = n.target_tag; cmd_sn = counted o.cmd_sn (commands_put r); exp_stat_sn = expected_stat_sn o r })))).give ≡ []
       nop true = refl
       nop false = refl
   idle_pdu other idle x over = (refl, refl)

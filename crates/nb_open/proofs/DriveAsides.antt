@@ -12,7 +12,7 @@ use Rattle.nb_streams.specs.Streams.{front}
 use Rattle.nb_streams.proofs.OtherSendLaws.{phase_append}
 use Rattle.nb_disk.specs.Histories.{at_work}
 use Rattle.nb_talks.specs.Talking.{Came, Talk, Talker, begun_talk, by_time, talk_after, talk_held, talks_on}
-use Rattle.nb_machine.specs.Drives.{came_to_session, last_read, session_answer, session_of}
+use Rattle.nb_machine.specs.Drives.{input_to_session, last_read, session_answer, session_of}
 use Rattle.nb_machine.specs.Kinds.{answered, answered_by}
 use Rattle.nb_machine.specs.Lives.{Exchange, Live, continued, iscsi}
 use Rattle.nb_teller.specs.Deliveries.{delivered_answer, delivered_blocks}
@@ -24,10 +24,10 @@ use Rattle.nb_open.proofs.Delivering.{DeliversNone}
 use Rattle.nb_open.proofs.DrivePuts.{answer_among, answer_up, blocks_among, blocks_up}
 
 -- with one thing more that came, the talk has gone on
-pub session_more : (isn : ℕ) (i : LoginInfo) (l : Live) (x : Exchange) (c : Came ReadTask) → came_to_session x.came ≡ c ∷ [] → session_of isn i (continued l x) ≡ talks_on (session_talker i) isn (session_of isn i l) c
+pub session_more : (isn : ℕ) (i : LoginInfo) (l : Live) (x : Exchange) (c : Came ReadTask) → input_to_session x.came ≡ c ∷ [] → session_of isn i (continued l x) ≡ talks_on (session_talker i) isn (session_of isn i l) c
 session_more isn i l x c is =
-    let came : List Exchange → List (Came ReadTask) = flat_map (λ (y : Exchange). came_to_session y.came) in
-    ap (talk_after (session_talker i) isn l.since) (flat_map-append (λ (y : Exchange). came_to_session y.came) l.exchanges (x ∷ []) ∙ ap (λ z. came l.exchanges ++ (z ++ [])) is)
+    let came : List Exchange → List (Came ReadTask) = flat_map (λ (y : Exchange). input_to_session y.came) in
+    ap (talk_after (session_talker i) isn l.since) (flat_map-append (λ (y : Exchange). input_to_session y.came) l.exchanges (x ∷ []) ∙ ap (λ z. came l.exchanges ++ (z ++ [])) is)
     ∙ fold-append (talks_on (session_talker i) isn) (begun_talk (session_talker i) isn l.since) (came l.exchanges) (c ∷ [])
 
 -- a time brings nothing of the stream, and asks nothing
@@ -35,7 +35,7 @@ time_held : (isn now : ℕ) (t : Talker ReadTask) (d : Talk ReadTask) → talk_h
 time_held isn now t d = ap (held_after isn) (append-nil (d.calls ++ time_came now ∷ [])) ∙ ap held_in (phase_append isn d.calls (time_came now))
 
 module _ (c : DriveChain) (l : Live) (x : Exchange) (ns : List Notice) (isn : ℕ) (i : LoginInfo) (of : l.kind ≡ iscsi isn i) (above : told_above c.unit.0 ns ≡ []) (none : AllByRecursion DeliversNone (messages_of (told_below c.unit.0 ns))) where
-  module _ (now : ℕ) (is : came_to_session x.came ≡ by_time now ∷ []) where
+  module _ (now : ℕ) (is : input_to_session x.came ≡ by_time now ∷ []) where
     abbrev after : Live
     after = continued l x
 

@@ -2,7 +2,7 @@
 use Rattle.std.proofs.Common.{◌≡◌, ◌≤◌, ℕ, ◌+◌, ◌*◌, ◌&&◌, Bool, true, false, not, cond, nat_lt, nat_le, List, [], ◌∷◌, ◌++◌, length, Option, Some, None, refl, sym, ap, ◌∙◌, subst, append-nil, arith}
 use Rattle.std.specs.Option.{is_some, option_map}
 use Rattle.nb_chains.specs.Chains.{AreChained}
-use Rattle.nb_disk.specs.DiskAnswers.{has_ended as drive_has_ended, opened_of}
+use Rattle.nb_disk.specs.DiskAnswers.{session_has_ended as drive_has_ended, opened_of}
 use Rattle.nb_disk.specs.DiskStands.{IsIdleDisk, IsReadingDisk, is_out_of}
 use Rattle.nb_disk.specs.Histories.{DiskCall, DiskReading, SessionNumbers, after_call, asked, at_work, capacity_read, nothing_read, reading}
 use Rattle.nb_disk.proofs.WorkLemmas.{at-idle, at-reading, at-sizing, at-testing, size-ready, size-sized, size-testing}
@@ -34,7 +34,7 @@ use Rattle.nb_talks.proofs.TalkLaws.{held_with_texts}
 use Rattle.nb_webchains.specs.WebChains.{web_graph}
 use Rattle.nb_webchains.proofs.Three.{fetch_in}
 use Rattle.nb_wire.specs.declared.address.Ip4.{Ip4}
-use Rattle.nb_machine.specs.Drives.{DriveAnswer, came_to_session, drive_answer, session_answer, session_of}
+use Rattle.nb_machine.specs.Drives.{DriveAnswer, input_to_session, drive_answer, session_answer, session_of}
 use Rattle.nb_machine.specs.Kinds.{answered, answered_by}
 use Rattle.nb_machine.specs.Lives.{Exchange, Live, continued, iscsi}
 use Rattle.nb_open.specs.DriveAnswers.{AsksAfter, bytes_by, bytes_of_read, bytes_so_far, is_read, is_reading, reads_by, takes_task, with_none_last, would_take}
@@ -153,7 +153,7 @@ module _ (t : ReadTask) (l after : Live) (chap : Option ℕ) (r q : DiskReading)
 -- THE TASK
 
 module _ (c : DriveChain) (l : Live) (isn : ℕ) (i : LoginInfo) (of : l.kind ≡ iscsi isn i) (own : Ip4) (g : Objects Obj) (k : IsTalkingDrive isn i own c g l) (chained : AreChained g (drive_ids c)) (t : ReadTask) (now : ℕ) (x : Exchange)
-    (is : came_to_session x.came ≡ by_task t now ∷ []) where
+    (is : input_to_session x.came ≡ by_task t now ∷ []) where
   abbrev after : Live
   after = continued l x
 

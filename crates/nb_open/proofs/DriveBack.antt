@@ -12,7 +12,7 @@ use Rattle.nb_conns.specs.ConnAsks.{conn_ask_bytes, conn_ask_in}
 use Rattle.nb_drivenodes.specs.declared.drive_ask.DriveAsk.{DriveAsk}
 use Rattle.nb_drivenodes.specs.DriveAsks.{ask_parts_of, drive_ask_by, drive_ask_in, info_by, name_list, names_in, next_text, text_after, words_of}
 use Rattle.nb_drivenodes.proofs.AskLemmas.{ask-cut}
-use Rattle.nb_open.specs.DriveBytes.{HasShortNames, drive_ask_bytes, text_bytes, word_bytes}
+use Rattle.nb_open.specs.DriveBytes.{HasShortDriveNames, drive_ask_bytes, text_bytes, word_bytes}
 
 -- THE NAMES
 
@@ -88,7 +88,7 @@ all_words_back ws is fit =
 words_long : (ws : List ℕ) → length ws ≡ 8 → length (word_bytes ws) ≡ 32
 words_long ws is = ap (λ z. length (word_bytes z)) (eight ws is)
 
-pub drive_reads_back : (a : DriveAsk) → conn_ask_in (conn_ask_bytes a.conn) ≡ Some a.conn → length a.lun ≡ 8 → length a.words ≡ 8 → AreWords a.words → HasShortNames a.names
+pub drive_reads_back : (a : DriveAsk) → conn_ask_in (conn_ask_bytes a.conn) ≡ Some a.conn → length a.lun ≡ 8 → length a.words ≡ 8 → AreWords a.words → HasShortDriveNames a.names
     → drive_ask_in (drive_ask_bytes a) ≡ Some (ask_parts_of a)
 drive_reads_back a conn lun words fit short =
     let r3 = flat_map text_bytes (name_list a.names) in
@@ -106,7 +106,7 @@ drive_reads_back a conn lun words fit short =
     (sym conn) (sym (texts_back (name_list a.names) short)) in
     sym cut ∙ ap (λ z. drive_ask_by (Some a.conn) (info_by a.lun z (name_list a.names))) (all_words_back a.words words fit)
 
-pub drive_few : (a : DriveAsk) → length a.lun ≡ 8 → length a.words ≡ 8 → HasShortNames a.names → length (drive_ask_bytes a) < 2 ^ 32
+pub drive_few : (a : DriveAsk) → length a.lun ≡ 8 → length a.words ≡ 8 → HasShortDriveNames a.names → length (drive_ask_bytes a) < 2 ^ 32
 drive_few a lun words short =
     let r3 = flat_map text_bytes (name_list a.names) in
     let r2 = word_bytes a.words ++ r3 in

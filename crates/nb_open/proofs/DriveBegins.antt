@@ -48,7 +48,7 @@ use Rattle.nb_open.specs.declared.opening.Opening.TheVariants.{File, Web, Drive,
 use Rattle.nb_open.specs.Ends.{closed_open}
 use Rattle.nb_open.specs.Making.{AsksDrive}
 use Rattle.nb_open.specs.Open.{IsOpenOf, IsSpeakerOf, IsTalkingDrive, session_ask}
-use Rattle.nb_open.specs.Opening.{CanOpen, NamesItsTarget, address_by, is_drive, kind_by, live_by}
+use Rattle.nb_open.specs.Opening.{CanOpen, NamesItsTarget, address_by, is_drive_opening, kind_by, live_by}
 use Rattle.nb_open.proofs.AskingFirst.{Sets, SetsOrFails, runs_short, sets}
 use Rattle.nb_open.proofs.DriveCloses.{drive_closed_keeps}
 use Rattle.nb_open.proofs.DriveLaws.{drive_begins}
@@ -113,7 +113,7 @@ module _ (number now : ℕ) (link : Client) (o : Open) (port : ℕ) (own : Ip4) 
           (talks a number now link o port own c mid rec k.does.ns from called is_open (drive_kinds c old mid k.does.keeps ready.kinds) (are_hosted (three_of c) mid chained after) stands))
 
   -- its first message leaves, or finds no route
-  pub drive_begins_so : (a : Opening) (k : AsksDrive a c old mid now rec m n) → is_drive a ≡ true → CanOpen a → own ≡ address_by a → IsSpeakerOf o (live_by a number now) → SetsOrFails a number now link o (objects.Drive port own c) mid k.does.ns
+  pub drive_begins_so : (a : Opening) (k : AsksDrive a c old mid now rec m n) → is_drive_opening a ≡ true → CanOpen a → own ≡ address_by a → IsSpeakerOf o (live_by a number now) → SetsOrFails a number now link o (objects.Drive port own c) mid k.does.ns
   drive_begins_so (File a) k is can from called = absurd (cc)
   drive_begins_so (Web a) k is can from called = absurd (cc)
   drive_begins_so (Drive a) k is can from called = asked_by a k can from called
@@ -123,7 +123,7 @@ module _ (number now : ℕ) (link : Client) (o : Open) (port : ℕ) (own : Ip4) 
 
 -- WHERE IT FOUND NO ROUTE
 
-pub drive_closes_silent : (a : Opening) (number now : ℕ) (link : Client) (o : Open) (port : ℕ) (own : Ip4) (c : DriveChain) (mid new : Objects Obj) (cause : Cause) (m n : Heard) → is_drive a ≡ true → IsOpenOf mid (record { speaker = o.speaker; objects = objects.Drive port own c }) (live_by a number now) →
+pub drive_closes_silent : (a : Opening) (number now : ℕ) (link : Client) (o : Open) (port : ℕ) (own : Ip4) (c : DriveChain) (mid new : Objects Obj) (cause : Cause) (m n : Heard) → is_drive_opening a ≡ true → IsOpenOf mid (record { speaker = o.speaker; objects = objects.Drive port own c }) (live_by a number now) →
     (closes : ClosesWeb (three_of c) mid new cause m n) → first_records (kind_by a) (live_by a number now) link ≡ None → without_graph (told_records link o.speaker closes.ns) ≡ []
 drive_closes_silent (File a) number now link o port own c mid new cause m n is lives closes lost = absurd (cc)
 drive_closes_silent (Web a) number now link o port own c mid new cause m n is lives closes lost = absurd (cc)

@@ -10,7 +10,7 @@ use Rattle.nb_stack.specs.Client.{Client}
 use Rattle.nb_traced.specs.Plain.{without_graph}
 use Rattle.nb_traced.proofs.Plain.{plain_append, plain_aside}
 use Rattle.nb_drivechains.specs.declared.drive_answer.DriveAnswer.{DriveAnswer}
-use Rattle.nb_drivechains.specs.DriveCalls.{answer_in}
+use Rattle.nb_drivechains.specs.DriveCalls.{drive_answer_in}
 use Rattle.nb_drivenodes.specs.DriveTags.{drive_tag_number}
 use Rattle.nb_drivenodes.specs.declared.drive_tag.DriveTag.TheVariants.{Answered}
 use Rattle.nb_drivetalks.specs.Tellings.{goes_up, told_above, told_below}
@@ -76,7 +76,7 @@ blocks_among (m ∷ ms) = cond (m.tag == tag_number Bytes) (m.bytes ++ blocks_am
 
 abbrev pub answer_among : List Said → Option DriveAnswer
 answer_among [] = None
-answer_among (m ∷ ms) = option_or (answer_in m.tag m.a m.b) (answer_among ms)
+answer_among (m ∷ ms) = option_or (drive_answer_in m.tag m.a m.b) (answer_among ms)
 
 module _ (x : ℕ) where
   not_address : (tag : ℕ) → (tag ≡ tag_number Bytes) ⊎ (tag ≡ drive_tag_number Answered) → (tag == 6) ≡ false
@@ -142,6 +142,6 @@ module _ (x : ℕ) where
 
       by : (AllByRecursion DeliversNone (messages_of (told_below x ns)) → delivered_answer ns ≡ answer_among (told_above x ns))
           → (u : Bool) → AllByRecursion DeliversNone (messages_of (cond u (told_below x ns) (message from tag rec a b bytes ∷ told_below x ns))) →
-          option_or (answer_in tag a b) (delivered_answer ns) ≡ answer_among (cond u (said ∷ told_above x ns) (told_above x ns))
-      by more true k = ap (option_or (answer_in tag a b)) (more k)
+          option_or (drive_answer_in tag a b) (delivered_answer ns) ≡ answer_among (cond u (said ∷ told_above x ns) (told_above x ns))
+      by more true k = ap (option_or (drive_answer_in tag a b)) (more k)
       by more false k = ap (λ z. option_or (cond z (let answer : DriveAnswer = record { blocks = a; chap = b } in Some answer) None) (delivered_answer ns)) k.0.2 ∙ more k.1

@@ -5,9 +5,9 @@ use Rattle.std.specs.List.{AllByRecursion}
 use Rattle.std.proofs.lemmas.List.{drop_at}
 use Rattle.nb_terms.specs.declared.cause.Cause.{Cause}
 use Rattle.nb_conns.specs.ConnEffects.{received_says}
-use Rattle.nb_disk.specs.DiskAnswers.{data_range, disk_answer, ended_from, has_ended as drive_has_ended, opened_of}
+use Rattle.nb_disk.specs.DiskAnswers.{data_range, disk_answer, ended_from, session_has_ended as drive_has_ended, opened_of}
 use Rattle.nb_disk.specs.Histories.{DiskCall, DiskReading, SessionNumbers, after_call, capacity_read, nothing_read, reading}
-use Rattle.nb_drivenodes.specs.UnitAnswers.{answered_by}
+use Rattle.nb_drivenodes.specs.UnitAnswers.{unit_answered_by}
 use Rattle.nb_drivenodes.specs.UnitTalks.{answered_says, blocks_says}
 use Rattle.nb_ledger.specs.Flat.{Notice}
 use Rattle.nb_login.specs.declared.info.LoginInfo.{LoginInfo}
@@ -20,7 +20,7 @@ use Rattle.nb_streams.specs.Streams.{front, has_ended}
 use Rattle.nb_talks.specs.Talking.{Talk, by_segment, come_of, receives, talk_held, talks_on, texts_for}
 use Rattle.nb_talks.specs.TalkPromises.{earlier, phase_of, segment_put, talker_end}
 use Rattle.nb_talks.proofs.TalkLaws.{held_with_texts}
-use Rattle.nb_machine.specs.Drives.{DriveAnswer, bytes_read, came_to_session, last_read, drive_answer, session_answer, session_of}
+use Rattle.nb_machine.specs.Drives.{DriveAnswer, bytes_read, input_to_session, last_read, drive_answer, session_answer, session_of}
 use Rattle.nb_machine.specs.Kinds.{answered, answered_by as answered_for}
 use Rattle.nb_machine.specs.Lives.{Exchange, Live, continued, iscsi}
 use Rattle.nb_teller.specs.Deliveries.{delivered_answer, delivered_blocks}
@@ -55,7 +55,7 @@ units_up : (rec chap : ℕ) (o : SessionNumbers) (before calls : List DiskCall) 
 units_up rec chap o before [] = tt
 units_up rec chap o before (call ∷ calls) =
     let given = (disk_answer o (reading o before) call).give in
-    let capacity = answered_by o before call in
+    let capacity = unit_answered_by o before call in
     each_append IsHandedUp (unit_says rec chap o before call) (units_say rec chap o (before ++ call ∷ []) calls)
     (each_append IsHandedUp (blocks_says rec given) (answered_says rec chap capacity) (blocks_up rec given) (answer_up rec chap capacity)) (units_up rec chap o (before ++ call ∷ []) calls)
 
@@ -152,7 +152,7 @@ first_none (Some x) b e = absurd (let z = e in cc)
 
 -- A SEGMENT
 
-module _ (c : DriveChain) (l : Live) (x : Exchange) (ns : List Notice) (isn : ℕ) (i : LoginInfo) (of : l.kind ≡ iscsi isn i) (m : Arrival) (now : ℕ) (is : came_to_session x.came ≡ by_segment m now ∷ [])
+module _ (c : DriveChain) (l : Live) (x : Exchange) (ns : List Notice) (isn : ℕ) (i : LoginInfo) (of : l.kind ≡ iscsi isn i) (m : Arrival) (now : ℕ) (is : input_to_session x.came ≡ by_segment m now ∷ [])
     (above : told_above c.unit.0 ns ≡ handed_up m.rec i (come_of isn (session_of isn i l)) (come_of isn (receives isn (session_of isn i l) (by_segment m now))) (session_of isn i l).tasks) (none : AllByRecursion DeliversNone (messages_of (told_below c.unit.0 ns)))
     (adds : AddsParts i (come_of isn (session_of isn i l)) (come_of isn (receives isn (session_of isn i l) (by_segment m now))) (session_of isn i l).tasks) where
   abbrev after : Live

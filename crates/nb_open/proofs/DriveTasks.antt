@@ -14,7 +14,7 @@ use Rattle.nb_talks.specs.TalkPromises.{Put, Sends, phase_of, said_sends, task_p
 use Rattle.nb_tcp.specs.ConnPromises.{last_try}
 use Rattle.nb_wire.specs.declared.address.Ip4.{Ip4}
 use Rattle.nb_machine.specs.Connections.{Connection, connection_of}
-use Rattle.nb_machine.specs.Drives.{came_to_session, session_of}
+use Rattle.nb_machine.specs.Drives.{input_to_session, session_of}
 use Rattle.nb_machine.specs.Lives.{Live, exchange, iscsi, task}
 use Rattle.nb_teller.specs.declared.speaker.Speaker.{Speaker}
 use Rattle.nb_drivechains.specs.declared.drive_chain.DriveChain.{DriveChain}
@@ -94,7 +94,7 @@ module _ (who : Speaker) (port : ℕ) (own : Ip4) (c : DriveChain) (l : Live) (o
     asked_so : Did o l (task blocks now) link new k.ns
     asked_so = asked (drive_tasks (session_ask isn own i l) l.since talk c old new rec now block count m n k
         (record { was = is.chained; is = k.still; hosted = t.hosted; noded = k.noded; opened = t.opened; kinds = drive_kinds c old new k.keeps t.kinds }) t.stands
-        (all_is_said (session_talker i) (session_adds i) isn l.since (flat_map (λ x. came_to_session x.came) l.exchanges)))
+        (all_is_said (session_talker i) (session_adds i) isn l.since (flat_map (λ x. input_to_session x.came) l.exchanges)))
 
   -- a task does so
   pub drive_asked : Did o l (task blocks now) link new k.ns

@@ -34,7 +34,7 @@ use Rattle.nb_open.specs.declared.objects.OpenObjects.{OpenObjects}
 use Rattle.nb_open.specs.declared.objects.OpenObjects.TheVariants as objects
 use Rattle.nb_open.specs.declared.open.Open.{Open}
 use Rattle.nb_open.specs.Objects.{objects_ids}
-use Rattle.nb_open.specs.Open.{kin_of, objects_pieces, pieces_below}
+use Rattle.nb_open.specs.Open.{kin_of_open, objects_pieces, pieces_below}
 use Rattle.nb_open.proofs.Callings.{AreInOrder, GoesBy, IsEntryBy, call_on, each_append, of_message, puts_aside}
 use Rattle.nb_open.proofs.FirstCloses.{closes_are}
 use Rattle.nb_open.proofs.Delivering.{AreEvents, IsEvent}
@@ -51,7 +51,7 @@ serials_of (objects.Web port own chain) = refl
 serials_of (objects.Drive port own chain) = refl
 
 -- the serials of an open are those of its objects
-pub serials_are : (o : Open) → own_serials (kin_of o) ≡ objects_ids o.objects
+pub serials_are : (o : Open) → own_serials (kin_of_open o) ≡ objects_ids o.objects
 serials_are o = serials_of o.objects
 
 -- the last of them, which talks to the network
@@ -70,15 +70,15 @@ lowest_in (objects.Web port own chain) = refl
 lowest_in (objects.Drive port own chain) = refl
 
 -- and the lowest is the last
-pub lowest_is : (o : Open) → lowest_of (own_serials (kin_of o)) ≡ last_object o.objects
+pub lowest_is : (o : Open) → lowest_of (own_serials (kin_of_open o)) ≡ last_object o.objects
 lowest_is o = ap lowest_of (serials_are o) ∙ lowest_in o.objects
 
 -- what a call on its objects says of the open
-pub of_objects : (o : Open) (way : Option Way) (records : List Out) (s t : GraphState) → IsCallOn o.speaker.number (objects_ids o.objects) (last_object o.objects) way records s t → CallsOpen (kin_of o) way records s t
+pub of_objects : (o : Open) (way : Option Way) (records : List Out) (s t : GraphState) → IsCallOn o.speaker.number (objects_ids o.objects) (last_object o.objects) way records s t → CallsOpen (kin_of_open o) way records s t
 of_objects o way records s t h =
-    subst (λ z. IsCallOn o.speaker.number (own_serials (kin_of o)) z way records s t) (sym (lowest_is o)) (subst (λ z. IsCallOn o.speaker.number z (last_object o.objects) way records s t) (sym (serials_are o)) h)
+    subst (λ z. IsCallOn o.speaker.number (own_serials (kin_of_open o)) z way records s t) (sym (lowest_is o)) (subst (λ z. IsCallOn o.speaker.number z (last_object o.objects) way records s t) (sym (serials_are o)) h)
 
-pub close_of_objects : (o : Open) (records : List Out) (c : Option Cause) → first_close_of (objects_ids o.objects) records ≡ c → first_close_of (own_serials (kin_of o)) records ≡ c
+pub close_of_objects : (o : Open) (records : List Out) (c : Option Cause) → first_close_of (objects_ids o.objects) records ≡ c → first_close_of (own_serials (kin_of_open o)) records ≡ c
 close_of_objects o records c h = subst (λ z. first_close_of z records ≡ c) (sym (serials_are o)) h
 
 -- A CALL
@@ -92,13 +92,13 @@ goes_by o old new m n ns g = record { events = g.events; are = g.are; run = g.ru
 
 module _ (o : Open) (link : Client) (way : Option Way) (entry : Option GraphEvent) (old new : Objects Obj) (m n : Heard) (ns : List Notice) (is : IsEntryBy (last_object o.objects) way entry) where
   -- a call on the open's objects, as records
-  pub calls_open : AreInOrder (last_object o.objects) entry ns → ObjectsGive o.objects old new m n ns → CallsOpen (kin_of o) way (told_records link o.speaker ns) (run_state old.book []) (run_state new.book [])
+  pub calls_open : AreInOrder (last_object o.objects) entry ns → ObjectsGive o.objects old new m n ns → CallsOpen (kin_of_open o) way (told_records link o.speaker ns) (run_state old.book []) (run_state new.book [])
   calls_open h g =
       of_objects o way (told_records link o.speaker ns) (run_state old.book []) (run_state new.book [])
       (call_on link o.speaker (objects_ids o.objects) (last_object o.objects) way entry (run_state old.book []) (run_state new.book []) ns is h (goes_by o.objects old new m n ns g) refl)
 
   -- and its first close
-  pub closes_open : (c : Option Cause) → ObjectsGive o.objects old new m n ns → first_close ns ≡ c → first_close_of (own_serials (kin_of o)) (told_records link o.speaker ns) ≡ c
+  pub closes_open : (c : Option Cause) → ObjectsGive o.objects old new m n ns → first_close ns ≡ c → first_close_of (own_serials (kin_of_open o)) (told_records link o.speaker ns) ≡ c
   closes_open c g e = close_of_objects o (told_records link o.speaker ns) c (closes_are link o.speaker (objects_ids o.objects) ns g.events g.are g.within ∙ e)
 
 -- THE END AMONG ITS RECORDS

@@ -22,8 +22,8 @@ use Rattle.nb_tftp.proofs.HistoryLemmas.{given-append}
 use Rattle.nb_machine.specs.CommandRecords.{no_route}
 use Rattle.nb_machine.specs.Kinds.{Keeps, KeepsBy, fetched_by, granted_of, moved_by, resolved_of}
 use Rattle.nb_machine.specs.Lives.{Exchange, Live, exchange, tftp}
-use Rattle.nb_machine.specs.Sendings.{acts_records, end_of, is_over_limit, too_large_image}
-use Rattle.nb_machine.specs.Transfers.{Exchanged, at_first, takes, closes, arrival_of, datagram_in, earlier, end_records, finds_none, transfer_of, transfer_end, transfer_records}
+use Rattle.nb_machine.specs.Sendings.{acts_records, end_with_body, is_over_limit, too_large_image}
+use Rattle.nb_machine.specs.Transfers.{Exchanged, at_first, takes, closes, arrival_of, datagram_in, earlier_end, end_records, finds_none, transfer_of, transfer_end, transfer_records}
 use Rattle.nb_chains.specs.declared.chain.Chain.{Chain}
 use Rattle.nb_chains.specs.declared.kind.ChainKind.{ChainKind}
 use Rattle.nb_chains.specs.Calls.{IsOpenBy, IsOpenChain}
@@ -68,25 +68,25 @@ within_limit body h = grind (arith, nat_tests)
 beyond_limit : (body : List ℕ) → 268435456 < length body → is_over_limit body ≡ true
 beyond_limit body h = grind (arith, nat_tests)
 
-end_within : (body : List ℕ) (acts : Acts) → length body ≤ 268435456 → end_of body acts ≡ acts.over
+end_within : (body : List ℕ) (acts : Acts) → length body ≤ 268435456 → end_with_body body acts ≡ acts.over
 end_within body acts h = ap (λ b. cond b (Some too_large_image) acts.over) (within_limit body h)
 
-end_beyond : (body : List ℕ) (acts : Acts) → 268435456 < length body → end_of body acts ≡ Some body_too_large
+end_beyond : (body : List ℕ) (acts : Acts) → 268435456 < length body → end_with_body body acts ≡ Some body_too_large
 end_beyond body acts h = ap (λ b. cond b (Some too_large_image) acts.over) (beyond_limit body h)
 
 -- HOW IT ENDS
 
 module _ (number server : ℕ) (link : Client) (body : List ℕ) (acts : Acts) where
-  end_by : (end : Option Cause) (lacks : _) → end_of body acts ≡ end → finds_none link acts ≡ lacks → transfer_end server link body acts ≡ earlier end (cond lacks (Some (no_route server)) None)
-  end_by end lacks e g = ap (λ z. earlier z (cond (finds_none link acts) (Some (no_route server)) None)) e ∙ ap (λ z. earlier end (cond z (Some (no_route server)) None)) g
+  end_by : (end : Option Cause) (lacks : _) → end_with_body body acts ≡ end → finds_none link acts ≡ lacks → transfer_end server link body acts ≡ earlier_end end (cond lacks (Some (no_route server)) None)
+  end_by end lacks e g = ap (λ z. earlier_end z (cond (finds_none link acts) (Some (no_route server)) None)) e ∙ ap (λ z. earlier_end end (cond z (Some (no_route server)) None)) g
 
-  goes_records : end_of body acts ≡ None → finds_none link acts ≡ false → acts_records link number acts ≡ transfer_records number server link body acts
+  goes_records : end_with_body body acts ≡ None → finds_none link acts ≡ false → acts_records link number acts ≡ transfer_records number server link body acts
   goes_records e g = sym (ap (λ z. acts_records link number acts ++ end_records number z) (end_by None false e g) ∙ append-nil (acts_records link number acts))
 
-  stuck_records : end_of body acts ≡ None → finds_none link acts ≡ true → acts_records link number acts ++ end_records number (Some (no_route server)) ≡ transfer_records number server link body acts
+  stuck_records : end_with_body body acts ≡ None → finds_none link acts ≡ true → acts_records link number acts ++ end_records number (Some (no_route server)) ≡ transfer_records number server link body acts
   stuck_records e g = sym (ap (λ z. acts_records link number acts ++ end_records number z) (end_by None true e g))
 
-  over_records : (c : Cause) → end_of body acts ≡ Some c → acts_records link number acts ++ end_records number (Some c) ≡ transfer_records number server link body acts
+  over_records : (c : Cause) → end_with_body body acts ≡ Some c → acts_records link number acts ++ end_records number (Some c) ≡ transfer_records number server link body acts
   over_records c e = sym (ap (λ z. acts_records link number acts ++ end_records number z) (end_by (Some c) (finds_none link acts) e refl))
 
 none_message : (found : Option (List ℕ)) → found ≡ None → IsLeaseMessage found
@@ -121,7 +121,7 @@ module _ (who : Speaker) (kind : ChainKind) (own : Chain) (l : Live) (old new : 
   put_is acts end meets n = notices_others link o own.top.0 k.tftp.0 p by rec acts end ns n (sends acts meets) ∙ ap (λ z. acts_records link z acts) (sym called.number)
 
   -- it ended with this cause, and its objects have this body to hand out
-  over_by : (acts : Acts) (c : Cause) (body : Option (List ℕ)) → Meets (transfer_of l) l.since (k.entries ++ entry call acts ∷ []) → end_of (file (got (k.entries ++ entry call acts ∷ []))) acts ≡ Some c →
+  over_by : (acts : Acts) (c : Cause) (body : Option (List ℕ)) → Meets (transfer_of l) l.since (k.entries ++ entry call acts ∷ []) → end_with_body (file (got (k.entries ++ entry call acts ∷ []))) acts ≡ Some c →
       CallNotices own.top.0 k.tftp.0 p by rec acts (Some c) ns → HasHandedOut (own_graph own new) own.top.0 k.tftp.0 body → (is_ok_cause c ≡ true → body ≡ Some (file (got (k.entries ++ entry call acts ∷ [])))) →
       Did o l (arrival_of call) link new ns
   over_by acts c body meets ends n has whole =
@@ -154,7 +154,7 @@ module _ (who : Speaker) (kind : ChainKind) (own : Chain) (l : Live) (old new : 
       let n = call_so own.top.0 k.tftp.0 p by rec acts ns same in
       let body = body_now (transfer_of l) l.since k.entries call acts k.downloads.meets meets in
       let whole = file (got (k.entries ++ entry call acts ∷ [])) in
-      let ends : end_of whole acts ≡ None = end_within whole acts (subst (λ b. length b ≤ 268435456) body fits) ∙ over in
+      let ends : end_with_body whole acts ≡ None = end_within whole acts (subst (λ b. length b ≤ 268435456) body fits) ∙ over in
       let put = put_is acts acts.over meets n in
       let lack = notices_lack link o own.top.0 k.tftp.0 p by rec acts acts.over ns n (sends acts meets) in
       let downloads' = subst (λ z. Downloads (own_graph own new) own.top.0 k.tftp.0 (transfer_of l) l.since (k.entries ++ entry call acts ∷ []) z) body downloads in
@@ -186,12 +186,12 @@ module _ (who : Speaker) (kind : ChainKind) (own : Chain) (l : Live) (old new : 
       let n = subst (λ z. CallNotices own.top.0 k.tftp.0 p by rec acts z ns) over (call_so own.top.0 k.tftp.0 p by rec acts ns same) in
       let body = body_now (transfer_of l) l.since k.entries call acts k.downloads.meets meets in
       let whole = file (got (k.entries ++ entry call acts ∷ [])) in
-      let ends : end_of whole acts ≡ Some c = end_within whole acts (subst (λ b. length b ≤ 268435456) body fits) ∙ over in
+      let ends : end_with_body whole acts ≡ Some c = end_within whole acts (subst (λ b. length b ≤ 268435456) body fits) ∙ over in
       over_by acts c (body_at_end c whole) meets ends n (subst (λ z. HasHandedOut (own_graph own new) own.top.0 k.tftp.0 (body_at_end c z)) body has) (whole_at_end c whole)
   file_did (is_too_large acts meets long same has) =
       let n = large_so own.top.0 k.tftp.0 p by rec acts ns same in
       let body = body_now (transfer_of l) l.since k.entries call acts k.downloads.meets meets in
       let whole = file (got (k.entries ++ entry call acts ∷ [])) in
-      let ends : end_of whole acts ≡ Some body_too_large = end_beyond whole acts (subst (λ b. 268435456 < length b) body long) in
+      let ends : end_with_body whole acts ≡ Some body_too_large = end_beyond whole acts (subst (λ b. 268435456 < length b) body long) in
       over_by acts body_too_large None meets ends n has (λ ok. absurd (let no : false ≡ true = ok in cc))
   file_did (call_fails memory) = fails memory

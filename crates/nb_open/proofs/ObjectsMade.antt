@@ -47,7 +47,7 @@ use Rattle.nb_open.specs.Begins.{AwaitsFor, IsLatest, MakesObjects, waiting_piec
 use Rattle.nb_open.specs.Making.{IsFetchOf, MakesChain, MakesDrive, MakesObjectsOf, MakesWeb, making_drive_notices, making_notices, making_web_notices}
 use Rattle.nb_open.specs.Objects.{objects_ids}
 use Rattle.nb_open.specs.Open.{drive_pieces, objects_pieces, pieces_below, pieces_of, web_pieces}
-use Rattle.nb_open.specs.Opening.{chain_kind, is_drive, is_joined, is_web, kind_by}
+use Rattle.nb_open.specs.Opening.{chain_kind, is_drive_opening, is_joined, is_web, kind_by}
 use Rattle.nb_open.proofs.Callings.{each_append, events_told}
 use Rattle.nb_open.proofs.Endings.{last_object, lowest_is, serials_are}
 use Rattle.nb_open.proofs.Newest.{drive_run, lower_events, making_drive_are, making_drive_events, making_web_are, making_web_events, run_is, web_run}
@@ -209,7 +209,7 @@ module _ (a : Opening) (waits : Option Chain) (old new : Objects Obj) (m n : Hea
       let lower : List GraphObject = record { serial = c.session.0; kind = 8 } ∷ record { serial = c.conn.0; kind = 3 } ∷ [] in
       ap (λ (x : ObjId). record { serial = x.0; kind = 9 } ∷ lower) top ∙ ap (λ z. (record { serial = w.top.0; kind = 9 } ∷ pieces_below z) ++ lower) (sym awaits.alone)
 
-  drive_made : (port : ℕ) (own : Ip4) (c : DriveChain) (a : Opening) → is_drive a ≡ true → MakesDrive waits c old new m n → MadeFor a waits (objects.Drive port own c) old new m n
+  drive_made : (port : ℕ) (own : Ip4) (c : DriveChain) (a : Opening) → is_drive_opening a ≡ true → MakesDrive waits c old new m n → MadeFor a waits (objects.Drive port own c) old new m n
   drive_made port own c (File a) is made = absurd (cc)
   drive_made port own c (Web a) is made = absurd (cc)
   drive_made port own c (Drive a) is made =

@@ -35,7 +35,7 @@ use Rattle.nb_open.specs.declared.open.Open.{Open}
 use Rattle.nb_open.specs.declared.opening.Opening.{Opening}
 use Rattle.nb_open.specs.Making.{AsksObjects, StartsOpen, host_length}
 use Rattle.nb_open.specs.Objects.{AreObjectsChained, AreObjectsOpen, AreObjectsReady, AreObjectsStill, ClosesObjects, objects_ids}
-use Rattle.nb_open.specs.Open.{IsOpenOf, IsSpeakerOf, kin_of}
+use Rattle.nb_open.specs.Open.{IsOpenOf, IsSpeakerOf, kin_of_open}
 use Rattle.nb_open.specs.Opening.{CanOpen, chain_kind, kind_by, live_by, server_by, speaker_for}
 use Rattle.nb_open.specs.Settling.{LetsObjectsGo, MaySettle, SettlesOpen, has_come_to_end, told_so_far, stays_open, is_turned_back}
 use Rattle.nb_open.proofs.AskingFirst.{Sets, SetsOrFails, asks_kind, called_by, chain_begins, runs_short, sets}
@@ -192,7 +192,7 @@ module _ (a : Opening) (now : ℕ) (link : Client) (o : Open) (old mid new : Obj
               first = (t.lost lacks).0;
               silent = both_silent link o.speaker ns more (t.lost lacks).1 silent;
               call = calls_open o link None None old new (told_so_far before) (told_so_far last) all refl (order_more (last_object o.objects) None ns more (says.order (not_short None has) noded t.up) end.left.order) gives;
-              close = subst (λ z. first_close_of (own_serials (kin_of o)) (told_records link o.speaker all) ≡ Some z) is (closes_open o link None None old new (told_so_far before) (told_so_far last) all refl (Some e.cause) gives first);
+              close = subst (λ z. first_close_of (own_serials (kin_of_open o)) (told_records link o.speaker all) ≡ Some z) is (closes_open o link None None old new (told_so_far before) (told_so_far last) all refl (Some e.cause) gives first);
               gone = subst (λ z. AreGone z (run_state new.book [])) (sym (serials_are o)) released.gone;
             },
           );

@@ -43,7 +43,7 @@ use Rattle.nb_open.specs.declared.open.Open.{Open}
 use Rattle.nb_open.specs.Begins.{AwaitsFor}
 use Rattle.nb_open.specs.Ends.{MayWaitBeside, ShutsOr, ShutsWith, WaitsApart, closed_open}
 use Rattle.nb_open.specs.Objects.{AreObjectsOpen, AreObjectsReleased, objects_ids}
-use Rattle.nb_open.specs.Open.{IsOpenOf, IsUnderWay, kin_of, kind_for, pieces_of}
+use Rattle.nb_open.specs.Open.{IsOpenOf, IsUnderWay, kin_of_open, kind_for, pieces_of}
 use Rattle.nb_open.specs.Settling.{told_so_far}
 use Rattle.nb_open.proofs.Callings.{AreInOrder, above_order, call_on, order_more, web_order}
 use Rattle.nb_open.proofs.Closing.{BeginsByClose, first_record, others_of}
@@ -88,8 +88,8 @@ shuts_alone kind o cause link old new m n s ns k spelled =
       keeps = k.keeps;
       its_end = λ i. end_among_last i link o.speaker ns cause;
       closes_first = (begins.0, begins.1, ap (told_records link o.speaker) (append_none ns) ∙ begins.2);
-      call = subst (λ z. IsCallOn o.speaker.number z (lowest_of (own_serials (kin_of o))) None records (run_state old.book []) (run_state new.book [])) (append_none (own_serials (kin_of o)))
-          (subst (λ z. IsCallOn o.speaker.number (own_serials (kin_of o)) z None records (run_state old.book []) (run_state new.book [])) (sym (lowest_is o))
+      call = subst (λ z. IsCallOn o.speaker.number z (lowest_of (own_serials (kin_of_open o))) None records (run_state old.book []) (run_state new.book [])) (append_none (own_serials (kin_of_open o)))
+          (subst (λ z. IsCallOn o.speaker.number (own_serials (kin_of_open o)) z None records (run_state old.book []) (run_state new.book [])) (sym (lowest_is o))
           (subst (λ z. IsCallOn o.speaker.number z (last_object o.objects) None records (run_state old.book []) (run_state new.book [])) (sym (serials_are o)) call));
       close = closes_open o link None None old new m n ns refl (Some cause) k.gives k.closes;
       gone = λ x e. k.released.gone x (subst (λ z. is_one_of z x ≡ true) ids_are e);
@@ -209,7 +209,7 @@ module _ (who : Speaker) (kind own_kind : ChainKind) (w own : Chain) (cause : Ca
       call_on link who all_ids (last_serial own) None None (run_state old.book []) (run_state new.book []) ns refl (above_order (last_serial own) ns k.shape)
       (record { events = k.gives.events; are = k.gives.are; run = k.gives.run; within = k.gives.within }) refl in
       let waiting : serials (pieces_of kind w) ≡ chain_ids w = ap (λ z. w.top.0 ∷ z) (serials_below w.below) in
-      let its : own_serials (kin_of beside) ≡ chain_ids own = serials_are beside in
+      let its : own_serials (kin_of_open beside) ≡ chain_ids own = serials_are beside in
       let one : length (chain_ids w) ≡ 1 = ap (λ z. length (w.top.0 ∷ below_ids z)) awaits.alone in
       let closes : first_close_of (chain_ids own) records ≡ Some cause =
       first_after link who (chain_ids own) w.top.0 cause rest apart ∙ first_own link who (chain_ids own) own.top.0 cause own.below let_go (top_in own) in
@@ -219,7 +219,7 @@ module _ (who : Speaker) (kind own_kind : ChainKind) (w own : Chain) (cause : Ca
         keeps = λ l is. silent_keeps link who own old l cause ns k.shape is.under_way;
         its_end = λ i. end_among_last i link who ns cause;
         closes_first = (port_at w.top.0 0, others_of records, refl);
-        call = subst (λ z. IsCallOn who.number z (lowest_of (own_serials (kin_of beside))) None records (run_state old.book []) (run_state new.book [])) (ap (λ z. z ++ chain_ids w) (sym its) ∙ ap (λ z. own_serials (kin_of beside) ++ z) (sym waiting))
+        call = subst (λ z. IsCallOn who.number z (lowest_of (own_serials (kin_of_open beside))) None records (run_state old.book []) (run_state new.book [])) (ap (λ z. z ++ chain_ids w) (sym its) ∙ ap (λ z. own_serials (kin_of_open beside) ++ z) (sym waiting))
             (subst (λ z. IsCallOn who.number all_ids z None records (run_state old.book []) (run_state new.book [])) (sym (lowest_is beside)) call);
         close = close_of_objects beside records (Some cause) closes;
         gone = k.gone;

@@ -9,7 +9,7 @@ use Rattle.nb_graph.specs.Trace.{Said}
 use Rattle.nb_disk.specs.Histories.{DiskCall, DiskReading, SessionNumbers, nothing_read, after_call, at_work, capacity_read, reading}
 use Rattle.nb_disk.specs.DiskAnswers.{disk_answer}
 use Rattle.nb_drivechains.specs.declared.drive_answer.DriveAnswer.{DriveAnswer}
-use Rattle.nb_drivenodes.specs.UnitAnswers.{answered_by, answered_so}
+use Rattle.nb_drivenodes.specs.UnitAnswers.{unit_answered_by, answered_so}
 use Rattle.nb_drivenodes.specs.UnitTalks.{answered_says, blocks_says}
 use Rattle.nb_drivetalks.specs.Comings.{IsPart, units_say}
 use Rattle.nb_sans.specs.Sessions.{over_from}
@@ -91,7 +91,7 @@ module _ (rec chap : ℕ) (o : SessionNumbers) where
       let same : reading o (before ++ call ∷ []) ≡ q = reading_more o before call in
       let all : (before ++ call ∷ []) ++ calls ≡ before ++ (call ∷ calls) = append_assoc before (call ∷ []) calls in
       let later = units_say rec chap o (before ++ call ∷ []) calls in
-      let told = answered_by o before call in
+      let told = unit_answered_by o before call in
       let answer : told ≡ answer_by r q =
       ap (λ b. answered_so b (is_some (at_work r)) (is_some (at_work (reading o (before ++ call ∷ [])))) (capacity_read (reading o (before ++ call ∷ [])))) (ap is_some over)
       ∙ ap (λ (z : DiskReading). answered_so false (is_some (at_work r)) (is_some (at_work z)) (capacity_read z)) same in

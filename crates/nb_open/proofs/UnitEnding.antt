@@ -10,8 +10,8 @@ use Rattle.nb_disk.specs.Histories.{DiskCall, DiskReading, SessionNumbers, after
 use Rattle.nb_disk.specs.DiskAnswers.{disk_answer}
 use Rattle.nb_disk.specs.DiskStands.{is_out}
 use Rattle.nb_drivechains.specs.declared.drive_answer.DriveAnswer.{DriveAnswer}
-use Rattle.nb_drivechains.specs.DriveCalls.{answer_in}
-use Rattle.nb_drivenodes.specs.UnitAnswers.{answered_by, answered_so}
+use Rattle.nb_drivechains.specs.DriveCalls.{drive_answer_in}
+use Rattle.nb_drivenodes.specs.UnitAnswers.{unit_answered_by, answered_so}
 use Rattle.nb_drivenodes.specs.UnitTalks.{answered_says, blocks_says}
 use Rattle.nb_drivetalks.specs.Comings.{IsPart, unit_says, units_say}
 use Rattle.nb_drivetalks.proofs.Handing.{units_more}
@@ -121,7 +121,7 @@ ends_at o r (call ∷ calls) x last over = by (ends_at o (after_call o r call) c
 
 answers_both : (ms more : List Said) → answer_among (ms ++ more) ≡ option_or (answer_among ms) (answer_among more)
 answers_both [] more = refl
-answers_both (m ∷ ms) more = by (answer_in m.tag m.a m.b) (answers_both ms more)
+answers_both (m ∷ ms) more = by (drive_answer_in m.tag m.a m.b) (answers_both ms more)
   where
     by : (z : Option DriveAnswer) → answer_among (ms ++ more) ≡ option_or (answer_among ms) (answer_among more) → option_or z (answer_among (ms ++ more)) ≡ option_or (option_or z (answer_among ms)) (answer_among more)
     by None e = e
@@ -163,7 +163,7 @@ module _ (rec chap : ℕ) (o : SessionNumbers) (before first : List DiskCall) (l
   all_are = ap (reading o) (sym (append_assoc before first (last ∷ []))) ∙ reading_more o (before ++ first) last
 
   -- it answers nothing
-  no_answer_by : answered_by o (before ++ first) last ≡ None
+  no_answer_by : unit_answered_by o (before ++ first) last ≡ None
   no_answer_by = ap (λ (z : Option Cause). answered_so (is_some z) (is_some (at_work r)) (is_some (at_work (reading o ((before ++ first) ++ last ∷ [])))) (capacity_read (reading o ((before ++ first) ++ last ∷ [])))) over
 
   says_last : unit_says rec chap o (before ++ first) last ≡ blocks_says rec given ++ []

@@ -25,7 +25,7 @@ use Rattle.nb_machine.specs.Connections.{Connection, KeepsAt, PutsAt, came_on, c
 use Rattle.nb_machine.specs.Kinds.{Keeps, KeepsBy, granted_of, resolved_of}
 use Rattle.nb_machine.specs.Lives.{Exchange, Live, OpenInput, exchange, http}
 use Rattle.nb_machine.specs.Sendings.{advance_records, has_route}
-use Rattle.nb_machine.specs.Transfers.{earlier, end_records}
+use Rattle.nb_machine.specs.Transfers.{earlier_end, end_records}
 use Rattle.nb_machine.specs.Webs.{request_at, web_talking}
 use Rattle.nb_chains.specs.Chains.{AreChained}
 use Rattle.nb_teller.specs.declared.speaker.Speaker.{Speaker}
@@ -116,8 +116,8 @@ module _ (who : Speaker) (port : ℕ) (own : Ip4) (c : WebChain) (l : Live) (old
     ends_by : (end : Option Cause) → talk_end conn link put ≡ end → put_by o link ns ++ end_records l.number end ≡ put_records conn link put
     ends_by end is = ap (λ z. z ++ end_records l.number end) k.records ∙ ap (λ z. (advance_records l.number put.advance ++ segment_records conn link put.sends) ++ end_records l.number z) (sym is)
 
-    end_is : (over : Option Cause) (lost : Bool) → put.over ≡ over → loses_way conn link put.sends ≡ lost → talk_end conn link put ≡ earlier over (cond lost (Some (no_route l.server)) None)
-    end_is over lost e g = ap (λ z. earlier z (cond (loses_way conn link put.sends) (Some (no_route l.server)) None)) e ∙ ap (λ z. earlier over (cond z (Some (no_route l.server)) None)) g
+    end_is : (over : Option Cause) (lost : Bool) → put.over ≡ over → loses_way conn link put.sends ≡ lost → talk_end conn link put ≡ earlier_end over (cond lost (Some (no_route l.server)) None)
+    end_is over lost e g = ap (λ z. earlier_end z (cond (loses_way conn link put.sends) (Some (no_route l.server)) None)) e ∙ ap (λ z. earlier_end over (cond z (Some (no_route l.server)) None)) g
 
     called_still : (outs : List Out) → IsSpeakerOf o (with_exchange l came link outs)
     called_still outs = let called = k.lives.called in record { number = called.number; server = called.server; own = called.own; device = called.device; kind = called.kind; carrier = called.carrier; asks = called.asks }

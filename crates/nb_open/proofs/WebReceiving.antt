@@ -46,7 +46,7 @@ use Rattle.nb_webchains.specs.declared.web_chain.WebChain.{WebChain}
 use Rattle.nb_webchains.specs.WebCalls.{DoesWeb, receives_web}
 use Rattle.nb_webchains.specs.WebChains.{web_ids}
 use Rattle.nb_webchains.proofs.Three.{fetch_in}
-use Rattle.nb_webtalks.specs.Comings.{HasBrought, SegmentComes, response_end, segment_comes_so, segment_lacks_memory, segment_says, sends_say, with_segment}
+use Rattle.nb_webtalks.specs.Comings.{HasBrought, SegmentComes, response_end, segment_comes_so, segment_lacks_memory, segment_says, sends_say, calls_with_segment}
 use Rattle.nb_webtalks.specs.TalkStands.{StandsForTalk}
 use Rattle.nb_webtalks.specs.Tellings.{messages_of}
 use Rattle.nb_webtalks.proofs.Called.{segments}
@@ -73,7 +73,7 @@ says_deliver_none : (a : ConnAsk) (calls : List TcpCall) (m : Incoming) (now : �
 says_deliver_none a calls m now =
     let place = place_says m.rec (web_put a.isn calls m now).advance in
     let called = calls_for a.isn (conn_phase a.isn calls) m.segment in
-    let closing = closes_by (response_end a calls m now) (segment_end a.isn (conn_phase a.isn calls) m) a.isn (conn_phase a.isn (with_segment calls m now)) in
+    let closing = closes_by (response_end a calls m now) (segment_end a.isn (conn_phase a.isn calls) m) a.isn (conn_phase a.isn (calls_with_segment calls m now)) in
     each_append DeliversNone place (sends_say (link_of a) m.rec called ++ sends_say (link_of a) 0 closing) (place_delivers_none m.rec (web_put a.isn calls m now).advance)
     (each_append DeliversNone (sends_say (link_of a) m.rec called) (sends_say (link_of a) 0 closing) (sends_deliver_none (link_of a) m.rec called) (sends_deliver_none (link_of a) 0 closing))
 
@@ -99,7 +99,7 @@ module _ (who : Speaker) (port : ℕ) (own : Ip4) (c : WebChain) (l : Live) (old
   put = web_put isn talk.calls arr now
 
   abbrev response : Response
-  response = response_come isn (with_segment talk.calls arr now)
+  response = response_come isn (calls_with_segment talk.calls arr now)
 
   talks : IsTalkingWeb isn own c old l
   talks = subst (λ z. IsWebUnderWay z own c old l) of is.under_way
@@ -119,7 +119,7 @@ module _ (who : Speaker) (port : ℕ) (own : Ip4) (c : WebChain) (l : Live) (old
       ap (λ z. web_put isn z arr now) (says_once (request_at l.target) isn l.since came talks.asked)
       ∙ sym (web_puts (request_at l.target) isn l.since came arr now (segment_put (web_at l.target) isn talk arr now) talks.asked refl)
 
-  calls_then : (outs : List Out) → (talk_of (web_talking l.target) conn (l.exchanges ++ exchange (tcp_segment rec g now) link outs ∷ [])).calls ≡ with_segment talk.calls arr now
+  calls_then : (outs : List Out) → (talk_of (web_talking l.target) conn (l.exchanges ++ exchange (tcp_segment rec g now) link outs ∷ [])).calls ≡ calls_with_segment talk.calls arr now
   calls_then outs = calls_more isn l (exchange (tcp_segment rec g now) link outs) (by_segment arr now) talks.asked refl
 
   -- what the Fetch has brought is the response's

@@ -32,7 +32,7 @@ use Rattle.nb_teller.specs.declared.speaker.Carrier.TheVariants.{Tcp}
 use Rattle.nb_teller.specs.declared.speaker.Speaker.{Speaker}
 use Rattle.nb_teller.specs.Speakers.{carrier_number, datagram_of}
 use Rattle.nb_teller.specs.Tellings.{try_by}
-use Rattle.nb_webtalks.specs.Comings.{response_end, segment_says, sends_say, with_segment}
+use Rattle.nb_webtalks.specs.Comings.{response_end, segment_says, sends_say, calls_with_segment}
 use Rattle.nb_open.proofs.WebPuts.{one_lacks, one_segment, said_lacks, said_records}
 
 -- HOW MANY ARE SENT
@@ -192,10 +192,10 @@ module _ (net : Client) (who : Speaker) (c : Connection) (number : who.number â‰
     by_segment = calls_for a.isn (conn_phase a.isn calls) m.segment
 
     abbrev by_end : Sends
-    by_end = closes_by (response_end a calls m now) (segment_end a.isn (conn_phase a.isn calls) m) a.isn (conn_phase a.isn (with_segment calls m now))
+    by_end = closes_by (response_end a calls m now) (segment_end a.isn (conn_phase a.isn calls) m) a.isn (conn_phase a.isn (calls_with_segment calls m now))
 
     few_end : AreFew by_end
-    few_end = few_closes (response_end a calls m now) (segment_end a.isn (conn_phase a.isn calls) m) a.isn (conn_phase a.isn (with_segment calls m now))
+    few_end = few_closes (response_end a calls m now) (segment_end a.isn (conn_phase a.isn calls) m) a.isn (conn_phase a.isn (calls_with_segment calls m now))
 
     few_segment : AreFew by_segment
     few_segment = few_calls a.isn (conn_phase a.isn calls) m.segment

@@ -27,7 +27,7 @@ use Rattle.nb_open.specs.declared.opening.Opening.{Opening}
 use Rattle.nb_open.specs.declared.beginning.Begun.{Begun}
 use Rattle.nb_open.specs.Opening.{chain_kind, kind_by, live_by, server_by, speaker_for}
 use Rattle.nb_open.specs.Objects.{IsAskedFrom, objects_ids}
-use Rattle.nb_open.specs.Open.{IsOpenOf, kin_of, objects_pieces, pieces_of}
+use Rattle.nb_open.specs.Open.{IsOpenOf, kin_of_open, objects_pieces, pieces_of}
 
 -- what waits for an open of this kind, if anything does, was made for it
 abbrev pub AwaitsFor : ChainKind → Option Chain → Objects Obj → Type 0
@@ -51,23 +51,23 @@ pub record MakesObjects (first : List GraphObject) (kind : ChainKind) (number : 
   pub run : GraphRunOf (run_state old.book []) events mid
   pub pieces : first ++ objects_pieces o.objects ≡ waiting_pieces kind waits ++ pieces_made events
   pub kinds_are : kinds (objects_pieces o.objects) ≡ objects_for number
-  pub joined : AreJoined mid (own_serials (kin_of o))
-  pub newest : IsLatest waits old → IsNewest mid (lowest_of (own_serials (kin_of o)))
+  pub joined : AreJoined mid (own_serials (kin_of_open o))
+  pub newest : IsLatest waits old → IsNewest mid (lowest_of (own_serials (kin_of_open o)))
 
 -- The user asks, and the first message leaves.
 pub record SetsOut (a : Opening) (number now : ℕ) (link : Client) (o : Open) (mid : GraphState) (new : Objects Obj) (records : List Out) : Type 0 where
   pub first : first_records (kind_by a) (live_by a number now) link ≡ Some (without_graph records)
   pub lives : IsOpenOf new o (live_by a number now)
-  pub call : CallsOpen (kin_of o) None records mid (run_state new.book [])
-  pub no_close : first_close_of (own_serials (kin_of o)) records ≡ None
+  pub call : CallsOpen (kin_of_open o) None records mid (run_state new.book [])
+  pub no_close : first_close_of (own_serials (kin_of_open o)) records ≡ None
 
 -- There is no way to its server: the user closes it, and its objects are let go.
 pub record TurnsBackAt (a : Opening) (number now : ℕ) (link : Client) (o : Open) (mid : GraphState) (new : Objects Obj) (records : List Out) : Type 0 where
   pub first : first_records (kind_by a) (live_by a number now) link ≡ None
   pub silent : without_graph records ≡ []
-  pub call : CallsOpen (kin_of o) None records mid (run_state new.book [])
-  pub close : first_close_of (own_serials (kin_of o)) records ≡ Some (no_route (server_by a))
-  pub gone : AreGone (own_serials (kin_of o)) (run_state new.book [])
+  pub call : CallsOpen (kin_of_open o) None records mid (run_state new.book [])
+  pub close : first_close_of (own_serials (kin_of_open o)) records ≡ Some (no_route (server_by a))
+  pub gone : AreGone (own_serials (kin_of_open o)) (run_state new.book [])
 
 abbrev pub SetsOutOr : Option Cause → Opening → ℕ → ℕ → Client → Open → GraphState → Objects Obj → List Out → Type 0
 SetsOutOr None a number now link o mid new records = SetsOut a number now link o mid new records

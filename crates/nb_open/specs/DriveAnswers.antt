@@ -134,6 +134,6 @@ AnswersLast (objects.Chain kind chain) came l after answer blocks = Unit {0}
 AnswersLast (objects.Web port own chain) came l after answer blocks = Unit {0}
 AnswersLast (objects.Drive port own chain) came l after answer blocks = AnswersLastTo came l after answer blocks
 
-abbrev pub AnswersBy : Option Ended → OpenObjects → OpenInput → Live → Live → Option Told → List ℕ → Type 0
-AnswersBy None os came l after answer blocks = AnswersFor os came l after answer blocks
-AnswersBy (Some e) os came l after answer blocks = AnswersLast os came l after answer blocks
+abbrev pub AnswersOrEnds : Option Ended → OpenObjects → OpenInput → Live → Live → Option Told → List ℕ → Type 0
+AnswersOrEnds None os came l after answer blocks = AnswersFor os came l after answer blocks
+AnswersOrEnds (Some e) os came l after answer blocks = AnswersLast os came l after answer blocks

@@ -8,8 +8,8 @@ use Rattle.nb_drivenodes.specs.declared.drive_ask.DriveNames.{DriveNames}
 use Rattle.nb_drivenodes.specs.DriveAsks.{name_list}
 
 -- the length of each fits into two bytes
-abbrev pub HasShortNames : DriveNames → Type 0
-HasShortNames n = AllByRecursion (λ (text : List ℕ). length text ≤ 65535) (name_list n)
+abbrev pub HasShortDriveNames : DriveNames → Type 0
+HasShortDriveNames n = AllByRecursion (λ (text : List ℕ). length text ≤ 65535) (name_list n)
 
 -- a text after its length
 abbrev pub text_bytes : List ℕ → List ℕ

@@ -31,7 +31,7 @@ use Rattle.nb_drivechains.specs.DriveChains.{three_of}
 use Rattle.nb_open.specs.declared.objects.OpenObjects.{OpenObjects}
 use Rattle.nb_open.specs.declared.objects.OpenObjects.TheVariants as objects
 use Rattle.nb_open.specs.Objects.{AreObjectsReleased, objects_ids}
-use Rattle.nb_open.specs.Open.{IsOpenOf, kin_of, pieces_of}
+use Rattle.nb_open.specs.Open.{IsOpenOf, kin_of_open, pieces_of}
 use Rattle.nb_open.specs.Begins.{count_waiting, waiting_pieces}
 use Rattle.std.specs.List.{AllByRecursion}
 
@@ -48,8 +48,8 @@ pub record ClosesOpen (o : Open) (cause : Cause) (link : Client) (old new : Obje
   -- the first record is the graph's, of a port that is closed with this cause
   pub closes_first : (p : Port) × (rest : List Out) × (records ≡ graph (flat (Closed p cause)) ∷ rest)
   pub released : AreObjectsReleased o.objects old new
-  pub call : CallsOpen (kin_of o) None records (run_state old.book []) (run_state new.book [])
-  pub close : first_close_of (own_serials (kin_of o)) records ≡ Some cause
+  pub call : CallsOpen (kin_of_open o) None records (run_state old.book []) (run_state new.book [])
+  pub close : first_close_of (own_serials (kin_of_open o)) records ≡ Some cause
 
 abbrev pub chain_ids_of : Option Chain → List ℕ
 chain_ids_of None = []
@@ -84,8 +84,8 @@ pub record ShutsWith (kind : ChainKind) (o : Open) (waits : Option Chain) (cause
   pub its_end : (k : ℕ) → end_among k (without_graph records ++ (ended k cause ∷ [])) ≡ Some cause
   -- the first record is the graph's, of a port that is closed with this cause
   pub closes_first : (p : Port) × (rest : List Out) × (records ≡ graph (flat (Closed p cause)) ∷ rest)
-  pub call : ShutsOpen (kin_of o) (waiting_pieces kind waits) records (run_state old.book []) (run_state new.book [])
-  pub close : first_close_of (own_serials (kin_of o)) records ≡ Some cause
+  pub call : ShutsOpen (kin_of_open o) (waiting_pieces kind waits) records (run_state old.book []) (run_state new.book [])
+  pub close : first_close_of (own_serials (kin_of_open o)) records ≡ Some cause
   pub gone : (x : ℕ) → is_one_of (objects_ids o.objects ++ chain_ids_of waits) x ≡ true → object_lives new.book x ≡ false
   pub others : KeepsOthers (is_one_of (objects_ids o.objects ++ chain_ids_of waits)) old new
   pub number : length new.book.objects + (length (objects_ids o.objects) + count_waiting waits) ≡ length old.book.objects

@@ -16,12 +16,12 @@ use Rattle.nb_machine.specs.Takings.{end_among}
 use Rattle.nb_traced.specs.Outputs.{CallsOpen, own_serials}
 use Rattle.nb_traced.specs.Pieces.{first_close_of}
 use Rattle.nb_tcpseg.specs.SegmentText.{SegmentParts, IsLaidOut}
-use Rattle.nb_open.specs.DriveAnswers.{AnswersBy, found_bytes}
+use Rattle.nb_open.specs.DriveAnswers.{AnswersOrEnds, found_bytes}
 use Rattle.nb_open.specs.Objects.{AreObjectsReleased, AreObjectsStill}
 use Rattle.nb_teller.specs.Spelling.{Spelling}
 use Rattle.nb_open.specs.declared.open.Open.{Open}
 use Rattle.nb_open.specs.declared.ended.Ended.{Ended}
-use Rattle.nb_open.specs.Open.{IsOpenOf, kin_of}
+use Rattle.nb_open.specs.Open.{IsOpenOf, kin_of_open}
 use Rattle.nb_dhcpmsg.specs.Fields.{message_in}
 
 -- a message counts for the open: of its server, or for a lease of any host; from the port that its kind has
@@ -49,8 +49,8 @@ pub record ExchangesOn (o : Open) (l : Live) (came : OpenInput) (link : Client) 
   pub no_end : end_among l.number (without_graph records) ≡ None
   pub lives : IsOpenOf new o (with_exchange l came link (without_graph records))
   pub others : AreObjectsStill o.objects old new
-  pub call : CallsOpen (kin_of o) way records (run_state old.book []) (run_state new.book [])
-  pub no_close : first_close_of (own_serials (kin_of o)) records ≡ None
+  pub call : CallsOpen (kin_of_open o) way records (run_state old.book []) (run_state new.book [])
+  pub no_close : first_close_of (own_serials (kin_of_open o)) records ≡ None
 
 -- its records without those of the graph, with its ENDED
 abbrev pub last_put : Live → List Out → Cause → List Out
@@ -72,8 +72,8 @@ pub record ExchangesLast (o : Open) (l : Live) (came : OpenInput) (link : Client
   pub keeps : Keeps (with_exchange l came link (last_put l records e.cause))
   pub its_end : end_among l.number (last_put l records e.cause) ≡ Some e.cause
   pub released : AreObjectsReleased o.objects old new
-  pub call : CallsOpen (kin_of o) way records (run_state old.book []) (run_state new.book [])
-  pub close : first_close_of (own_serials (kin_of o)) records ≡ Some e.cause
+  pub call : CallsOpen (kin_of_open o) way records (run_state old.book []) (run_state new.book [])
+  pub close : first_close_of (own_serials (kin_of_open o)) records ≡ Some e.cause
   pub hands : is_ok_cause e.cause ≡ true → HandsOut o (with_exchange l came link (last_put l records e.cause)) e s
   pub message : IsLeaseMessage (found_bytes o.objects s.bytes)
 
@@ -86,4 +86,4 @@ pub record Exchanges (o : Open) (l : Live) (came : OpenInput) (link : Client) (w
   pub records : List Out
   pub text : s.text ≡ out_texts records
   pub does : ExchangesBy e o l came link way old new records s
-  pub answers : (any : Client) (put : List Out) → AnswersBy e o.objects came l (with_exchange l came any put) s.answer s.blocks
+  pub answers : (any : Client) (put : List Out) → AnswersOrEnds e o.objects came l (with_exchange l came any put) s.answer s.blocks

@@ -38,7 +38,7 @@ use Rattle.nb_webnodes.specs.WebAsks.{ask_parts, web_ask_in}
 use Rattle.nb_open.specs.declared.objects.OpenObjects.{OpenObjects}
 use Rattle.nb_open.specs.declared.objects.OpenObjects.TheVariants as objects
 use Rattle.nb_open.specs.Objects.{AreObjectsReleased, AreObjectsStill}
-use Rattle.nb_open.specs.Opening.{address_by, chain_kind, is_drive, is_joined, is_web, port_by}
+use Rattle.nb_open.specs.Opening.{address_by, chain_kind, is_drive_opening, is_joined, is_web, port_by}
 
 -- how many are made
 abbrev pub count_made : Option Chain → ChainKind → ℕ
@@ -124,7 +124,7 @@ MakesObjectsOf a waits (objects.Chain kind chain) old new before after =
 MakesObjectsOf a waits (objects.Web port own chain) old new before after =
     (is_web a ≡ true) × (port ≡ port_by a) × (own ≡ address_by a) × MakesWeb waits chain old new before after
 MakesObjectsOf a waits (objects.Drive port own chain) old new before after =
-    (is_drive a ≡ true) × (port ≡ port_by a) × (own ≡ address_by a) × MakesDrive waits chain old new before after
+    (is_drive_opening a ≡ true) × (port ≡ port_by a) × (own ≡ address_by a) × MakesDrive waits chain old new before after
 
 -- these bytes ask for what the open does
 abbrev pub IsAskOf : Opening → List ℕ → Type 0

@@ -22,14 +22,14 @@ use Rattle.nb_chains.specs.Calls.{ClosesChain, IsOpenChain, ReceivesChain, Relea
 use Rattle.nb_chains.specs.Chains.{AreChained, AreStillChained, IsReadyChain, IsShutChain, chain_ids, own_graph}
 use Rattle.nb_webchains.specs.declared.web_chain.WebChain.{WebChain}
 use Rattle.nb_webchains.specs.WebChains.{AreOfWeb, AreReleased, IsOpenWeb, IsReadyWeb, IsShutWeb, web_ids}
-use Rattle.nb_webchains.specs.WebCalls.{ClosesWeb, DoesWeb, ReleasesEach, brought, receives_web, ticks_web}
+use Rattle.nb_webchains.specs.WebCalls.{ClosesWeb, DoesWeb, ReleasesEach, file_brought, receives_web, ticks_web}
 use Rattle.nb_drivechains.specs.DriveCalls.{reads_drive}
 use Rattle.nb_drivechains.specs.DriveChains.{IsReadyDrive, drive_ids, three_of}
 use Rattle.nb_open.specs.declared.objects.OpenObjects.{OpenObjects}
 use Rattle.nb_open.specs.declared.objects.OpenObjects.TheVariants as objects
 use Rattle.nb_open.specs.declared.objects.Brought.{Brought}
 use Rattle.nb_open.specs.declared.opening.Opening.{Opening}
-use Rattle.nb_open.specs.Opening.{address_by, chain_kind, is_drive, is_joined, is_web, port_by}
+use Rattle.nb_open.specs.Opening.{address_by, chain_kind, is_drive_opening, is_joined, is_web, port_by}
 
 -- their serials, the top one first
 abbrev pub objects_ids : OpenObjects → List ℕ
@@ -70,7 +70,7 @@ IsAskedFrom a (objects.Drive port own chain) = own ≡ address_by a
 abbrev pub AreObjectsReady : Opening → OpenObjects → Objects Obj → Type 0
 AreObjectsReady a (objects.Chain kind chain) g = (is_joined a ≡ false) × (kind ≡ chain_kind a) × IsReadyChain kind chain g
 AreObjectsReady a (objects.Web port own chain) g = (is_web a ≡ true) × (port ≡ port_by a) × (own ≡ address_by a) × IsReadyWeb chain g
-AreObjectsReady a (objects.Drive port own chain) g = (is_drive a ≡ true) × (port ≡ port_by a) × (own ≡ address_by a) × IsReadyDrive chain g
+AreObjectsReady a (objects.Drive port own chain) g = (is_drive_opening a ≡ true) × (port ≡ port_by a) × (own ≡ address_by a) × IsReadyDrive chain g
 
 -- none of them lives any more
 abbrev pub AreObjectsReleased : OpenObjects → Objects Obj → Objects Obj → Type 0
@@ -119,7 +119,7 @@ pub record HandsFile (c : Chain) (body : Option (List ℕ)) (old : Objects Obj) 
 
 -- the file of an open by HTTP is handed out, or the URI that it is at instead, by what its Fetch has done
 pub record HandsWeb (c : WebChain) (b : Brought) (old : Objects Obj) : Type 0 where
-  pub body : AreOfWeb c old → (t : List (NodeEntry Obj Load)) → ObjectStands ObjStands old c.fetch.0 t → b.body ≡ brought t
+  pub body : AreOfWeb c old → (t : List (NodeEntry Obj Load)) → ObjectStands ObjStands old c.fetch.0 t → b.body ≡ file_brought t
   pub moved : AreOfWeb c old → (t : List (NodeEntry Obj Load)) → ObjectStands ObjStands old c.fetch.0 t
       → object_lives old.book c.fetch.0 ≡ true → b.moved ≡ moved_in t
 

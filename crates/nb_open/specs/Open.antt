@@ -190,5 +190,5 @@ objects_pieces (objects.Web port own chain) = web_pieces chain
 objects_pieces (objects.Drive port own chain) = drive_pieces chain
 
 -- the open by its objects
-abbrev pub kin_of : Open → Kin
-kin_of o = record { number = o.speaker.number; pieces = objects_pieces o.objects }
+abbrev pub kin_of_open : Open → Kin
+kin_of_open o = record { number = o.speaker.number; pieces = objects_pieces o.objects }

@@ -16,7 +16,7 @@ use Rattle.nb_chains.specs.declared.kind.ChainKind.TheVariants as chain
 use Rattle.nb_open.specs.declared.opening.Opening.{Opening}
 use Rattle.nb_open.specs.declared.opening.DriveOpening.{DriveOpening}
 use Rattle.nb_open.specs.declared.opening.WebOpening.{WebOpening}
-use Rattle.nb_open.specs.DriveBytes.{HasShortNames}
+use Rattle.nb_open.specs.DriveBytes.{HasShortDriveNames}
 use Rattle.nb_machine.specs.Webs.{request_at}
 use Rattle.nb_responses.specs.Requests.{request_text, IsSendable}
 use Rattle.nb_open.specs.declared.opening.Opening.TheVariants.{File, Web, Drive, Name, Lease, Echo}
@@ -119,17 +119,17 @@ is_web (Lease a) = false
 is_web (Echo a) = false
 
 -- a drive or not
-abbrev pub is_drive : Opening → Bool
-is_drive (File a) = false
-is_drive (Web a) = false
-is_drive (Drive a) = true
-is_drive (Name a) = false
-is_drive (Lease a) = false
-is_drive (Echo a) = false
+abbrev pub is_drive_opening : Opening → Bool
+is_drive_opening (File a) = false
+is_drive_opening (Web a) = false
+is_drive_opening (Drive a) = true
+is_drive_opening (Name a) = false
+is_drive_opening (Lease a) = false
+is_drive_opening (Echo a) = false
 
 -- on a connection or not
 abbrev pub is_joined : Opening → Bool
-is_joined a = is_web a || is_drive a
+is_joined a = is_web a || is_drive_opening a
 
 -- its request is that of its URL, which fits into an OPEN, and its host and path are visible bytes, so that this is one request
 pub record AsksItsUrl (a : WebOpening) : Type 0 where
@@ -141,7 +141,7 @@ pub record AsksItsUrl (a : WebOpening) : Type 0 where
 pub record NamesItsTarget (a : DriveOpening) : Type 0 where
   pub fits : length a.target.now ≤ 65535
   pub target : a.target.now ≡ a.ask.names.target.now ++ (0 ∷ a.ask.lun)
-  pub names : HasShortNames a.ask.names
+  pub names : HasShortDriveNames a.ask.names
   pub sendable : zero_name (info_of a.ask) ≡ None
 
 -- it may be opened: a path and a name are short, and have no byte that can't be asked for

@@ -4,7 +4,7 @@ ghost use Rattle.nb_chains.specs.Chains.{AreChained, AreStillChained, chain_ids}
 ghost use Rattle.nb_open.specs.Begins.{AwaitsFor, BeginsBeside, BeginsOpen};
 ghost use Rattle.nb_open.specs.Making.{AsksChain, AsksDrive, AsksObjects, AsksWeb, StartsOpen};
 ghost use Rattle.nb_open.specs.Objects.{AreObjectsChained, AreObjectsReady, AreObjectsStill};
-ghost use Rattle.nb_open.specs.Opening.{CanOpen, chain_kind, is_drive, is_joined, is_web, speaker_for};
+ghost use Rattle.nb_open.specs.Opening.{CanOpen, chain_kind, is_drive_opening, is_joined, is_web, speaker_for};
 ghost use Rattle.nb_open.specs.Settling.{told_so_far};
 ghost use Rattle.nb_drivechains.specs.DriveChains.{drive_ids};
 ghost use Rattle.nb_webchains.specs.WebChains.{web_ids};
@@ -239,7 +239,7 @@ impl Opening<'_> {
         now: u64,
         out: &mut Teller<'_>,
     ) -> Result<(), NoMemory>
-        requires drive { is_drive self.now ≡ true }
+        requires drive { is_drive_opening self.now ≡ true }
         requires can { CanOpen self.now }
         requires chained { AreChained graph.old (drive_ids chain) }
         ensures on { OnOk result (AreStillChained (drive_ids chain) graph.old graph.new) }

@@ -3,7 +3,7 @@
 ghost use Rattle.std.specs.Prelude.{ℕ, get_or, ◌≡◌, ◌≤◌, ◌<◌, ◌++◌, ◌^◌, length, IfOk, OnOk, Some};
 ghost use Rattle.nb_conns.specs.ConnAsks.{conn_ask_bytes, conn_ask_in};
 ghost use Rattle.nb_drivenodes.specs.DriveAsks.{ask_parts_of, drive_ask_in};
-ghost use Rattle.nb_open.specs.DriveBytes.{HasShortNames, drive_ask_bytes, text_bytes, word_bytes};
+ghost use Rattle.nb_open.specs.DriveBytes.{HasShortDriveNames, drive_ask_bytes, text_bytes, word_bytes};
 
 use nb_conns::ConnAsk;
 use nb_drivenodes::DriveAsk;
@@ -12,7 +12,7 @@ use std::alloc::Global;
 
 /// The bytes that ask for a drive: its connection, the unit, the random words and the names.
 pub(crate) fn drive_bytes(alloc: Global, ask: &DriveAsk<'_>) -> Result<Vec<u8>, NoMemory>
-    requires { HasShortNames ask.now.names }
+    requires { HasShortDriveNames ask.now.names }
     ensures readable { IfOk result (λ v. drive_ask_in v.items ≡ Some (ask_parts_of ask.now)) }
     ensures short { IfOk result (λ v. length v.items < 2 ^ 32) }
 {

@@ -28,7 +28,7 @@ use Rattle.nb_laws.specs.Events.{Event, puts}
 use Rattle.nb_laws.specs.Frames.{IsDue}
 use Rattle.nb_laws.specs.Histories.{client}
 use Rattle.nb_laws.specs.Lists as lists
-use Rattle.nb_laws.specs.Lists.{Hardware, hardware, time, made, blocks_where, file_blocks, opens_file, Opening, openings, open_has_ended, calls, Mark, tries, mark_of, marks, last_place}
+use Rattle.nb_laws.specs.Lists.{Hardware, hardware, time, made, blocks_where, file_blocks, opens_file, Opening, openings, open_has_ended, calls, Mark, tries, mark_of_call, marks, last_place}
 use Rattle.nb_laws.specs.Progress.{file_place, IsAdvanced}
 use Rattle.nb_laws.proofs.Asides.{aside_acts}
 use Rattle.nb_laws.proofs.Calls.{got_same}
@@ -45,7 +45,7 @@ use Rattle.nb_streams.specs.Trying.{tries_at}
 use Rattle.nb_laws.specs.Drives.{came_to_session, session_place_by, session_place}
 use Rattle.nb_laws.proofs.SessionOpenings.{no_session_of}
 use Rattle.nb_laws.specs.Webs.{opens_web, opens_session, opens_connection, brought_to, talk_by, response_by, stream_place_by, try_marks_of}
-use Rattle.nb_machine.specs.Transfers.{transfer_of, earlier, finds_none, end_records}
+use Rattle.nb_machine.specs.Transfers.{transfer_of, earlier_end, finds_none, end_records}
 use Rattle.nb_machine.specs.Takings.{end_among}
 use Rattle.nb_openlaws.specs.Standings.{streamed, streamed_marks, heard_call, heard_calls, heard_marks, moment_in, told_tries, IsKindBy, HasLogin, ComesToOwnPort, IsOngoing}
 use Rattle.nb_openlaws.specs.OpenEndings.{EndsBecause, by_itself, by_lost_way}
@@ -69,7 +69,7 @@ pub record ComeAs (kind : OpenKind) (es : List Event) (input : OpenInput) (l : L
   pub opening : openings l.number es ≡ opening_as kind l ∷ []
   pub lives : open_has_ended l.number es ≡ false
   pub received : calls l.number es ≡ heard_calls kind l.exchanges ++ heard_call kind input
-  pub tells : marks l.number es ≡ (tries 1 l.since ∷ heard_marks kind l.number l.exchanges) ++ map mark_of (heard_call kind input)
+  pub tells : marks l.number es ≡ (tries 1 l.since ∷ heard_marks kind l.number l.exchanges) ++ map mark_of_call (heard_call kind input)
   pub now : IsNow input (time es)
   pub due : IsDueBy input l.number es
   pub had_way : HadWay l.number es (opening_as kind l)
@@ -225,8 +225,8 @@ at_end kind es l x h call acts c =
       lives = left.over_is k ∙ c.come.lives;
       received = got_same k (es ++ told a) (h ++ entry call acts ∷ []) (left.calls_is k ∙ received_in kind es l x h call acts c);
       marked = λ none. left.marks_is k ∙ ap (λ z. marks k es ++ z) (own none)
-          ∙ ap (λ z. z ++ try_marks (moment call) acts.tried) (c.come.tells ∙ ap (λ z. (tries 1 l.since ∷ z) ++ map mark_of (heard_call kind x.came)) c.did.did.marks_are ∙ ap (λ z. (tries 1 l.since ∷ flat_map entry_marks h) ++ map mark_of z) c.did.heard)
-          ∙ append_assoc (tries 1 l.since ∷ flat_map entry_marks h) (mark_of call ∷ []) (try_marks (moment call) acts.tried)
+          ∙ ap (λ z. z ++ try_marks (moment call) acts.tried) (c.come.tells ∙ ap (λ z. (tries 1 l.since ∷ z) ++ map mark_of_call (heard_call kind x.came)) c.did.did.marks_are ∙ ap (λ z. (tries 1 l.since ∷ flat_map entry_marks h) ++ map mark_of_call z) c.did.heard)
+          ∙ append_assoc (tries 1 l.since ∷ flat_map entry_marks h) (mark_of_call call ∷ []) (try_marks (moment call) acts.tried)
           ∙ ap (λ z. tries 1 l.since ∷ z) (ap (λ z. flat_map entry_marks h ++ z) (sym (append-nil (entry_marks (entry call acts)))) ∙ sym (flat_map-append entry_marks h (entry call acts ∷ [])));
       at = sym (left.time_is ∙ now_of kind x.came call (time es) c.did.heard c.come.now ∙ c.did.at);
       had_way = way_stays k es (es ++ told a) (opening_as kind l) (grown es (told a)) c.come.had_way;
@@ -237,10 +237,10 @@ data EndsSo (acts : Acts) (link : Client) (server : ℕ) (cause : Cause) : Type 
   as_core : acts.over ≡ Some cause → EndsSo acts link server cause
   as_lost : acts.over ≡ None → finds_none link acts ≡ true → cause ≡ no_route server → EndsSo acts link server cause
 
-split_end : (acts : Acts) (link : Client) (server : ℕ) (cause : Cause) → earlier acts.over (cond (finds_none link acts) (Some (no_route server)) None) ≡ Some cause → EndsSo acts link server cause
+split_end : (acts : Acts) (link : Client) (server : ℕ) (cause : Cause) → earlier_end acts.over (cond (finds_none link acts) (Some (no_route server)) None) ≡ Some cause → EndsSo acts link server cause
 split_end acts link server cause e = by acts.over (finds_none link acts) refl refl e
   where
-    by : (over : Option Cause) (lost : Bool) → acts.over ≡ over → finds_none link acts ≡ lost → earlier over (cond lost (Some (no_route server)) None) ≡ Some cause → EndsSo acts link server cause
+    by : (over : Option Cause) (lost : Bool) → acts.over ≡ over → finds_none link acts ≡ lost → earlier_end over (cond lost (Some (no_route server)) None) ≡ Some cause → EndsSo acts link server cause
     by (Some c) lost is l e = as_core (is ∙ e)
     by None true is l e = as_lost is l (let same : no_route server ≡ cause = cc in sym same)
     by None false is l e = absurd (cc)
@@ -248,7 +248,7 @@ split_end acts link server cause e = by acts.over (finds_none link acts) refl re
 exchange_split : (kind : OpenKind) (l : Live) (link : Client) (h : List Entry) (call : Call) (acts : Acts) (cause : Cause) → Promised kind l (h ++ entry call acts ∷ []) → is_ended h ≡ false → exchange_end kind l link (h ++ entry call acts ∷ []) acts ≡ Some cause →
     EndsSo acts link l.server cause
 exchange_split tftp l link h call acts cause meets running e =
-    split_end acts link l.server cause (ap (λ b. earlier (cond b (Some too_large_image) acts.over) (cond (finds_none link acts) (Some (no_route l.server)) None)) (sym (within_limit l h (entry call acts) meets running)) ∙ e)
+    split_end acts link l.server cause (ap (λ b. earlier_end (cond b (Some too_large_image) acts.over) (cond (finds_none link acts) (Some (no_route l.server)) None)) (sym (within_limit l h (entry call acts) meets running)) ∙ e)
 exchange_split (http isn) l link h call acts cause meets running e = absurd meets
 exchange_split (iscsi isn i) l link h call acts cause meets running e = absurd meets
 exchange_split (dns id) l link h call acts cause meets running e = split_end acts link l.server cause e

@@ -15,7 +15,7 @@ use Rattle.nb_dhcp.specs.Acting.{to_servers}
 use Rattle.nb_dhcp.specs.Promises.{LeasePromises}
 use Rattle.nb_ping.specs.Pings.{echo_request}
 use Rattle.nb_nodes.specs.LookupExchanges.{LookupAsked}
-use Rattle.nb_tftp.specs.Blocks.{is_whole}
+use Rattle.nb_tftp.specs.Blocks.{is_whole_transfer}
 use Rattle.nb_tftp.specs.History.{Call, Entry, entry, got, is_ended}
 use Rattle.nb_tftp.specs.Sentences.{Meets, OkWhereWhole}
 use Rattle.nb_tftp.proofs.HistoryLemmas.{is_ended-append}
@@ -143,14 +143,14 @@ none_over (Some c) e = absurd (let no : true ≡ false = e in cc)
 last_goes : (ys : List Entry) (y : Entry) → is_ended (ys ++ y ∷ []) ≡ false → y.acts.over ≡ None
 last_goes ys y running = none_over y.acts.over (either_false (is_ended ys) (is_some y.acts.over) (sym (is_ended-append ys y) ∙ running)).1
 
-pub transfer_unwhole : (l : Live) (h : List Entry) → Meets (transfer_of l) l.since h → is_ended h ≡ false → is_whole (got h) ≡ false
+pub transfer_unwhole : (l : Live) (h : List Entry) → Meets (transfer_of l) l.since h → is_ended h ≡ false → is_whole_transfer (got h) ≡ false
 transfer_unwhole l h meets running = by (by_last h)
   where
-    by : (h ≡ []) ⊎ ((ys : List Entry) × (y : Entry) × (h ≡ ys ++ y ∷ [])) → is_whole (got h) ≡ false
-    by (inl e) = ap (λ (z : List Entry). is_whole (got z)) e
+    by : (h ≡ []) ⊎ ((ys : List Entry) × (y : Entry) × (h ≡ ys ++ y ∷ [])) → is_whole_transfer (got h) ≡ false
+    by (inl e) = ap (λ (z : List Entry). is_whole_transfer (got z)) e
     by (inr (ys, y, e)) =
         let none = last_goes ys y (ap is_ended (sym e) ∙ running) in
-        ap (λ (z : List Entry). is_whole (got z)) e
+        ap (λ (z : List Entry). is_whole_transfer (got z)) e
         ∙ sym (EachEntry-last OkWhereWhole [] ys y (subst (Meets (transfer_of l) l.since) e meets).whole)
         ∙ ap (λ (o : Option Cause). option_map_or (λ c. c.code == 0) o false) none
 

@@ -10,7 +10,7 @@ use Rattle.nb_terms.specs.declared.acts.SendTo.{SendTo}
 use Rattle.nb_terms.specs.declared.cause.Cause.{Cause}
 use Rattle.nb_defs.specs.Records.{ended}
 use Rattle.nb_stack.specs.Client.{Client}
-use Rattle.nb_dns.specs.Lookups.{Lookup, asks_by, asks_end as lookup_asks_end, asks_nothing as lookup_asks_nothing}
+use Rattle.nb_dns.specs.Lookups.{Lookup, asks_by, asks_lookup_end as lookup_asks_end, asks_lookup_nothing as lookup_asks_nothing}
 use Rattle.nb_dns.specs.LookupCalls.{LookupEntry, LookupCall, arrived, clocked, datagrams, said_by, EachLookupEntry}
 use Rattle.nb_dns.specs.LookupPromises.{LookupMeets, AsksAt, AsksInTurn}
 use Rattle.nb_dhcp.specs.declared.asker.Asker.{Asker}

@@ -20,7 +20,7 @@ use Rattle.nb_tftp.proofs.BlockLemmas.{either_way}
 use Rattle.nb_tftp.specs.Received.{received}
 use Rattle.nb_tftp.specs.History.{came}
 use Rattle.nb_machine.specs.Courses.{AsksBlock}
-use Rattle.nb_machine.specs.Drives.{first_block}
+use Rattle.nb_machine.specs.Drives.{first_block_read}
 use Rattle.nb_machine.specs.Lives.{OpenInput, message, tcp_segment, time as time_came, task, exchange, Live, continued}
 use Rattle.nb_machine.specs.CommandRecords.{reply_records}
 use Rattle.nb_machine.specs.Kinds.{takes_from, is_for, is_ping, is_reply_for, is_segment_for, reply_beside}
@@ -174,12 +174,12 @@ pub asks_agrees : (es : List Event) (s s' : State) (number : ℕ) (put : List Ou
 asks_agrees es s s' number put over q a =
     let own = back_of es q.before (q.l ∷ q.behind) (subst (AreLive es) q.parted a.each) in
     subst (AgreesState (es ++ told put)) (ap (with_live s) (sym (append_assoc q.before q.after q.behind)) ∙ sym q.leaves)
-    (one_told es s (task first_block s.now) q.before q.l q.behind put q.after over a q.parted (task_comes es first_block s.now q.l a.time own.0) q.takes)
+    (one_told es s (task first_block_read s.now) q.before q.l q.behind put q.after over a q.parted (task_comes es first_block_read s.now q.l a.time own.0) q.takes)
 
 pub asks_over : (es : List Event) (s s' : State) (number : ℕ) (put : List Out) (over : List Over) → AsksBlock s number put s' over → AgreesState es s → AreOver (es ++ told put) over
 asks_over es s s' number put over q a =
     let own = back_of es q.before (q.l ∷ q.behind) (subst (AreLive es) q.parted a.each) in
-    (all_taken s.devices (task first_block s.now) (q.l ∷ []) put q.after over q.takes es (task_comes es first_block s.now q.l a.time own.0, tt) (refl, tt)).ended
+    (all_taken s.devices (task first_block_read s.now) (q.l ∷ []) put q.after over q.takes es (task_comes es first_block_read s.now q.l a.time own.0, tt) (refl, tt)).ended
 
 reply_later : (bytes : List ℕ) → AreLater (reply_records bytes)
 reply_later [] = tt

@@ -22,15 +22,15 @@ use Rattle.nb_tftp.proofs.PlainLaws.{EachEntry-last}
 use Rattle.nb_tftp.proofs.TryLaws.{Sends, sends_none, sends_one, call_sends}
 use Rattle.nb_command.specs.SettingAddresses.{host}
 use Rattle.nb_nodes.specs.Exchanges.{Service}
-use Rattle.nb_machine.specs.Sendings.{has_route, send_records, sends_records, acts_records, advance_records, try_records, end_of, is_over_limit, too_large_image}
+use Rattle.nb_machine.specs.Sendings.{has_route, send_records, sends_records, acts_records, advance_records, try_records, end_with_body, is_over_limit, too_large_image}
 use Rattle.nb_machine.specs.Saying.{datagram_from}
 use Rattle.nb_machine.specs.CommandRecords.{no_route}
 use Rattle.nb_laws.specs.Agreement.{moment, try_marks, entry_marks, IsAside, AreAside}
-use Rattle.nb_laws.specs.Lists.{mark_of}
+use Rattle.nb_laws.specs.Lists.{mark_of_call}
 use Rattle.nb_laws.proofs.Asides.{aside_acts, own_send}
 use Rattle.nb_laws.proofs.Tellings.{same_number}
 use Rattle.nb_machine.specs.Lives.{OpenKind, tftp, OpenInput, message, time as time_came, close, Exchange, exchange}
-use Rattle.nb_machine.specs.Transfers.{arrival_of, finds_none, earlier, end_records, transfer_end, transfer_records, Exchanged, at_first, takes, closes}
+use Rattle.nb_machine.specs.Transfers.{arrival_of, finds_none, earlier_end, end_records, transfer_end, transfer_records, Exchanged, at_first, takes, closes}
 use Rattle.nb_machine.specs.Cores as cores
 use Rattle.nb_machine.specs.Cores.{core_end, core_records, CoreExchanged}
 use Rattle.nb_machine.specs.Takings.{end_told, end_among}
@@ -197,7 +197,7 @@ did_more : (kind : OpenKind) (k : ℕ) (xs : List Exchange) (h : List Entry) (x 
 did_more kind k xs h x e one d = record {
   calls_are = flat_map-append (λ (y : Exchange). heard_call kind y.came) xs (x ∷ []) ∙ ap (λ z. heard_calls kind xs ++ z) (append-nil (heard_call kind x.came) ∙ one.call_is)
       ∙ ap (λ z. z ++ e.call ∷ []) d.calls_are ∙ sym (map-append (λ (y : Entry). y.call) h (e ∷ []));
-  marks_are = flat_map-append (exchange_marks kind k) xs (x ∷ []) ∙ ap (λ z. heard_marks kind k xs ++ z) (append-nil (exchange_marks kind k x) ∙ ap (λ z. map mark_of z ++ told_tries k (moment_in x.came) x.put) one.call_is ∙ ap (λ z. mark_of e.call ∷ z) one.tries_are)
+  marks_are = flat_map-append (exchange_marks kind k) xs (x ∷ []) ∙ ap (λ z. heard_marks kind k xs ++ z) (append-nil (exchange_marks kind k x) ∙ ap (λ z. map mark_of_call z ++ told_tries k (moment_in x.came) x.put) one.call_is ∙ ap (λ z. mark_of_call e.call ∷ z) one.tries_are)
       ∙ ap (λ z. z ++ entry_marks e) d.marks_are ∙ ap (λ z. flat_map entry_marks h ++ z) (sym (append-nil (entry_marks e))) ∙ sym (flat_map-append entry_marks h (e ∷ []));
   running = is_ended-append h e ∙ ap (λ b. b || is_some e.acts.over) d.running ∙ one.no_end;
   places_are = fold-append (λ last (y : Exchange). told_places k last y.put) 0 xs (x ∷ []) ∙ one.place_is (exchange_places k xs) ∙ ap (unwrap_or e.acts.advance) d.places_are ∙ sym (last_advance-append h e);
@@ -216,15 +216,15 @@ pub record NoEnd (over : Option Cause) (lost : Bool) : Type 0 where
   pub none : over ≡ None
   pub routed : lost ≡ false
 
-pub no_end_of : (over : Option Cause) (lost : Bool) (cause : Cause) → earlier over (cond lost (Some cause) None) ≡ None → NoEnd over lost
+pub no_end_of : (over : Option Cause) (lost : Bool) (cause : Cause) → earlier_end over (cond lost (Some cause) None) ≡ None → NoEnd over lost
 no_end_of None false cause e = record { none = refl; routed = refl }
 no_end_of None true cause e = absurd (cc)
 no_end_of (Some c) lost cause e = absurd (cc)
 
-within_limit : (body : List ℕ) (acts : Acts) (lost : Bool) (cause : Cause) → earlier (end_of body acts) (cond lost (Some cause) None) ≡ None → NoEnd acts.over lost
+within_limit : (body : List ℕ) (acts : Acts) (lost : Bool) (cause : Cause) → earlier_end (end_with_body body acts) (cond lost (Some cause) None) ≡ None → NoEnd acts.over lost
 within_limit body acts lost cause e = by (is_over_limit body) e
   where
-    by : (b : Bool) → earlier (cond b (Some too_large_image) acts.over) (cond lost (Some cause) None) ≡ None → NoEnd acts.over lost
+    by : (b : Bool) → earlier_end (cond b (Some too_large_image) acts.over) (cond lost (Some cause) None) ≡ None → NoEnd acts.over lost
     by true e = absurd (cc)
     by false e = no_end_of acts.over lost cause e
 

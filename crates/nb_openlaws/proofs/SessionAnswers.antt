@@ -7,7 +7,7 @@ use Rattle.nb_login.specs.declared.info.LoginInfo.{LoginInfo}
 use Rattle.nb_sans.specs.Sessions.{ReadTask, session_chap, session_capacity, session_talker}
 use Rattle.nb_streams.specs.Streams.{HeldBytes, front}
 use Rattle.nb_talks.specs.Talking.{by_task, Talk, come_of, talks_on, begun_talk}
-use Rattle.nb_machine.specs.Drives.{came_to_session, drive_answer, session_answer, session_of, session_answered, first_block, last_read}
+use Rattle.nb_machine.specs.Drives.{input_to_session, drive_answer, session_answer, session_of, session_answered, first_block_read, last_read}
 use Rattle.nb_machine.specs.Findings.{first_word}
 use Rattle.nb_machine.specs.Kinds.{answered, answered_by, read_last}
 use Rattle.nb_machine.specs.Lives.{OpenKind, tftp, http, iscsi, dns, dhcp, ping, OpenInput, message, tcp_segment, time, task, close, Exchange, Live, continued}
@@ -17,7 +17,7 @@ use Rattle.nb_laws.specs.Events.{Event}
 use Rattle.nb_laws.specs.Hookings.{HasRead}
 use Rattle.nb_laws.specs.Lists.{hardware}
 use Rattle.nb_laws.proofs.DriveTalks.{held_asked}
-use Rattle.nb_openlaws.specs.Sessions.{session_of_live, SessionAgrees, is_task, IsUnasked}
+use Rattle.nb_openlaws.specs.Sessions.{session_of_live, SessionAgrees, is_task, IsUnaskedByCommands}
 use Rattle.nb_openlaws.proofs.SessionTalks.{session_one_more, session_asked, answer_by, task_answer}
 use Rattle.nb_openlaws.proofs.SessionTasks.{none_read, first_unread}
 use Rattle.nb_openlaws.proofs.SessionsDue.{SessionDue}
@@ -28,7 +28,7 @@ use Rattle.nb_openlaws.proofs.SessionsDue.{SessionDue}
 pub data TalksSo (es : List Event) (l : Live) (isn : ℕ) (i : LoginInfo) (boots : Bool) : Type 0 where
   talks_alike : session_so_far l.number (session_of_live l i boots) es ≡ session_of isn i l → TalksSo es l isn i boots
   talks_ahead : (now : ℕ) → boots ≡ true → (earlier : List Exchange) (last : Exchange) → l.exchanges ≡ earlier ++ last ∷ [] → is_some (session_answered isn i (record l { exchanges = earlier })) ≡ false →
-      session_so_far l.number (session_of_live l i boots) es ≡ talks_on (session_talker i) isn (session_of isn i l) (by_task first_block now) → TalksSo es l isn i boots
+      session_so_far l.number (session_of_live l i boots) es ≡ talks_on (session_talker i) isn (session_of isn i l) (by_task first_block_read now) → TalksSo es l isn i boots
 
 pub record SessionSays (es : List Event) (l : Live) (isn : ℕ) (i : LoginInfo) : Type 0 where
   pub boots : Bool
@@ -70,7 +70,7 @@ says_answered es l isn i w kind =
   where
     by : TalksSo es l isn i w.boots → is_some (answer_by l.server i isn (session_so_far l.number (session_of_live l i w.boots) es)) ≡ is_some (session_answered isn i l)
     by (talks_alike same) = ap (λ z. is_some (answer_by l.server i isn z)) same
-    by (talks_ahead now booting earlier last is before same) = ap (λ z. is_some (answer_by l.server i isn z)) same ∙ task_answer l.server i isn (session_of isn i l) first_block now (session_asked isn i l)
+    by (talks_ahead now booting earlier last is before same) = ap (λ z. is_some (answer_by l.server i isn z)) same ∙ task_answer l.server i isn (session_of isn i l) first_block_read now (session_asked isn i l)
 
 -- WHAT IT HAS READ
 
@@ -90,21 +90,21 @@ or_both true b e = absurd (cc)
 or_both false b e = (refl, e)
 
 -- what isn't a task leaves the tasks
-one_unasked : (i : LoginInfo) (isn : ℕ) (d : Talk ReadTask) (input : OpenInput) → is_task input ≡ false → (fold (talks_on (session_talker i) isn) d (came_to_session input)).tasks ≡ d.tasks
+one_unasked : (i : LoginInfo) (isn : ℕ) (d : Talk ReadTask) (input : OpenInput) → is_task input ≡ false → (fold (talks_on (session_talker i) isn) d (input_to_session input)).tasks ≡ d.tasks
 one_unasked i isn d (message rec port body now) e = refl
 one_unasked i isn d (tcp_segment rec g now) e = refl
 one_unasked i isn d (time now) e = refl
 one_unasked i isn d (task t now) e = absurd (cc)
 one_unasked i isn d (close cause) e = refl
 
-all_unasked : (i : LoginInfo) (isn : ℕ) (d : Talk ReadTask) (xs : List Exchange) → IsUnasked xs → (fold (talks_on (session_talker i) isn) d (flat_map (λ x. came_to_session x.came) xs)).tasks ≡ d.tasks
+all_unasked : (i : LoginInfo) (isn : ℕ) (d : Talk ReadTask) (xs : List Exchange) → IsUnaskedByCommands xs → (fold (talks_on (session_talker i) isn) d (flat_map (λ x. input_to_session x.came) xs)).tasks ≡ d.tasks
 all_unasked i isn d [] e = refl
 all_unasked i isn d (x ∷ xs) e =
     let both = or_both (is_task x.came) (list_any (λ y. is_task y.came) xs) e in
-    ap (λ (z : Talk ReadTask). z.tasks) (fold-append (talks_on (session_talker i) isn) d (came_to_session x.came) (flat_map (λ (y : Exchange). came_to_session y.came) xs))
-    ∙ all_unasked i isn (fold (talks_on (session_talker i) isn) d (came_to_session x.came)) xs both.1 ∙ one_unasked i isn d x.came both.0
+    ap (λ (z : Talk ReadTask). z.tasks) (fold-append (talks_on (session_talker i) isn) d (input_to_session x.came) (flat_map (λ (y : Exchange). input_to_session y.came) xs))
+    ∙ all_unasked i isn (fold (talks_on (session_talker i) isn) d (input_to_session x.came)) xs both.1 ∙ one_unasked i isn d x.came both.0
 
-pub unasked_tasks : (l : Live) (isn : ℕ) (i : LoginInfo) → IsUnasked l.exchanges → (session_of isn i l).tasks ≡ []
+pub unasked_tasks : (l : Live) (isn : ℕ) (i : LoginInfo) → IsUnaskedByCommands l.exchanges → (session_of isn i l).tasks ≡ []
 unasked_tasks l isn i e = all_unasked i isn (begun_talk (session_talker i) isn l.since) l.exchanges e
 
 none_last : (server : ℕ) (chap capacity : Option ℕ) → option_and_then last_read (drive_answer server chap capacity None) ≡ None
@@ -121,28 +121,28 @@ none_read_by server i isn d untasked =
     ∙ none_last server (session_chap i come) (session_capacity i come [])
 
 -- of one with the first task
-first_read_by : (server : ℕ) (i : LoginInfo) (isn : ℕ) (d : Talk ReadTask) (now : ℕ) → d.tasks ≡ [] → option_and_then last_read (answer_by server i isn (talks_on (session_talker i) isn d (by_task first_block now))) ≡ None
+first_read_by : (server : ℕ) (i : LoginInfo) (isn : ℕ) (d : Talk ReadTask) (now : ℕ) → d.tasks ≡ [] → option_and_then last_read (answer_by server i isn (talks_on (session_talker i) isn d (by_task first_block_read now))) ≡ None
 first_read_by server i isn d now untasked =
     let come = come_of isn d in
-    let one : List (ReadTask × ℕ) = (first_block, length come) ∷ [] in
-    ap (λ (h : HeldBytes). option_and_then last_read (session_answer server i (front h) (d.tasks ++ (first_block, length come) ∷ []))) (held_asked (session_talker i) isn d first_block now)
-    ∙ ap (λ z. option_and_then last_read (session_answer server i come (z ++ (first_block, length come) ∷ []))) untasked
-    ∙ ap (λ z. option_and_then last_read (drive_answer server (session_chap i come) (session_capacity i come one) z)) (first_unread i come first_block)
+    let one : List (ReadTask × ℕ) = (first_block_read, length come) ∷ [] in
+    ap (λ (h : HeldBytes). option_and_then last_read (session_answer server i (front h) (d.tasks ++ (first_block_read, length come) ∷ []))) (held_asked (session_talker i) isn d first_block_read now)
+    ∙ ap (λ z. option_and_then last_read (session_answer server i come (z ++ (first_block_read, length come) ∷ []))) untasked
+    ∙ ap (λ z. option_and_then last_read (drive_answer server (session_chap i come) (session_capacity i come one) z)) (first_unread i come first_block_read)
     ∙ none_last server (session_chap i come) (session_capacity i come one)
 
 -- an open that was asked nothing has read nothing
-pub unread_unasked : (l : Live) (isn : ℕ) (i : LoginInfo) → l.kind ≡ iscsi isn i → IsUnasked l.exchanges → read_last l ≡ None
+pub unread_unasked : (l : Live) (isn : ℕ) (i : LoginInfo) → l.kind ≡ iscsi isn i → IsUnaskedByCommands l.exchanges → read_last l ≡ None
 unread_unasked l isn i kind e = ap (λ k. option_and_then last_read (answered_by k l)) kind ∙ none_read_by l.server i isn (session_of isn i l) (unasked_tasks l isn i e)
 
 -- nor has it as it is asked for the first time, whether it takes the task or not
-pub unread_asked : (l : Live) (isn : ℕ) (i : LoginInfo) (x : Exchange) (now : ℕ) → l.kind ≡ iscsi isn i → IsUnasked l.exchanges → x.came ≡ task first_block now → read_last (continued l x) ≡ None
+pub unread_asked : (l : Live) (isn : ℕ) (i : LoginInfo) (x : Exchange) (now : ℕ) → l.kind ≡ iscsi isn i → IsUnaskedByCommands l.exchanges → x.came ≡ task first_block_read now → read_last (continued l x) ≡ None
 unread_asked l isn i x now kind e is =
     ap (λ k. option_and_then last_read (answered_by k (continued l x))) kind
-    ∙ ap (λ z. option_and_then last_read (answer_by l.server i isn z)) (session_one_more isn i l x (by_task first_block now) (ap came_to_session is))
+    ∙ ap (λ z. option_and_then last_read (answer_by l.server i isn z)) (session_one_more isn i l x (by_task first_block_read now) (ap input_to_session is))
     ∙ first_read_by l.server i isn (session_of isn i l) now (unasked_tasks l isn i e)
 
 -- and the history says no read of it, though it may be a task ahead
-pub says_unread : (es : List Event) (l : Live) (isn : ℕ) (i : LoginInfo) (w : SessionSays es l isn i) → IsUnasked l.exchanges → option_and_then last_read (answered_so_far l.number (session_of_live l i w.boots) es) ≡ None
+pub says_unread : (es : List Event) (l : Live) (isn : ℕ) (i : LoginInfo) (w : SessionSays es l isn i) → IsUnaskedByCommands l.exchanges → option_and_then last_read (answered_so_far l.number (session_of_live l i w.boots) es) ≡ None
 says_unread es l isn i w e =
     ap (λ v. option_and_then last_read (answer_by l.server i v (session_so_far l.number (session_of_live l i w.boots) es))) (sym w.word) ∙ by w.talk
   where

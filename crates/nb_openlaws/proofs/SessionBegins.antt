@@ -14,7 +14,7 @@ use Rattle.nb_streams.specs.Streams.{HeldBytes, front, has_ended}
 use Rattle.nb_streams.specs.Trying.{timer_after, due_tries, comes_in, tries_at, mark_tries}
 use Rattle.nb_talks.specs.TalkPromises.{talker_end}
 use Rattle.nb_talks.specs.Talking.{by_time, by_task, Talk, text_to_send, unsaid, begun_talk}
-use Rattle.nb_machine.specs.Drives.{first_block, session_of, session_answer}
+use Rattle.nb_machine.specs.Drives.{first_block_read, session_of, session_answer}
 use Rattle.nb_machine.specs.Findings.{first_word}
 use Rattle.nb_machine.specs.Lives.{iscsi, kind_number, Live, open_record}
 use Rattle.nb_machine.specs.Scripts.{net0_mac}
@@ -64,7 +64,7 @@ asks_dead k now es (Some d) lives none = by (d.open_number == k) refl
   where
     by : (b : Bool) → (d.open_number == k) ≡ b → asked_of k now (Some d) ≡ []
     by true e = absurd (let never : false ≡ true = sym (ap has_opening (ap (λ z. live z es) (eqb-true d.open_number k e) ∙ none)) ∙ lives d refl in cc)
-    by false e = ap (λ b. cond b (by_task first_block now ∷ []) []) e
+    by false e = ap (λ b. cond b (by_task first_block_read now ∷ []) []) e
 
 put_dead : (k : ℕ) (es : List Event) (o : Out) → live k es ≡ [] → asked_by k es o ≡ []
 put_dead k es (command depth line place expanded words) none =

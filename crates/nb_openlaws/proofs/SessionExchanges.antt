@@ -24,7 +24,7 @@ use Rattle.nb_machine.specs.Findings.{first_word}
 use Rattle.nb_machine.specs.Lives.{iscsi, OpenInput, message, tcp_segment, time as time_came_to, task, close, Exchange, Live, continued}
 use Rattle.nb_machine.specs.Kinds.{KeepsBy}
 use Rattle.nb_machine.specs.Connections.{Connection, connection_of, arrived_segment, segment_records, talk_end, put_records, PutsAt, KeepsAt}
-use Rattle.nb_machine.specs.Drives.{came_to_session, session_talking, session_of, first_block}
+use Rattle.nb_machine.specs.Drives.{input_to_session, session_talking, session_of, first_block_read}
 use Rattle.nb_machine.specs.Takings.{end_among}
 use Rattle.nb_laws.specs.Drives.{SessionOpening, sessions, session_so_far, session_marks}
 use Rattle.nb_laws.specs.Events.{Event}
@@ -129,7 +129,7 @@ comes_so es l x i isn boots c p w own = record {
     all = all_calls i isn l c
 
     well : SessionWell isn before heard all p
-    well = session_well i isn l.since (flat_map (λ (y : Exchange). came_to_session y.came) l.exchanges) c p w.puts_so
+    well = session_well i isn l.since (flat_map (λ (y : Exchange). input_to_session y.came) l.exchanges) c p w.puts_so
 
     at_heard : SessionAt es o x.link conn s heard
     at_heard = at_come es l x i isn boots c p heard (said_at i isn d c ++ w.texts) w
@@ -281,7 +281,7 @@ more_texts es l i isn c w = by (sizes es l isn i w.boots c) refl
 
     by : (b : Bool) → sizes es l isn i w.boots c ≡ b → (texts : List (List ℕ)) × ((session_so_far l.number (session_of_live l i w.boots) es).calls ≡ d2.calls ++ text_calls texts (time_of c))
     by false e = ([], ap (λ (z : Talk ReadTask). z.calls) (unsized_talk es l isn i c w e) ∙ sym (append-nil d2.calls))
-    by true e = (texts_for (session_talker i) isn d2 (by_task first_block (time_of c)), ap (λ (z : Talk ReadTask). z.calls) (sized_talk es l isn i c w e))
+    by true e = (texts_for (session_talker i) isn d2 (by_task first_block_read (time_of c)), ap (λ (z : Talk ReadTask). z.calls) (sized_talk es l isn i c w e))
 
 pub drive_so : (es : List Event) (l : Live) (x : Exchange) (isn : ℕ) (i : LoginInfo) → IsTaken x.came → ComeAs (iscsi isn i) es x.came l x.link → KeepsBy (iscsi isn i) (continued l x) → ExchangeSo (iscsi isn i) es l x
 drive_so es l x isn i taken come keeps = by x.came taken come kept_so.puts
@@ -321,22 +321,22 @@ drive_so es l x isn i taken come keeps = by x.came taken come kept_so.puts
 -- WHAT A COMMAND ASKS
 
 -- it is asked for its first block, and takes the task
-pub drive_asked_so : (es : List Event) (l : Live) (x : Exchange) (isn : ℕ) (i : LoginInfo) (now : ℕ) → x.came ≡ task first_block now → SessionDue es l isn i now → client es ≡ x.link → openings l.number es ≡ opening_as (iscsi isn i) l ∷ [] →
+pub drive_asked_so : (es : List Event) (l : Live) (x : Exchange) (isn : ℕ) (i : LoginInfo) (now : ℕ) → x.came ≡ task first_block_read now → SessionDue es l isn i now → client es ≡ x.link → openings l.number es ≡ opening_as (iscsi isn i) l ∷ [] →
     open_has_ended l.number es ≡ false → IsDue l.number es → HadWay l.number es (opening_as (iscsi isn i) l) → IsAdvanced es → KeepsBy (iscsi isn i) (continued l x) → ExchangeSo (iscsi isn i) es l x
 drive_asked_so es l x isn i now is from same opening lives due way a keeps =
-    comes_so es l x i isn from.boots (by_task first_block now) kept_so.put (record {
+    comes_so es l x i isn from.boots (by_task first_block_read now) kept_so.put (record {
       client_is = same;
       word = from.word;
       opening = opening;
       lives = lives;
       session = from.is;
       texts = [];
-      said_then = ap (λ (z : Talk ReadTask). z.calls) from.talk ∙ sym (append-nil (all_calls i isn l (by_task first_block now)));
+      said_then = ap (λ (z : Talk ReadTask). z.calls) from.talk ∙ sym (append-nil (all_calls i isn l (by_task first_block_read now)));
       due = due;
       had_way = way;
       placed = a l.number ∙ session_so l.number es (opening_as (iscsi isn i) l) (session_of_live l i from.boots) opening refl from.is
           ∙ ap (λ z. next (talk_held z (session_so_far l.number (session_of_live l i from.boots) es))) (sym from.word) ∙ ap (λ z. next (talk_held isn z)) from.talk
-          ∙ ap next (held_asked (session_talker i) isn (session_of isn i l) first_block now);
+          ∙ ap next (held_asked (session_talker i) isn (session_of isn i l) first_block_read now);
       others = λ j other. a j;
       puts_so = puts_so;
       records = kept_so.records;
@@ -345,5 +345,5 @@ drive_asked_so es l x isn i now is from same opening lives due way a keeps =
     kept_so : KeepsAt (session_talking i) (connection_of isn l) l.exchanges x
     kept_so = last_exchange (KeepsAt (session_talking i) (connection_of isn l)) [] l.exchanges x keeps
 
-    puts_so : PutsSo (session_talker i) isn l.since (session_of isn i l) (by_task first_block now) kept_so.put
+    puts_so : PutsSo (session_talker i) isn l.since (session_of isn i l) (by_task first_block_read now) kept_so.put
     puts_so = subst (λ z. PutsAt (session_talking i) (connection_of isn l) (session_of isn i l) z kept_so.put) is kept_so.puts

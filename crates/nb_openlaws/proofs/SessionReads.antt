@@ -13,7 +13,7 @@ use Rattle.nb_laws.specs.Events.{Event}
 use Rattle.nb_laws.specs.Frames.{IsDue}
 use Rattle.nb_laws.proofs.Tellings.{told}
 use Rattle.nb_openlaws.specs.OpenReasons.{HaveWays}
-use Rattle.nb_openlaws.specs.Sessions.{SessionAgrees, SessionsAgree, SessionsStand, IsUnasked}
+use Rattle.nb_openlaws.specs.Sessions.{SessionAgrees, SessionsAgree, SessionsStand, IsUnaskedByCommands}
 use Rattle.nb_openlaws.specs.Standings.{lives_among, HaveOwnNumbers, AgreesState, AgreesDevice}
 use Rattle.nb_openlaws.proofs.AllReasons.{TakenSo}
 use Rattle.nb_openlaws.proofs.SessionAnswers.{SessionsOver, unasked_tasks}
@@ -94,5 +94,5 @@ pub asked_reasons : (es : List Event) (s : State) (number : ℕ) (put : List Out
 asked_reasons es s number put s' over q isn i a device ways advanced w = asks_reasons es s s' number put over q isn i w.kind a device ways advanced w.brought w.due
 
 -- one that agrees, boots and was asked nothing isn't known yet
-pub unsized : (es : List Event) (l : Live) (isn : ℕ) (i : LoginInfo) (w : SessionAgrees es l isn i) → l.kind ≡ iscsi isn i → w.boots ≡ true → IsUnasked l.exchanges → answered l ≡ None
+pub unsized : (es : List Event) (l : Live) (isn : ℕ) (i : LoginInfo) (w : SessionAgrees es l isn i) → l.kind ≡ iscsi isn i → w.boots ≡ true → IsUnaskedByCommands l.exchanges → answered l ≡ None
 unsized es l isn i w is booting unasked = ap (λ k. answered_by k l) is ∙ w.sized booting (unasked_tasks l isn i unasked)

@@ -15,7 +15,7 @@ use Rattle.nb_talks.specs.TalkPromises.{Sends, Put, said_sends, texts_sent, segm
 use Rattle.nb_login.specs.declared.info.LoginInfo.{LoginInfo}
 use Rattle.nb_sans.specs.Sessions.{ReadTask, session_end, session_talker}
 use Rattle.nb_machine.specs.Connections.{Connection, connection_of, arrived_segment, loses_way, PutsAt, KeepsAt}
-use Rattle.nb_machine.specs.Drives.{came_to_session, session_talking, session_of, session_answered, first_block}
+use Rattle.nb_machine.specs.Drives.{input_to_session, session_talking, session_of, session_answered, first_block_read}
 use Rattle.nb_machine.specs.Findings.{first_word}
 use Rattle.nb_machine.specs.Lives.{iscsi, tcp_segment, time as time_input, task, Exchange, Live, continued}
 use Rattle.nb_machine.specs.Takings.{end_among}
@@ -45,11 +45,11 @@ sizes es l isn i boots c =
     is_sized_by h l.number (session_of_live l i boots) d (talks_on (session_talker i) (first_word h.identity l.number) d c)
 
 unsized_comes : (es : List Event) (l : Live) (isn : ℕ) (i : LoginInfo) (boots : Bool) (c : Came ReadTask) → sizes es l isn i boots c ≡ false → comes_with (hardware es) l.number (session_of_live l i boots) (session_of isn i l) c ≡ c ∷ []
-unsized_comes es l isn i boots c e = ap (λ b. c ∷ cond b (by_task first_block (time_of c) ∷ []) []) e
+unsized_comes es l isn i boots c e = ap (λ b. c ∷ cond b (by_task first_block_read (time_of c) ∷ []) []) e
 
 sized_comes : (es : List Event) (l : Live) (isn : ℕ) (i : LoginInfo) (boots : Bool) (c : Came ReadTask) → sizes es l isn i boots c ≡ true →
-    comes_with (hardware es) l.number (session_of_live l i boots) (session_of isn i l) c ≡ c ∷ by_task first_block (time_of c) ∷ []
-sized_comes es l isn i boots c e = ap (λ b. c ∷ cond b (by_task first_block (time_of c) ∷ []) []) e
+    comes_with (hardware es) l.number (session_of_live l i boots) (session_of isn i l) c ≡ c ∷ by_task first_block_read (time_of c) ∷ []
+sized_comes es l isn i boots c e = ap (λ b. c ∷ cond b (by_task first_block_read (time_of c) ∷ []) []) e
 
 -- its talk then
 pub comes_talk : (es : List Event) (l : Live) (isn : ℕ) (i : LoginInfo) (c : Came ReadTask) (w : SessionComes es l isn i c) →
@@ -67,7 +67,7 @@ pub unsized_talk : (es : List Event) (l : Live) (isn : ℕ) (i : LoginInfo) (c :
 unsized_talk es l isn i c w e = comes_talk es l isn i c w ∙ ap (fold (talks_on (session_talker i) isn) (session_of isn i l)) (unsized_comes es l isn i w.boots c e)
 
 pub sized_talk : (es : List Event) (l : Live) (isn : ℕ) (i : LoginInfo) (c : Came ReadTask) (w : SessionComes es l isn i c) → sizes es l isn i w.boots c ≡ true →
-    session_so_far l.number (session_of_live l i w.boots) es ≡ talks_on (session_talker i) isn (talks_on (session_talker i) isn (session_of isn i l) c) (by_task first_block (time_of c))
+    session_so_far l.number (session_of_live l i w.boots) es ≡ talks_on (session_talker i) isn (talks_on (session_talker i) isn (session_of isn i l) c) (by_task first_block_read (time_of c))
 sized_talk es l isn i c w e = comes_talk es l isn i c w ∙ ap (fold (talks_on (session_talker i) isn) (session_of isn i l)) (sized_comes es l isn i w.boots c e)
 
 pub unsized_marks : (es : List Event) (l : Live) (isn : ℕ) (i : LoginInfo) (c : Came ReadTask) (w : SessionComes es l isn i c) → sizes es l isn i w.boots c ≡ false →
@@ -78,12 +78,12 @@ unsized_marks es l isn i c w e =
 
 sized_marks : (es : List Event) (l : Live) (isn : ℕ) (i : LoginInfo) (c : Came ReadTask) (w : SessionComes es l isn i c) → sizes es l isn i w.boots c ≡ true →
     session_marks l.number (session_of_live l i w.boots) es ≡ (w.marks_before ++ map comes_in (calls_with (session_talker i) isn (session_of isn i l) c))
-    ++ map comes_in (text_calls (texts_for (session_talker i) isn (talks_on (session_talker i) isn (session_of isn i l) c) (by_task first_block (time_of c))) (time_of c))
+    ++ map comes_in (text_calls (texts_for (session_talker i) isn (talks_on (session_talker i) isn (session_of isn i l) c) (by_task first_block_read (time_of c))) (time_of c))
 sized_marks es l isn i c w e =
     let t = session_talker i in
     let d = session_of isn i l in
     let first = calls_with t isn d c in
-    let then = text_calls (texts_for t isn (talks_on t isn d c) (by_task first_block (time_of c))) (time_of c) in
+    let then = text_calls (texts_for t isn (talks_on t isn d c) (by_task first_block_read (time_of c))) (time_of c) in
     w.marks ∙ ap (λ z. w.marks_before ++ map comes_in (all_calls t isn d z)) (sized_comes es l isn i w.boots c e)
     ∙ ap (λ z. w.marks_before ++ map comes_in (first ++ z)) (append-nil then)
     ∙ ap (λ z. w.marks_before ++ z) (map-append comes_in first then) ∙ sym (append_assoc w.marks_before (map comes_in first) (map comes_in then))
@@ -188,7 +188,7 @@ segment_goes es l isn i x rec g now kept none is at quiet w = by (sizes es l isn
     d2 = talks_on (session_talker i) isn d c
 
     one : session_of isn i (continued l x) ≡ d2
-    one = session_one_more isn i l x c (ap came_to_session is)
+    one = session_one_more isn i l x c (ap input_to_session is)
 
     puts_so : kept.put ≡ segment_put (session_talker i) isn d (arrived_segment rec g) now
     puts_so = subst (λ z. PutsAt (session_talking i) (connection_of isn l) d z kept.put) is kept.puts
@@ -255,12 +255,12 @@ segment_goes es l isn i x rec g now kept none is at quiet w = by (sizes es l isn
         let m = arrived_segment rec g in
         let seg = comes_in (segment_came m now) in
         let first = (w.marks_before ++ seg ∷ []) ++ map comes_in (text_calls texts now) in
-        let asked = λ (z : Talk ReadTask). map comes_in (text_calls (texts_for (session_talker i) isn z (by_task first_block now)) now) in
+        let asked = λ (z : Talk ReadTask). map comes_in (text_calls (texts_for (session_talker i) isn z (by_task first_block_read now)) now) in
         asks (record {
           boots = w.boots;
           word = word;
           is = quiet.sessions_is ∙ w.is;
-          talk = talk_put l.number s es x.put quiet.hardware_is quiet.nothing ∙ sized_talk es l isn i c w e ∙ ap (λ z. talks_on (session_talker i) isn z (by_task first_block now)) (sym one);
+          talk = talk_put l.number s es x.put quiet.hardware_is quiet.nothing ∙ sized_talk es l isn i c w e ∙ ap (λ z. talks_on (session_talker i) isn z (by_task first_block_read now)) (sym one);
           rec = rec;
           undecided = undecided;
           came = first;
@@ -288,7 +288,7 @@ time_goes es l isn i x now kept none is at quiet w =
     let es2 = es ++ told x.put in
     let on = puts_on l isn i x kept none in
     let e = time_unsized es l isn i w.boots now w.word in
-    let one : session_of isn i (continued l x) ≡ talks_on t isn d c = session_one_more isn i l x c (ap came_to_session is) in
+    let one : session_of isn i (continued l x) ≡ talks_on t isn d c = session_one_more isn i l x c (ap input_to_session is) in
     let p = subst (λ z. PutsAt (session_talking i) (connection_of isn l) d z kept.put) is kept.puts in
     let due = due_sends isn (conn_phase isn d.calls) p.due in
     let sends : kept.put.sends ≡ due = ap (λ (z : Put). z.sends) p.is in
@@ -313,17 +313,17 @@ some_tasks [] t is = cc
 some_tasks (x ∷ xs) t is = cc
 
 -- its open takes the task
-pub task_goes : (es : List Event) (l : Live) (isn : ℕ) (i : LoginInfo) (x : Exchange) (now : ℕ) → KeepsAt (session_talking i) (connection_of isn l) l.exchanges x → end_among l.number x.put ≡ None → x.came ≡ task first_block now → time es ≡ now →
+pub task_goes : (es : List Event) (l : Live) (isn : ℕ) (i : LoginInfo) (x : Exchange) (now : ℕ) → KeepsAt (session_talking i) (connection_of isn l) l.exchanges x → end_among l.number x.put ≡ None → x.came ≡ task first_block_read now → time es ≡ now →
     Quiet l.number es x.put → SessionDue es l isn i now → SessionAgrees (es ++ told x.put) (continued l x) isn i
 task_goes es l isn i x now kept none is at quiet w =
     let k = l.number in
     let t = session_talker i in
-    let c : Came ReadTask = by_task first_block now in
+    let c : Came ReadTask = by_task first_block_read now in
     let d = session_of isn i l in
     let s = session_of_live l i w.boots in
     let es2 = es ++ told x.put in
     let on = puts_on l isn i x kept none in
-    let one : session_of isn i (continued l x) ≡ talks_on t isn d c = session_one_more isn i l x c (ap came_to_session is) in
+    let one : session_of isn i (continued l x) ≡ talks_on t isn d c = session_one_more isn i l x c (ap input_to_session is) in
     let p = subst (λ z. PutsAt (session_talking i) (connection_of isn l) d z kept.put) is kept.puts in
     let text = unsaid t isn (receives isn d c) in
     let said = said_sends (conn_phase isn d.calls) text in
@@ -339,7 +339,7 @@ task_goes es l isn i x now kept none is at quiet w =
       is = quiet.sessions_is ∙ w.is;
       talk = talk_put k s es x.put quiet.hardware_is quiet.nothing ∙ w.talk ∙ sym one;
       rec = w.rec;
-      undecided = ap (talker_end t isn w.rec) one ∙ task_undecided i isn w.rec d first_block now (session_asked isn i l) ∙ w.undecided;
+      undecided = ap (talker_end t isn w.rec) one ∙ task_undecided i isn w.rec d first_block_read now (session_asked isn i l) ∙ w.undecided;
       tries = subst (λ z. TriesStand isn l.since z.calls (session_marks k s es2)) (sym one)
           (subst (λ cs. TriesStand isn l.since (d.calls ++ cs) (session_marks k s es2)) (sym one_text)
           (subst (TriesStand isn l.since (d.calls ++ text_to_send text now)) (sym marked)
@@ -350,12 +350,12 @@ task_goes es l isn i x now kept none is at quiet w =
 -- A COMMAND ASKS
 
 -- the history is ahead by the task that a command asks
-pub command_due : (es : List Event) (l : Live) (isn : ℕ) (i : LoginInfo) (now : ℕ) → SessionComes es l isn i (by_task first_block now) → SessionDue es l isn i now
+pub command_due : (es : List Event) (l : Live) (isn : ℕ) (i : LoginInfo) (now : ℕ) → SessionComes es l isn i (by_task first_block_read now) → SessionDue es l isn i now
 command_due es l isn i now w =
     let t = session_talker i in
-    let c : Came ReadTask = by_task first_block now in
+    let c : Came ReadTask = by_task first_block_read now in
     let d = session_of isn i l in
-    let e = task_unsized es l isn i w.boots first_block now w.word in
+    let e = task_unsized es l isn i w.boots first_block_read now w.word in
     let words = map comes_in (text_calls (texts_for t isn d c) now) in
     record {
       boots = w.boots;

@@ -8,7 +8,7 @@ use Rattle.nb_sans.specs.Sessions.{ReadTask, session_talker}
 use Rattle.nb_stack.specs.Client.{Client}
 use Rattle.nb_talks.specs.Talking.{Came, by_time, by_task, time_of, talks_on}
 use Rattle.nb_machine.specs.Connections.{connection_of, KeepsAt}
-use Rattle.nb_machine.specs.Drives.{came_to_session, session_talking, session_of, first_block}
+use Rattle.nb_machine.specs.Drives.{input_to_session, session_talking, session_of, first_block_read}
 use Rattle.nb_machine.specs.Findings.{first_word}
 use Rattle.nb_machine.specs.Kinds.{KeepsBy}
 use Rattle.nb_machine.specs.Lives.{OpenKind, tftp, http, iscsi, dns, dhcp, ping, OpenInput, time as time_came, Exchange, exchange, Live, continued}
@@ -137,7 +137,7 @@ agrees_stays a b (dhcp x) l q w = tt
 agrees_stays a b ping l q w = tt
 
 -- one that what came has ended
-pub over_says : (es : List Event) (l : Live) (isn : ℕ) (i : LoginInfo) (x : Exchange) (c : Came ReadTask) → came_to_session x.came ≡ c ∷ [] → Quiet l.number es x.put → SessionComes es l isn i c → SessionSays (es ++ told x.put) (continued l x) isn i
+pub over_says : (es : List Event) (l : Live) (isn : ℕ) (i : LoginInfo) (x : Exchange) (c : Came ReadTask) → input_to_session x.came ≡ c ∷ [] → Quiet l.number es x.put → SessionComes es l isn i c → SessionSays (es ++ told x.put) (continued l x) isn i
 over_says es l isn i x c one quiet w = record { boots = w.boots; word = w.word ∙ ap (λ h. first_word h.identity l.number) (sym quiet.hardware_is); is = quiet.sessions_is ∙ w.is; talk = by (sizes es l isn i w.boots c) refl }
   where
     goes_on : session_of isn i (continued l x) ≡ talks_on (session_talker i) isn (session_of isn i l) c
@@ -146,7 +146,7 @@ over_says es l isn i x c one quiet w = record { boots = w.boots; word = w.word �
     by : (b : Bool) → sizes es l isn i w.boots c ≡ b → TalksSo (es ++ told x.put) (continued l x) isn i w.boots
     by false e = talks_alike (talk_put l.number (session_of_live l i w.boots) es x.put quiet.hardware_is quiet.nothing ∙ unsized_talk es l isn i c w e ∙ sym goes_on)
     by true e = let so = sized_as es l isn i w.boots c w.word e in talks_ahead (time_of c) so.0 l.exchanges x refl so.1
-        (talk_put l.number (session_of_live l i w.boots) es x.put quiet.hardware_is quiet.nothing ∙ sized_talk es l isn i c w e ∙ ap (λ z. talks_on (session_talker i) isn z (by_task first_block (time_of c))) (sym goes_on))
+        (talk_put l.number (session_of_live l i w.boots) es x.put quiet.hardware_is quiet.nothing ∙ sized_talk es l isn i c w e ∙ ap (λ z. talks_on (session_talker i) isn z (by_task first_block_read (time_of c))) (sym goes_on))
 
 -- A TIME
 

@@ -12,7 +12,7 @@ use Rattle.nb_talks.proofs.TalkLaws.{held_with_texts}
 use Rattle.nb_login.specs.declared.info.LoginInfo.{LoginInfo}
 use Rattle.nb_login.specs.declared.session.Session.{Session}
 use Rattle.nb_sans.specs.Sessions.{ReadTask, TaskAnswer, session_come, session_chap, session_capacity, session_end, session_talker, task_answers, tasks_taken}
-use Rattle.nb_machine.specs.Drives.{DriveAnswer, came_to_session, drive_answer, last_answer, session_answer, session_of}
+use Rattle.nb_machine.specs.Drives.{DriveAnswer, input_to_session, drive_answer, last_answer, session_answer, session_of}
 use Rattle.nb_machine.specs.Lives.{Exchange, Live, continued}
 use Rattle.nb_openlaws.proofs.SessionTasks.{task_capacity, task_ends, end_shows, IsAskedInTime, asked_on}
 use Rattle.nb_laws.proofs.DriveTalks.{held_asked, held_waited}
@@ -20,14 +20,14 @@ use Rattle.nb_laws.proofs.DriveTalks.{held_asked, held_waited}
 -- THE TALK OF EXCHANGES
 
 -- with one exchange more
-pub session_goes_on : (isn : ℕ) (i : LoginInfo) (l : Live) (x : Exchange) → session_of isn i (continued l x) ≡ fold (talks_on (session_talker i) isn) (session_of isn i l) (came_to_session x.came)
+pub session_goes_on : (isn : ℕ) (i : LoginInfo) (l : Live) (x : Exchange) → session_of isn i (continued l x) ≡ fold (talks_on (session_talker i) isn) (session_of isn i l) (input_to_session x.came)
 session_goes_on isn i l x =
-    let came : List Exchange → List (Came ReadTask) = flat_map (λ (y : Exchange). came_to_session y.came) in
-    ap (talk_after (session_talker i) isn l.since) (flat_map-append (λ (y : Exchange). came_to_session y.came) l.exchanges (x ∷ []) ∙ ap (λ z. came l.exchanges ++ z) (append-nil (came_to_session x.came)))
-    ∙ fold-append (talks_on (session_talker i) isn) (begun_talk (session_talker i) isn l.since) (came l.exchanges) (came_to_session x.came)
+    let came : List Exchange → List (Came ReadTask) = flat_map (λ (y : Exchange). input_to_session y.came) in
+    ap (talk_after (session_talker i) isn l.since) (flat_map-append (λ (y : Exchange). input_to_session y.came) l.exchanges (x ∷ []) ∙ ap (λ z. came l.exchanges ++ z) (append-nil (input_to_session x.came)))
+    ∙ fold-append (talks_on (session_talker i) isn) (begun_talk (session_talker i) isn l.since) (came l.exchanges) (input_to_session x.came)
 
 -- by which one thing came
-pub session_one_more : (isn : ℕ) (i : LoginInfo) (l : Live) (x : Exchange) (c : Came ReadTask) → came_to_session x.came ≡ c ∷ [] → session_of isn i (continued l x) ≡ talks_on (session_talker i) isn (session_of isn i l) c
+pub session_one_more : (isn : ℕ) (i : LoginInfo) (l : Live) (x : Exchange) (c : Came ReadTask) → input_to_session x.came ≡ c ∷ [] → session_of isn i (continued l x) ≡ talks_on (session_talker i) isn (session_of isn i l) c
 session_one_more isn i l x c one = session_goes_on isn i l x ∙ ap (fold (talks_on (session_talker i) isn) (session_of isn i l)) one
 
 asked_through : (t : Talker ReadTask) (isn : ℕ) (d : Talk ReadTask) (cs : List (Came ReadTask)) → IsAskedInTime isn d → IsAskedInTime isn (fold (talks_on t isn) d cs)
@@ -36,7 +36,7 @@ asked_through t isn d (c ∷ cs) by = asked_through t isn (talks_on t isn d c) c
 
 -- its tasks were asked in time
 pub session_asked : (isn : ℕ) (i : LoginInfo) (l : Live) → IsAskedInTime isn (session_of isn i l)
-session_asked isn i l = asked_through (session_talker i) isn (begun_talk (session_talker i) isn l.since) (flat_map (λ x. came_to_session x.came) l.exchanges) tt
+session_asked isn i l = asked_through (session_talker i) isn (begun_talk (session_talker i) isn l.since) (flat_map (λ x. input_to_session x.came) l.exchanges) tt
 
 -- WHAT IS SAID THEN
 

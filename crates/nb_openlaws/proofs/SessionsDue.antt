@@ -9,7 +9,7 @@ use Rattle.nb_talks.specs.TalkPromises.{talker_end}
 use Rattle.nb_login.specs.declared.info.LoginInfo.{LoginInfo}
 use Rattle.nb_sans.specs.Sessions.{ReadTask, session_talker}
 use Rattle.nb_machine.specs.Connections.{arrived_segment}
-use Rattle.nb_machine.specs.Drives.{session_of, session_answered, first_block}
+use Rattle.nb_machine.specs.Drives.{session_of, session_answered, first_block_read}
 use Rattle.nb_machine.specs.Findings.{first_word}
 use Rattle.nb_machine.specs.Lives.{OpenKind, tftp, http, iscsi, dns, dhcp, ping, OpenInput, message, tcp_segment, time as time_input, task, close, Live}
 use Rattle.nb_laws.specs.Drives.{SessionOpening, sessions, came_to_session_at, came_to_session as came_by, comes_with, session_by, session_so_far, comes_so, tries_so, told_session_mark, session_mark_at, session_marks_of, all_calls, session_marks}
@@ -47,14 +47,14 @@ pub record SessionDue (es : List Event) (l : Live) (isn : ℕ) (i : LoginInfo) (
   pub boots : Bool
   pub word : isn ≡ first_word (hardware es).identity l.number
   pub is : sessions l.number es ≡ session_of_live l i boots ∷ []
-  pub talk : session_so_far l.number (session_of_live l i boots) es ≡ talks_on (session_talker i) isn (session_of isn i l) (by_task first_block now)
+  pub talk : session_so_far l.number (session_of_live l i boots) es ≡ talks_on (session_talker i) isn (session_of isn i l) (by_task first_block_read now)
   pub rec : ℕ
   pub undecided : talker_end (session_talker i) isn rec (session_of isn i l) ≡ None
   pub came : List TryMark
   pub put : List TryMark
   pub tries : TriesStandIn isn l.since (session_of isn i l).calls came put
   pub marks : session_marks l.number (session_of_live l i boots) es
-      ≡ (came ++ map comes_in (text_calls (texts_for (session_talker i) isn (session_of isn i l) (by_task first_block now)) now)) ++ put
+      ≡ (came ++ map comes_in (text_calls (texts_for (session_talker i) isn (session_of isn i l) (by_task first_block_read now)) now)) ++ put
 
 -- it has come to one whose last ADVANCE has the place to which its stream had come before
 pub record SessionPlaced (es : List Event) (l : Live) (isn : ℕ) (i : LoginInfo) (c : Came ReadTask) : Type 0 where

@@ -19,7 +19,7 @@ use Rattle.nb_machine.specs.Takings.{end_among, Over, AllTake, all_have, lives_o
 use Rattle.nb_laws.specs.Drives.{sessions}
 use Rattle.nb_laws.specs.Events.{Event, puts}
 use Rattle.nb_laws.specs.Frames.{IsDue, stays_due}
-use Rattle.nb_laws.specs.Lists.{time, made, port_offset, hardware, Opening, openings, open_has_ended, calls, tries, marks, mark_of}
+use Rattle.nb_laws.specs.Lists.{time, made, port_offset, hardware, Opening, openings, open_has_ended, calls, tries, marks, mark_of_call}
 use Rattle.nb_laws.specs.Webs.{brought_to, told_try_mark, try_marks_of}
 use Rattle.nb_laws.specs.Endings.{HadWay}
 use Rattle.nb_openlaws.specs.Standings.{heard_call, moment_in, told_try, told_tries, streamed, exchange_try_marks, streamed_marks, heard_calls, exchange_marks, heard_marks, live_opening, IsKindBy, HasLogin, ComesToOwnPort, IsOngoing, AgreesLive, AreLive, lives_among, HaveOwnNumbers}
@@ -97,7 +97,7 @@ pub record HasCome (es : List Event) (input : OpenInput) (l : Live) : Type 0 whe
   pub opening : openings l.number es ≡ live_opening l ∷ []
   pub lives : open_has_ended l.number es ≡ false
   pub received : calls l.number es ≡ heard_calls l.kind l.exchanges ++ heard_call l.kind input
-  pub tells : marks l.number es ≡ (tries 1 l.since ∷ heard_marks l.kind l.number l.exchanges) ++ map mark_of (heard_call l.kind input)
+  pub tells : marks l.number es ≡ (tries 1 l.since ∷ heard_marks l.kind l.number l.exchanges) ++ map mark_of_call (heard_call l.kind input)
   pub streams : brought_to l.number es ≡ streamed l.exchanges ++ came_on input
   pub tries_stand : try_marks_of l.number es ≡ (tries_at 1 l.since ∷ streamed_marks l.number l.exchanges) ++ came_marks input
   pub goes_on : AllByRecursion (IsOngoing l.kind l.number l.own) l.exchanges
@@ -246,8 +246,8 @@ one_takes es came l link put c p none =
       lives = f.over_is k ∙ ap (λ b. b || ends_in k put) c.lives ∙ end_among_is k put ∙ ap is_some none;
       received = f.calls_is k ∙ c.received ∙ sym (flat_map-append (λ (y : Exchange). heard_call l.kind y.came) l.exchanges (x ∷ []) ∙ ap (λ z. heard_calls l.kind l.exchanges ++ z) (append-nil (heard_call l.kind came)));
       tells = f.marks_is k ∙ ap (λ z. z ++ told_tries k (time es) put) c.tells
-          ∙ append_assoc (tries 1 l.since ∷ heard_marks l.kind k l.exchanges) (map mark_of (heard_call l.kind came)) (told_tries k (time es) put)
-          ∙ ap (λ z. tries 1 l.since ∷ (heard_marks l.kind k l.exchanges ++ (map mark_of (heard_call l.kind came) ++ z))) (tries_now k (time es) came link put c.now p)
+          ∙ append_assoc (tries 1 l.since ∷ heard_marks l.kind k l.exchanges) (map mark_of_call (heard_call l.kind came)) (told_tries k (time es) put)
+          ∙ ap (λ z. tries 1 l.since ∷ (heard_marks l.kind k l.exchanges ++ (map mark_of_call (heard_call l.kind came) ++ z))) (tries_now k (time es) came link put c.now p)
           ∙ ap (λ z. tries 1 l.since ∷ z) (sym (flat_map-append (exchange_marks l.kind k) l.exchanges (x ∷ []) ∙ ap (λ z. heard_marks l.kind k l.exchanges ++ z) (append-nil (exchange_marks l.kind k x))));
       streams = f.came_is k ∙ c.streams ∙ sym (flat_map-append (λ (y : Exchange). came_on y.came) l.exchanges (x ∷ []) ∙ ap (λ z. streamed l.exchanges ++ z) (append-nil (came_on came)));
       tries_stand = f.try_marks_is k ∙ ap (λ z. z ++ try_marks_by k (time es) put) c.tries_stand

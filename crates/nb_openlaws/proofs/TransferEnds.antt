@@ -7,7 +7,7 @@ use Rattle.nb_retry.specs.Plans.{first_from}
 use Rattle.nb_terms.specs.declared.cause.Cause.{Cause}
 use Rattle.nb_defs.specs.Causes.{is_ok_cause}
 use Rattle.nb_tftp.specs.Received.{fixed_port}
-use Rattle.nb_tftp.specs.Blocks.{count, is_whole, file}
+use Rattle.nb_tftp.specs.Blocks.{count, is_whole_transfer, file}
 use Rattle.nb_tftp.specs.History.{Call, came, ticked, Entry, got, is_ended, received_by, Watch, watched, watched_call, EachEntry}
 use Rattle.nb_tftp.specs.Sentences.{Meets, OkWhereWhole, answers, IsUnanswered}
 use Rattle.nb_tftp.specs.Endings as told
@@ -74,7 +74,7 @@ last_is es l h e c a call = a.received ∙ got-append h e ∙ ap (λ x. got h ++
 
 -- the transfer's own end has its cause
 told_holds : (es : List Event) (l : Live) (h : List Entry) (e : Entry) (cause : Cause) → TransferTold es l h e → Meets (transfer_of l) l.since (h ++ e ∷ []) → Ending l.since h e cause → Holds l.number es cause
-told_holds es l h e cause a meets (told.by_whole_file c whole) = by_answer (opening_as tftp l) a.opening c (ap is_whole a.received ∙ whole)
+told_holds es l h e cause a meets (told.by_whole_file c whole) = by_answer (opening_as tftp l) a.opening c (ap is_whole_transfer a.received ∙ whole)
 told_holds es l h e cause a meets (told.by_refusal m now number call c refuses) = by_refusal (opening_as tftp l) (file_kind es l h e a) (got h) m number (last_is es l h e (came m now) a call) c refuses
 told_holds es l h e cause a meets (told.by_long_block m now call c long) = by_long_block (opening_as tftp l) (file_kind es l h e a) (got h) m (last_is es l h e (came m now) a call) c long
 told_holds es l h e cause a meets (told.by_unfit_size m now call c unfit) = by_unfit_size (opening_as tftp l) (file_kind es l h e a) (got h) m (last_is es l h e (came m now) a call) c unfit
@@ -99,13 +99,13 @@ within_limit l h e meets running =
     let small = most_of_calls true (transfer_of l) l.since (h ++ e ∷ []) meets (EachEntry-append (λ b x. is_ended b ≡ false) [] h e (stops_from [] h running) running) in
     either_way (is_over_limit (file (got (h ++ e ∷ [])))) (λ large. absurd (omega (arith, small, ltb-true 268435456 (length (file (got (h ++ e ∷ [])))) large))) (λ small. small)
 
-pub whole_as_told : (l : Live) (h : List Entry) (e : Entry) (over : Option Cause) → Meets (transfer_of l) l.since (h ++ e ∷ []) → e.acts.over ≡ over → option_map_or (λ c. c.code == 0) over false ≡ is_whole (got (h ++ e ∷ []))
+pub whole_as_told : (l : Live) (h : List Entry) (e : Entry) (over : Option Cause) → Meets (transfer_of l) l.since (h ++ e ∷ []) → e.acts.over ≡ over → option_map_or (λ c. c.code == 0) over false ≡ is_whole_transfer (got (h ++ e ∷ []))
 whole_as_told l h e over meets is = ap (λ (x : Option Cause). option_map_or (λ c. c.code == 0) x false) (sym is) ∙ EachEntry-last OkWhereWhole [] h e meets.whole
 
 -- its end has its cause, and is Ok exactly where the file is whole
 pub transfer_holds : (es : List Event) (l : Live) (h : List Entry) (e : Entry) (cause : Cause) → TransferTold es l h e → Meets (transfer_of l) l.since (h ++ e ∷ []) → e.acts.over ≡ Some cause →
-    Holds l.number es cause × (is_ok_cause cause ≡ is_whole (lists.datagrams_of l.number es))
+    Holds l.number es cause × (is_ok_cause cause ≡ is_whole_transfer (lists.datagrams_of l.number es))
 transfer_holds es l h e cause a meets over = (
   told_holds es l h e cause a meets (ends_as_told true (transfer_of l) l.since h e cause meets over),
-  whole_as_told l h e (Some cause) meets over ∙ ap is_whole (sym a.received),
+  whole_as_told l h e (Some cause) meets over ∙ ap is_whole_transfer (sym a.received),
 )

@@ -4,7 +4,7 @@ use Rattle.std.specs.List.{flat_map}
 use Rattle.nb_tftp.specs.History.{ticked}
 use Rattle.nb_machine.specs.Lives.{OpenInput, Live}
 use Rattle.nb_laws.specs.Events.{Event, starts, hears, waits, stops, puts}
-use Rattle.nb_laws.specs.Lists.{time, made, port_offset, hardware, opens_by, Opening, opening_at, openings, is_end_of, open_has_ended, live, came_in, call_at, calls, mark_of, mark_at, marks}
+use Rattle.nb_laws.specs.Lists.{time, made, port_offset, hardware, opens_by, Opening, opening_at, openings, is_end_of, open_has_ended, live, came_in, call_at, calls, mark_of_call, mark_at, marks}
 use Rattle.nb_talks.specs.Talking.{by_time}
 use Rattle.nb_streams.specs.Trying.{comes_in}
 use Rattle.nb_webs.specs.Webs.{call_of}
@@ -48,7 +48,7 @@ no_end k (puts o) h = absurd h
 no_end k (starts n s) h = refl
 no_end k _ h = refl
 
-marks_as_calls : (k : ℕ) (es : List Event) (e : Event) → IsUsed e → mark_at k es e ≡ map mark_of (call_at k es e)
+marks_as_calls : (k : ℕ) (es : List Event) (e : Event) → IsUsed e → mark_at k es e ≡ map mark_of_call (call_at k es e)
 marks_as_calls k es (puts o) h = absurd h
 marks_as_calls k es (starts n s) h = refl
 marks_as_calls k es (hears n bytes m) h = refl
@@ -100,7 +100,7 @@ used_same j es e u none = record {
   sessions_are = sessions_stay j es e (no_opening j es e u);
   over_are = over_more j es e ∙ no_or (open_has_ended j es) _ (no_end j e u);
   calls_are = calls_more j es e ∙ no_more (calls j es) _ none.0;
-  marks_are = marks_more j es e ∙ no_more (marks j es) _ (marks_as_calls j es e u ∙ ap (λ z. map mark_of z) none.0);
+  marks_are = marks_more j es e ∙ no_more (marks j es) _ (marks_as_calls j es e u ∙ ap (λ z. map mark_of_call z) none.0);
   came_are = came_more j es e ∙ no_more (brought_to j es) _ none.1;
   try_marks_are = try_marks_more j es e ∙ no_more (try_marks_of j es) _ (try_marks_as_came j es e u ∙ ap (λ z. map (λ c. comes_in (call_of c)) z) none.1);
 }
@@ -130,7 +130,7 @@ has_come es e input l u further h one streamed_one now own due =
       opening = openings_more k es e ∙ no_more (openings k es) _ (no_opening k es e u) ∙ h.opening;
       lives = over_more k es e ∙ no_or (open_has_ended k es) _ (no_end k e u) ∙ h.lives;
       received = calls_more k es e ∙ ap (λ z. calls k es ++ z) one ∙ ap (λ z. z ++ heard_call l.kind input) h.received;
-      tells = marks_more k es e ∙ ap (λ z. marks k es ++ z) (marks_as_calls k es e u ∙ ap (λ z. map mark_of z) one) ∙ ap (λ z. z ++ map mark_of (heard_call l.kind input)) h.tells;
+      tells = marks_more k es e ∙ ap (λ z. marks k es ++ z) (marks_as_calls k es e u ∙ ap (λ z. map mark_of_call z) one) ∙ ap (λ z. z ++ map mark_of_call (heard_call l.kind input)) h.tells;
       streams = came_more k es e ∙ ap (λ z. brought_to k es ++ z) streamed_one ∙ ap (λ z. z ++ came_on input) h.streams;
       tries_stand = try_marks_more k es e ∙ ap (λ z. try_marks_of k es ++ z) (try_marks_as_came k es e u ∙ ap (λ z. map (λ c. comes_in (call_of c)) z) streamed_one) ∙ ap (λ z. z ++ came_marks input) h.tries_stand;
       goes_on = h.goes_on;

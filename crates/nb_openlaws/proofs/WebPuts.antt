@@ -10,7 +10,7 @@ use Rattle.nb_retry.specs.declared.retry.Due.TheVariants.{Not, Again, Over}
 use Rattle.nb_streams.specs.Segments.{Incoming, Arrival}
 use Rattle.nb_streams.specs.Streams.{front, next, grown, IsPrefixOf}
 use Rattle.nb_streams.specs.Flows.{TcpCall, segment_came, time_came, Flow, ConnPhase, asking, flowing, conn_phase, after_tcp_call, held_in, held_after, is_taken, advances, with_segment, size, is_free, is_sending, going_on, answers_syn, establishes, opened_by, established, window_bytes, is_past}
-use Rattle.nb_streams.specs.Sending.{Outgoing, probe, MaySend, without_try, with_first_try, only_if, pure_ack, rst_ack, text_segment, rst_for, brings_more, ongoing_sends, taken_sends, is_answered, segment_sends, calls_for, closing_segment, tried_again}
+use Rattle.nb_streams.specs.Sending.{Outgoing, probe, MaySend, without_try, with_first_try, only_if, pure_ack, rst_ack, text_segment, rst_for, brings_more, ongoing_sends, taken_sends, is_answered_by_ack, segment_sends, calls_for, closing_segment, tried_again}
 use Rattle.nb_streams.specs.Endings.{segment_end}
 use Rattle.nb_talks.specs.Talking.{Came, by_segment, by_time, by_task, talk_after}
 use Rattle.nb_talks.specs.TalkPromises.{Put, PutsSo, closes_by, due_sends}
@@ -74,7 +74,7 @@ taken_tried isn f s =
 flow_tried : (isn : ℕ) (f : Flow) (m : Arrival) (now : ℕ) → AllByRecursion (TriedSo isn (after_tcp_call isn (flowing f) (segment_came m now))) (segment_sends f m.segment)
 flow_tried isn f m now = either (is_taken f m.segment)
     (λ taken. rw taken (taken_tried isn f m.segment))
-    (λ dropped. rw dropped (only_tried isn (flowing f) (is_answered f m.segment) (without_try (pure_ack f)) (λ on. untried isn (flowing f) (pure_ack f))))
+    (λ dropped. rw dropped (only_tried isn (flowing f) (is_answered_by_ack f m.segment) (without_try (pure_ack f)) (λ on. untried isn (flowing f) (pure_ack f))))
 
 -- what a segment calls for
 pub calls_tried : (isn : ℕ) (p : ConnPhase) (m : Arrival) (now : ℕ) → AllByRecursion (TriedSo isn (after_tcp_call isn p (segment_came m now))) (calls_for isn p m.segment)

@@ -9,7 +9,7 @@ use Rattle.nb_retry.specs.declared.retry.Due.{Due}
 use Rattle.nb_retry.specs.declared.retry.Due.TheVariants.{Not, Again, Over}
 use Rattle.nb_streams.specs.Segments.{Arrival}
 use Rattle.nb_streams.specs.Flows.{TcpCall, segment_came, time_came, text_came, Flow, ConnPhase, asking, flowing, conn_phase, after_tcp_call, is_taken, advances, with_segment, is_sending, going_on, answers_syn, establishes, opened_by, window_bytes, has_other_stop, is_past}
-use Rattle.nb_streams.specs.Sending.{Outgoing, without_try, with_first_try, only_if, pure_ack, text_segment, rst_for, brings_more, ongoing_sends, too_long_sends, taken_sends, is_answered, established_sends, calls_for, text_calls_for}
+use Rattle.nb_streams.specs.Sending.{Outgoing, without_try, with_first_try, only_if, pure_ack, text_segment, rst_for, brings_more, ongoing_sends, too_long_sends, taken_sends, is_answered_by_ack, established_sends, calls_for, text_calls_for}
 use Rattle.nb_streams.specs.Trying.{TryTimer, timer_since, segment_timer, text_timer, timer_by, timer_from, timer_after, starting_try, try_of, fired, due_tries, due_fired, TryMark, comes_in, tries_at, mark_tries}
 use Rattle.nb_streams.specs.Endings.{segment_end, taken_end, end_cause}
 use Rattle.nb_talks.specs.Talking.{text_to_send, text_calls}
@@ -65,7 +65,7 @@ ongoing_timed isn f m now w taken short = either (is_sending (advances f m.segme
 
     marks : sends_marks now (calls_for isn (flowing f) m.segment) ≡ sends_marks now (only_if (is_sending (advances f m.segment) (with_segment m.segment f)) (with_first_try text))
     marks =
-        ap (sends_marks now) (ap (λ b. cond b (taken_sends f m.segment) (only_if (is_answered f m.segment) (without_try (pure_ack f)))) taken ∙ ap (λ b. cond b (too_long_sends f m.segment) (ongoing_sends f m.segment)) short)
+        ap (sends_marks now) (ap (λ b. cond b (taken_sends f m.segment) (only_if (is_answered_by_ack f m.segment) (without_try (pure_ack f)))) taken ∙ ap (λ b. cond b (too_long_sends f m.segment) (ongoing_sends f m.segment)) short)
         ∙ marks_of_two now (only_if (brings_more m.segment) (without_try (pure_ack (with_segment m.segment f)))) (only_if (is_sending (advances f m.segment) (with_segment m.segment f)) (with_first_try text))
         ∙ ap (λ z. z ++ sends_marks now (only_if (is_sending (advances f m.segment) (with_segment m.segment f)) (with_first_try text))) (no_mark now (brings_more m.segment) (pure_ack (with_segment m.segment f)))
 
@@ -85,7 +85,7 @@ segment_timed isn (asking text) m now w none = either (establishes isn m.segment
     (λ not_yet. stays (rw not_yet refl) (ap (λ b. sends_marks now (cond b (established_sends (opened_by isn text m.segment)) (only_if (m.segment.ack && (not (answers_syn isn m.segment) && not m.segment.rst)) (without_try (rst_for m.segment))))) not_yet
     ∙ no_mark now (m.segment.ack && (not (answers_syn isn m.segment) && not m.segment.rst)) (rst_for m.segment)))
 segment_timed isn (flowing f) m now w none = either (is_taken f m.segment) (λ taken. ongoing_timed isn f m now w taken (not_past_end isn f m taken none))
-    (λ dropped. stays (rw dropped refl) (ap (λ b. sends_marks now (cond b (taken_sends f m.segment) (only_if (is_answered f m.segment) (without_try (pure_ack f))))) dropped ∙ no_mark now (is_answered f m.segment) (pure_ack f)))
+    (λ dropped. stays (rw dropped refl) (ap (λ b. sends_marks now (cond b (taken_sends f m.segment) (only_if (is_answered_by_ack f m.segment) (without_try (pure_ack f))))) dropped ∙ no_mark now (is_answered_by_ack f m.segment) (pure_ack f)))
 
 -- THE TRIES STAND
 

@@ -80,5 +80,5 @@ is_task (task t now) = true
 is_task (close cause) = false
 
 -- the open was asked nothing by a command
-abbrev pub IsUnasked : List Exchange → Type 0
-IsUnasked xs = list_any (λ x. is_task x.came) xs ≡ false
+abbrev pub IsUnaskedByCommands : List Exchange → Type 0
+IsUnaskedByCommands xs = list_any (λ x. is_task x.came) xs ≡ false

@@ -18,7 +18,7 @@ use Rattle.nb_laws.specs.Events.{Event}
 use Rattle.nb_laws.specs.Histories.{client}
 use Rattle.nb_laws.specs.Webs.{brought_to, told_try_mark, try_marks_of}
 use Rattle.nb_laws.specs.Lists as lists
-use Rattle.nb_laws.specs.Lists.{made, port_offset, Hardware, hardware, Opening, openings, open_has_ended, live, calls, Mark, tries, marks, mark_of}
+use Rattle.nb_laws.specs.Lists.{made, port_offset, Hardware, hardware, Opening, openings, open_has_ended, live, calls, Mark, tries, marks, mark_of_call}
 use Rattle.nb_machine.specs.Lives.{OpenKind, tftp, http, iscsi, dns, dhcp, ping, kind_number, OpenInput, message, tcp_segment, time, task, close, Exchange, Live}
 use Rattle.nb_machine.specs.States.{State, net0}
 use Rattle.nb_machine.specs.Scripts.{net0_mac}
@@ -79,7 +79,7 @@ told_tries k now outs = flat_map (told_try k now) outs
 
 -- what an exchange of open k is in the history: what came, and then the tries that it tells
 abbrev pub exchange_marks : OpenKind → ℕ → Exchange → List Mark
-exchange_marks kind k x = map mark_of (heard_call kind x.came) ++ told_tries k (moment_in x.came) x.put
+exchange_marks kind k x = map mark_of_call (heard_call kind x.came) ++ told_tries k (moment_in x.came) x.put
 
 abbrev pub heard_marks : OpenKind → ℕ → List Exchange → List Mark
 heard_marks kind k xs = flat_map (exchange_marks kind k) xs

@@ -7,7 +7,7 @@ use Rattle.nb_ledger.specs.declared.port.Port.{Port}
 use Rattle.nb_ledger.specs.declared.port.ObjId.{ObjId}
 use Rattle.nb_ledger.specs.declared.event.GraphEvent.{GraphEvent}
 use Rattle.nb_ledger.specs.declared.event.GraphEvent.TheVariants.{Made, Held, LetGo, Plugged, Entered, Left, Dropped, Closed, Unplugged, Freed}
-use Rattle.nb_ledger.specs.GraphRun.{OnStack, Running, MustClose, MustEnter, MustUnplug, MustFree, GraphState, IsIdle, ClosesPort, alone, linked, peer, GraphRunOf, links, entries, object_count, owed, but_at, with_stack}
+use Rattle.nb_ledger.specs.GraphRun.{OnStack, Running, MustClose, MustEnter, MustUnplug, MustFree, GraphState, IsIdle, ClosesPort, alone, linked, peer, GraphRunOf, links, running_entries, object_count, owed, but_at, with_stack}
 use Rattle.nb_ledger.proofs.CountLemmas.{owed-zero, owed-some}
 
 -- x is not the next that is to be freed, nor any after it
@@ -146,7 +146,7 @@ only_freed x (Freed y ∷ es) s t (m, step, run) top none =
     (es, ap (λ (i : ObjId). Freed i ∷ es) same)
 
 -- without holds, links and entries there is no count
-uncounted : (s : GraphState) (x : ℕ) → s.holds x ≡ 0 → links s x ≡ 0 → entries s.stack x ≡ 0 → object_count s x ≡ 0
+uncounted : (s : GraphState) (x : ℕ) → s.holds x ≡ 0 → links s x ≡ 0 → running_entries s.stack x ≡ 0 → object_count s x ≡ 0
 unfolding object_count
 uncounted s x h l e = omega (arith, h, l, e)
 
@@ -159,6 +159,6 @@ pub let_go_frees : (x : ObjId) (es : List GraphEvent) (s t : GraphState) → Gra
 let_go_frees x es s t (m, step, run) empty none held loose =
     let u : GraphState = record s { holds = but_at x.0 (s.holds x.0 - 1) s.holds } in
     let no_hold : u.holds x.0 ≡ 0 = but_here x.0 (s.holds x.0 - 1) s.holds ∙ omega (arith, held) in
-    let no_entry : entries u.stack x.0 ≡ 0 = ap (λ (st : List OnStack). entries st x.0) empty in
+    let no_entry : running_entries u.stack x.0 ≡ 0 = ap (λ (st : List OnStack). running_entries st x.0) empty in
     let owing = owed-zero u x.0 (uncounted u x.0 no_hold loose no_entry) in
     only_freed x es m t run (ap (λ (z : GraphState). z.stack) (step.2 ∙ owing) ∙ ap (λ (st : List OnStack). MustFree x.0 ∷ st) empty) none

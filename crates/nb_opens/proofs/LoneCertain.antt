@@ -7,7 +7,7 @@ use Rattle.nb_terms.specs.declared.cause.Cause.{Cause}
 use Rattle.nb_retry.specs.declared.retry.Due.{Due}
 use Rattle.nb_retry.specs.declared.retry.Due.TheVariants.{Not, Again, Over}
 use Rattle.nb_graph.specs.Trace.{Said}
-use Rattle.nb_dns.specs.Lookups.{Lookup, query_to, asks_nothing, asks_try, asks_end, asks_by, lookup_timed_out}
+use Rattle.nb_dns.specs.Lookups.{Lookup, query_to, asks_lookup_nothing, asks_lookup_try, asks_lookup_end, asks_by, lookup_timed_out}
 use Rattle.nb_dns.specs.LookupCalls.{arrived, clocked, DnsDatagram, LookupEntry, lookup_entry, datagrams, said_by, EachLookupEntry}
 use Rattle.nb_dns.specs.LookupPromises.{AsksAt, AsksInTurn}
 use Rattle.nb_dhcp.specs.declared.asker.Asker.{Asker}
@@ -27,9 +27,9 @@ use Rattle.nb_opens.proofs.LoneExchanges.{IsCertain}
 
 -- a call asks for nothing, for one message as a try, or for the end
 data IsPlain (send : SendTo) : Acts → Type 0 where
-  silent : IsPlain send asks_nothing
-  tries : (n : ℕ) → IsPlain send (asks_try send n)
-  stops : (c : Cause) → IsPlain send (asks_end c)
+  silent : IsPlain send asks_lookup_nothing
+  tries : (n : ℕ) → IsPlain send (asks_lookup_try send n)
+  stops : (c : Cause) → IsPlain send (asks_lookup_end c)
 
 abbrev first_number : List Said → ℕ
 first_number [] = 0
@@ -45,11 +45,11 @@ one_plain send rec _ _ silent silent d c = refl
 one_plain send rec _ _ silent (tries n) d c = absurd (let z = d in cc)
 one_plain send rec _ _ silent (stops e) d c = absurd (let z = c in cc)
 one_plain send rec _ _ (tries n) silent d c = absurd (let z = d in cc)
-one_plain send rec _ _ (tries n) (tries k) d c = ap (asks_try send) (ap first_number d)
+one_plain send rec _ _ (tries n) (tries k) d c = ap (asks_lookup_try send) (ap first_number d)
 one_plain send rec _ _ (tries n) (stops e) d c = absurd (let z = d in cc)
 one_plain send rec _ _ (stops b) silent d c = absurd (let z = c in cc)
 one_plain send rec _ _ (stops b) (tries n) d c = absurd (let z = d in cc)
-one_plain send rec _ _ (stops b) (stops e) d c = ap asks_end (ap (first_cause b) c)
+one_plain send rec _ _ (stops b) (stops e) d c = ap asks_lookup_end (ap (first_cause b) c)
 
 -- what is said of each call, of the last and of those before it
 last_look : (P : List LookupEntry → LookupEntry → Type 0) (before calls : List LookupEntry) (e : LookupEntry) → EachLookupEntry P before (calls ++ e ∷ []) → EachLookupEntry P before calls × P (before ++ calls) e

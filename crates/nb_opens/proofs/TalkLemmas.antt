@@ -19,7 +19,7 @@ use Rattle.nb_nodes.specs.declared.tag.Tag.TheVariants.{Begin}
 use Rattle.nb_nodes.specs.Tags.{tag_number}
 use Rattle.nb_nodes.specs.Asking.{AskValue, ask_in, begun_with}
 use Rattle.nb_nodes.specs.Carried.{EffectsOf, downs_of, end_closes}
-use Rattle.nb_nodes.specs.Conversations.{Conversation, unbegun, under_way, over, cancelled, ended_of, talk_went_on, is_begin, is_idle, is_fatal, Continues, begins, receives, ticks, ends, rests, RunsTo}
+use Rattle.nb_nodes.specs.Conversations.{Conversation, unbegun, under_way, over, cancelled, conversation_ended, talk_went_on, is_begin, is_idle, is_fatal, Continues, begins, receives, ticks, ends, rests, RunsTo}
 
 -- the calls of a conversation meet the promises
 abbrev pub TalkMeets : Conversation → Type 0
@@ -50,7 +50,7 @@ asks_either : (o : Bool) (b : Begun) (start : ℕ) (calls : List Step) → TalkA
 asks_either true b start calls h = h
 asks_either false b start calls h = h
 
-asks_ended : (v : Conversation) → TalkAsks (ended_of v) → TalkAsks v
+asks_ended : (v : Conversation) → TalkAsks (conversation_ended v) → TalkAsks v
 asks_ended unbegun h = tt
 asks_ended (under_way b start calls) h = h
 asks_ended (over b start calls) h = h

@@ -7,7 +7,7 @@ use Rattle.std.proofs.lemmas.List.{append-nil}
 use Rattle.nb_retry.specs.declared.plan.Plan.TheVariants.{Common}
 use Rattle.nb_retry.specs.declared.retry.Due.{Due}
 use Rattle.nb_retry.specs.declared.retry.Due.TheVariants.{Not, Again, Over}
-use Rattle.nb_retry.specs.Calls.{fires, TimerStands as TimerStands}
+use Rattle.nb_retry.specs.Calls.{fires, TimerStands}
 use Rattle.nb_retry.specs.Plans.{Asked, asked_at, firings, waits}
 use Rattle.nb_retry.specs.Timer.{started, due_at, after}
 use Rattle.nb_retry.proofs.PlanLemmas.{Stands-append as TimerStands-append, follows_plan, after-since}

@@ -1,7 +1,7 @@
 -- What a ping stands for: all the calls since its start
 use Rattle.std.specs.Prelude.{◌≡◌, ℕ, Bool, true, false, List}
 use Rattle.nb_retry.specs.declared.plan.Plan.TheVariants.{Common}
-use Rattle.nb_retry.specs.Calls.{TimerStands as TimerStands}
+use Rattle.nb_retry.specs.Calls.{TimerStands}
 use Rattle.nb_ping.specs.declared.state.State.{State}
 use Rattle.nb_ping.specs.declared.state.PingPhase.{PingPhase}
 use Rattle.nb_ping.specs.declared.state.PingPhase.TheVariants.{Waiting, Ended}

@@ -4,8 +4,8 @@ use Rattle.nb_record.specs.Logged.{Logged}
 use Rattle.nb_record.specs.declared.log.LogPlace.{LogPlace}
 
 -- the place at which a log is
-abbrev pub place_in : Logged → LogPlace
-place_in l = record { len = length l.bytes; is_short = l.is_short }
+abbrev pub place_in_log : Logged → LogPlace
+place_in_log l = record { len = length l.bytes; is_short = l.is_short }
 
 -- the bytes before each place stay
 abbrev pub KeepsFront : List ℕ → List ℕ → Type 0

@@ -7,7 +7,7 @@ use Rattle.std.proofs.lemmas.List.{take_all, length-append, take-append-le}
 use Rattle.nb_responses.specs.Lines.{Found, found, missing, too_many, too_long, head_block, limit, most_lines}
 use Rattle.nb_responses.specs.Heads.{Framing, sized, chunked, to_end, bad, framing}
 use Rattle.nb_responses.specs.Chunks.{Verdict, more, open_body, body, moved, status, broken, large, long, many, Response, response}
-use Rattle.nb_responses.specs.Responses.{most_bytes, within_limit, sized_verdict, sized_response, ReadsBody, Final, no_block, no_head, by_head, by_body, no_block_verdict, ReadsSoFar, at_end, before_end, by_end, ResponseOf}
+use Rattle.nb_responses.specs.Responses.{most_bytes, within_limit, sized_verdict, sized_response, ReadsBody, Final, no_block, no_head, by_head, by_body, no_block_verdict, ReadsSoFar, verdict_at_end, before_end, by_end, ResponseOf}
 use Rattle.nb_responses.proofs.BlockLaws.{take_longer, longer_found, found_more}
 use Rattle.nb_responses.proofs.ChunkedLaws.{Grown, chunked_grown}
 use Rattle.nb_responses.proofs.ResponseLaws.{reads_unique}
@@ -120,7 +120,7 @@ so_far_longer text later r s x ends = record {
 }
 
 -- a decided verdict is the same before the stream's end and at it
-same_at_end : (v : Verdict) → before_end v ≢ more → at_end v ≡ before_end v
+same_at_end : (v : Verdict) → before_end v ≢ more → verdict_at_end v ≡ before_end v
 same_at_end more decided = absurd (decided refl)
 same_at_end open_body decided = absurd (decided refl)
 same_at_end body decided = refl

@@ -34,13 +34,13 @@ abbrev pub is_decimal : List ℕ → Bool
 is_decimal [] = false
 is_decimal (d ∷ ds) = list_all is_ascii_digit (d ∷ ds)
 
-abbrev pub has_value : ℕ → List ℕ → Bool
-has_value n digits = is_decimal digits && digits_value 10 digits == n
+abbrev pub has_decimal_value : ℕ → List ℕ → Bool
+has_decimal_value n digits = is_decimal digits && digits_value 10 digits == n
 
 -- by the values of Transfer-Encoding, which go first, and those of Content-Length
 abbrev pub framing_by : List (List ℕ) → List (List ℕ) → Framing
 framing_by [] [] = to_end
-framing_by [] (v ∷ vs) = if list_all (has_value (digits_value 10 v)) (v ∷ vs)
+framing_by [] (v ∷ vs) = if list_all (has_decimal_value (digits_value 10 v)) (v ∷ vs)
     then sized (digits_value 10 v) else bad
 framing_by (v ∷ []) lengths = if is_same_word (codes "chunked") v then chunked else bad
 framing_by (v ∷ w ∷ vs) lengths = bad

@@ -74,16 +74,16 @@ pub record ReadsSoFar (text : List ℕ) (r : Response) : Type 0 where
   pub ends : Final rest r
 
 -- the stream's end decides what isn't decided
-abbrev pub at_end : Verdict → Verdict
-at_end more = broken
-at_end open_body = body
-at_end body = body
-at_end (moved text) = moved text
-at_end (status code) = status code
-at_end broken = broken
-at_end large = large
-at_end long = long
-at_end many = many
+abbrev pub verdict_at_end : Verdict → Verdict
+verdict_at_end more = broken
+verdict_at_end open_body = body
+verdict_at_end body = body
+verdict_at_end (moved text) = moved text
+verdict_at_end (status code) = status code
+verdict_at_end broken = broken
+verdict_at_end large = large
+verdict_at_end long = long
+verdict_at_end many = many
 
 abbrev pub before_end : Verdict → Verdict
 before_end open_body = more
@@ -97,7 +97,7 @@ before_end long = long
 before_end many = many
 
 abbrev pub by_end : Bool → Response → Response
-by_end ended r = record r { verdict = if ended then at_end r.verdict else before_end r.verdict }
+by_end ended r = record r { verdict = if ended then verdict_at_end r.verdict else before_end r.verdict }
 
 -- the response of a stream, by what has come of it and whether that is all
 pub record ResponseOf (stream : List ℕ) (ended : Bool) (r : Response) : Type 0 where

@@ -20,9 +20,9 @@ use Rattle.nb_imagecmd.specs.declared.error.ImageFailure.TheVariants.{ManyScript
 use Rattle.nb_imagecmd.specs.declared.outcome.ImageOutcome.{ImageOutcome}
 use Rattle.nb_imagecmd.specs.declared.outcome.ImageOutcome.TheVariants as outcome
 use Rattle.nb_imagecmd.specs.declared.outcome.ScriptImage.{ScriptImage}
-use Rattle.nb_imagecmd.specs.Asking.{MayBeFetched, asked_by, asked_file, asked_name, asking_of, has_long_path, is_file}
+use Rattle.nb_imagecmd.specs.Asking.{MayBeFetched, asked_resolved, asked_file, asked_name, asking_of, has_long_path, is_file}
 use Rattle.nb_imagecmd.specs.CarryingOut.{IfAsks, asking_answer, select_at, execute_at, set_args_at, image_effect}
-use Rattle.nb_imagecmd.specs.Executing.{ImageAnswer, selected_with, executed_kind, executed_image, executed_selected, is_too_deep, taken_from, script_taken}
+use Rattle.nb_imagecmd.specs.Executing.{ImageAnswer, selected_with, executed_kind, executed_image, executed_selected, is_too_deep, script_taken_from, script_taken}
 use Rattle.nb_imagecmd.specs.Freeing.{is_kept, are_all_listed}
 use Rattle.nb_imagecmd.specs.Promises.{IsShortName, IsShortLine}
 use Rattle.nb_imagecmd.specs.Stat.{is_at, stat_line, stat_lines}
@@ -76,7 +76,7 @@ asked_args base name uri args a few = by (resolution base uri)
     unless false true target why other = tt
     unless false false target why other = few
 
-    by : (r : Result UriTarget UriError) → HasArgs (asked_by r name args a)
+    by : (r : Result UriTarget UriError) → HasArgs (asked_resolved r name args a)
     by (Ok target) = unless (not (is_file target)) (has_long_path target || nat_lt 255 (length (asked_name name target))) target _ _
     by (Err why) = tt
 
@@ -193,11 +193,11 @@ script_well : (i : ℕ) (replace : Bool) (depth : ℕ) (list : ImageList) → Ar
 unfolding script_taken
 script_well i replace depth list short = by (is_too_deep replace depth) refl
   where
-    from : is_too_deep replace depth ≡ false → (o : Option Image) → TakenWell replace depth (taken_from o i list)
+    from : is_too_deep replace depth ≡ false → (o : Option Image) → TakenWell replace depth (script_taken_from o i list)
     from e None = tt
     from e (Some image) = record { shallow = deep_enough replace depth e; short = all_remove IsShortImage list.images i short }
 
-    by : (b : Bool) → is_too_deep replace depth ≡ b → TakenWell replace depth (cond b (Err ManyScripts) (taken_from (slice_get list.images i) i list))
+    by : (b : Bool) → is_too_deep replace depth ≡ b → TakenWell replace depth (cond b (Err ManyScripts) (script_taken_from (slice_get list.images i) i list))
     by true e = tt
     by false e = from e (slice_get list.images i)
 

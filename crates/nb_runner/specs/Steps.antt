@@ -24,8 +24,8 @@ GoesToLabel ws (Some line) s t old new = (t ≡ behind_line s line)
 GoesToLabel ws None s t old new = (t ≡ further s no_label) × Puts old new (out_texts (command_records s ws (refused no_label)))
 
 -- a script of this depth, before its first line, where so many commands began in this step
-abbrev pub begun_script : ℕ → Option (List ℕ) → List Line → ℕ → Running
-begun_script depth base code begun = record { depth = depth; base = base; code = code; passed = 0; rest = []; place = 0; last = ok; begun = begun }
+abbrev pub script_begun : ℕ → Option (List ℕ) → List Line → ℕ → Running
+script_begun depth base code begun = record { depth = depth; base = base; code = code; passed = 0; rest = []; place = 0; last = ok; begun = begun }
 
 -- the innermost of the scripts outside, if there are any, and the others
 abbrev pub IsPopped : Option Running → List Running → List Running → Type 0

@@ -76,5 +76,5 @@ abbrev pub world_within : World → List Running → World
 world_within w outer = record { w = w.w; machine = w.machine; time = w.time; net = w.net; opens = w.opens; state = w.state; outer = outer }
 
 -- what a command finds of a script that was fetched from this URI, if it was, and is of this depth
-abbrev pub surroundings_in : World → Option (List ℕ) → ℕ → Surroundings
-surroundings_in w base depth = record { opens = w.opens; table = w.state.table; images = w.state.images; drives = w.state.drives; base = base; depth = depth }
+abbrev pub surroundings_in_world : World → Option (List ℕ) → ℕ → Surroundings
+surroundings_in_world w base depth = record { opens = w.opens; table = w.state.table; images = w.state.images; drives = w.state.drives; base = base; depth = depth }

@@ -11,7 +11,7 @@ ghost use Rattle.nb_runner.specs.CommandWords.{IsHookedWell};
 ghost use Rattle.nb_runner.specs.Drives.{FitsDriveOutcome, IsOfHooked, LeavesRoom, MayIntend};
 ghost use Rattle.nb_runner.specs.Following.{following_of, CanFollow};
 ghost use Rattle.nb_runner.specs.Intents.{intent_effect};
-ghost use Rattle.nb_runner.specs.World.{surroundings_in};
+ghost use Rattle.nb_runner.specs.World.{surroundings_in_world};
 
 use crate::World;
 use crate::errand::Errand;
@@ -91,7 +91,7 @@ impl World {
         command: &DriveCommand,
         own: Option<&[u8]>,
     ) -> Result<Intent, NoMemory>
-        ensures value { (depth : ℕ) → IfOk result (λ i. drives_effect (surroundings_in self.now (option_copied own.entry) depth) command.now
+        ensures value { (depth : ℕ) → IfOk result (λ i. drives_effect (surroundings_in_world self.now (option_copied own.entry) depth) command.now
             ≡ intent_effect i) }
         ensures may { (opens : ℕ) → IfOk result (λ i. MayIntend opens self.now.state.drives i) }
     {

@@ -12,7 +12,7 @@ ghost use Rattle.nb_machine.specs.Effects.{Surroundings, image_outcome_effect, i
 ghost use Rattle.nb_imagecmd.specs.Executing.{script_taken};
 ghost use Rattle.nb_runner.specs.Handings.{AreShortImages};
 ghost use Rattle.nb_runner.specs.ImageDeeds.{FitsOutcome, HasShortArgs, image_deed_effect, IsDeedWell, IsUnmoved, MayFollow};
-ghost use Rattle.nb_runner.specs.World.{surroundings_in, world_with_images};
+ghost use Rattle.nb_runner.specs.World.{surroundings_in_world, world_with_images};
 
 use crate::World;
 use crate::intent::{Intent, intend_file};
@@ -87,7 +87,7 @@ impl World {
         requires named { HasShortNames self.old.state.images }
         requires short { AreShortImages self.old.state.images.images }
         requires args { HasShortArgs command.now }
-        ensures value { IfOk result (λ d. images_effect (surroundings_in self.old (option_copied own.entry) depth) command.now
+        ensures value { IfOk result (λ d. images_effect (surroundings_in_world self.old (option_copied own.entry) depth) command.now
             ≡ image_deed_effect d self.new.state.images) }
         ensures after { OnOk result (self.new ≡ world_with_images self.old self.new.state.images) }
         ensures well { IfOk result (λ d. IsDeedWell d depth self.old.opens self.old.state.images self.new.state.images) }

@@ -12,7 +12,7 @@ ghost use Rattle.nb_machine.specs.Running.{Running, first_script, script_within,
 ghost use Rattle.nb_runner.specs.declared.running.Next.TheVariants as next;
 ghost use Rattle.nb_machine.specs.Effects.{shown_as};
 ghost use Rattle.nb_machine.specs.CommandRecords.{command_record, command_records, prints};
-ghost use Rattle.nb_runner.specs.Steps.{Does, GoesToLabel, begun_script};
+ghost use Rattle.nb_runner.specs.Steps.{Does, GoesToLabel, script_begun};
 ghost use Rattle.nb_runner.specs.NextCommand.{IsReady, IsNext, IsExpansion, list_of};
 ghost use Rattle.nb_runner.specs.CommandWords.{done_of};
 
@@ -163,7 +163,7 @@ impl RunningScript {
     ) -> Result<RunningScript, NoMemory>
         requires short { length script ≤ 1048576 }
         requires few { begun ≤ 4096 }
-        ensures { IfOk result (λ s. s ≡ begun_script depth base script begun) }
+        ensures { IfOk result (λ s. s ≡ script_begun depth base script begun) }
     {
         let start = Progress {
             depth,

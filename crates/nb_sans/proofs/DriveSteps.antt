@@ -5,7 +5,7 @@ use Rattle.std.proofs.lemmas.Bool.{le-leb, or_parts}
 use Rattle.std.proofs.lemmas.List.{take-append-le, length-append, take_all, take-append-drop, drop_all, drop-append-le}
 use Rattle.nb_terms.specs.declared.cause.Cause.{Cause}
 use Rattle.nb_disk.specs.Histories.{DiskCall, asked, DiskReading, nothing_read, SessionNumbers, after_call, reading}
-use Rattle.nb_disk.specs.DiskAnswers.{disk_answer, ended_from, has_ended}
+use Rattle.nb_disk.specs.DiskAnswers.{disk_answer, ended_from, session_has_ended}
 use Rattle.nb_sans.specs.Sessions.{ReadTask, stream_parts, comes_from, is_call, taken_from, text_of_put, puts_from, over_from}
 use Rattle.nb_sans.specs.SessionSteps.{AreAskedBy, said_to}
 use Rattle.nb_sans.proofs.StreamGrowth.{parts_grow}
@@ -134,15 +134,15 @@ over_on o r (call ∷ calls) more e =
     by (Some cause) off = absurd cc
 
 -- what comes to calls that hadn't ended
-then_lives : (o : SessionNumbers) (calls : List DiskCall) (call : DiskCall) → has_ended o calls ≡ false → call_then o nothing_read calls call ≡ (if is_call (reading o calls) call then call ∷ [] else [])
+then_lives : (o : SessionNumbers) (calls : List DiskCall) (call : DiskCall) → session_has_ended o calls ≡ false → call_then o nothing_read calls call ≡ (if is_call (reading o calls) call then call ∷ [] else [])
 unfolding call_then
 then_lives o calls call e = ap (λ b. if b then [] else (if is_call (reading o calls) call then call ∷ [] else [])) e
 
-pub taken_then : (o : SessionNumbers) (comes : List DiskCall) (call : DiskCall) → has_ended o (taken_from o nothing_read comes) ≡ false
+pub taken_then : (o : SessionNumbers) (comes : List DiskCall) (call : DiskCall) → session_has_ended o (taken_from o nothing_read comes) ≡ false
     → taken_from o nothing_read (comes ++ call ∷ []) ≡ taken_from o nothing_read comes ++ (if is_call (reading o (taken_from o nothing_read comes)) call then call ∷ [] else [])
 taken_then o comes call e = taken_on o nothing_read comes call ∙ ap (λ (l : List DiskCall). taken_from o nothing_read comes ++ l) (then_lives o (taken_from o nothing_read comes) call e)
 
-pub part_ends : (o : SessionNumbers) (comes : List DiskCall) (part : DiskCall) → ((r : DiskReading) → is_call r part ≡ true) → has_ended o (taken_from o nothing_read comes) ≡ false
+pub part_ends : (o : SessionNumbers) (comes : List DiskCall) (part : DiskCall) → ((r : DiskReading) → is_call r part ≡ true) → session_has_ended o (taken_from o nothing_read comes) ≡ false
     → over_from o nothing_read (taken_from o nothing_read (comes ++ part ∷ [])) ≡ (disk_answer o (reading o (taken_from o nothing_read comes)) part).over
 part_ends o comes part is lives =
     let one = ap (λ b. if b then part ∷ [] else []) (is (reading o (taken_from o nothing_read comes))) in

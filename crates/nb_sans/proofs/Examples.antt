@@ -14,7 +14,7 @@ use Rattle.nb_iscsipdu.specs.Answers.{DataInParts}
 use Rattle.nb_login.specs.declared.session.Session.{Session}
 use Rattle.nb_disk.specs.Histories.{DiskReading, nothing_read}
 use Rattle.nb_disk.specs.DiskAnswers.{opened_of}
-use Rattle.nb_sans.specs.Targets.{ServesData, Serves}
+use Rattle.nb_sans.specs.Targets.{ServesData, ServesCalls}
 use Rattle.nb_sans.specs.Sessions.{ReadTask, drive_calls, session_come, said_after_login, session_end, session_capacity, session_chap, task_answers, blocks_read, tasks_taken}
 
 info : LoginInfo
@@ -165,7 +165,7 @@ sevens = replicate 4096 7
 known : (disk : List ℕ) (r : DiskReading) (d : DataInParts) (work command : Command) → Some work ≡ Some command → ServesData disk r work d → ServesData disk r command d
 known disk r d work command is serves = subst (λ (c : Command). ServesData disk r c d) (same_Some work command is) serves
 
-serves : Serves sevens (opened_of session) nothing_read (drive_calls 0 info all read_block session)
+serves : ServesCalls sevens (opened_of session) nothing_read (drive_calls 0 info all read_block session)
 unfolding before opening sizing block all head info read_block word_at answer_read by_response has_digest has_other_value chooses_chap has_value names_method session sevens
 serves = (
   λ command work tag good. ap asked_len (same_Some TestUnitReady command work),

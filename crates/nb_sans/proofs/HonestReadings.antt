@@ -9,7 +9,7 @@ use Rattle.nb_iscsipdu.specs.declared.answer.ScsiResponse.{ScsiResponse}
 use Rattle.nb_iscsipdu.specs.Commands.{asked_len}
 use Rattle.nb_iscsipdu.specs.Answers.{AnswerParts, DataInParts, login, scsi, data_in, nop_in, other, answer_read}
 use Rattle.nb_disk.specs.Histories.{DiskCall, came, asked, stream_ended, TaskResult, DiskReading, nothing_read, with_status, with_bytes, SessionNumbers, tag_at_work, command_at_work, at_work, completes, fits, after_answer, after_call}
-use Rattle.nb_sans.specs.Targets.{data_for, StandAt, ServesData, ServesAnswer, ServesCall, Serves}
+use Rattle.nb_sans.specs.Targets.{data_for, StandAt, ServesData, ServesAnswer, ServesCall, ServesCalls}
 use Rattle.nb_sans.proofs.GoodResults.{IsGoodFor, GoodResults, add_result, more_asked, work_stays}
 
 -- ---- what was read
@@ -121,11 +121,11 @@ module _ (disk : List ℕ) (o : SessionNumbers) (r : DiskReading) (honest : IsHo
   }
   call_honest (stream_ended rec) serves = honest
 
-pub calls_honest : (disk : List ℕ) (o : SessionNumbers) (r : DiskReading) (calls : List DiskCall) → IsHonest disk r → Serves disk o r calls → IsHonest disk (fold (after_call o) r calls)
+pub calls_honest : (disk : List ℕ) (o : SessionNumbers) (r : DiskReading) (calls : List DiskCall) → IsHonest disk r → ServesCalls disk o r calls → IsHonest disk (fold (after_call o) r calls)
 calls_honest disk o r [] honest serves = honest
 calls_honest disk o r (call ∷ calls) honest serves = calls_honest disk o (after_call o r call) calls (call_honest disk o r honest call serves.0) serves.1
 
 -- what serves, does so as far as it has come
-pub serves_less : (disk : List ℕ) (o : SessionNumbers) (r : DiskReading) (calls more : List DiskCall) → Serves disk o r (calls ++ more) → Serves disk o r calls
+pub serves_less : (disk : List ℕ) (o : SessionNumbers) (r : DiskReading) (calls more : List DiskCall) → ServesCalls disk o r (calls ++ more) → ServesCalls disk o r calls
 serves_less disk o r [] more serves = tt
 serves_less disk o r (call ∷ calls) more serves = (serves.0, serves_less disk o (after_call o r call) calls more serves.1)

@@ -16,7 +16,7 @@ use Rattle.nb_login.specs.Logins.{after_came, login_history, login_said, text_of
 use Rattle.nb_disk.specs.Histories.{DiskCall, came, asked, stream_ended, nothing_read, SessionNumbers, at_work}
 use Rattle.nb_disk.specs.DiskAnswers.{opened_of}
 use Rattle.nb_disk.specs.DiskStands.{is_out}
-use Rattle.nb_sans.specs.Sessions.{ReadTask, last_part, parts_of, stream_parts, pdus_came, login_so_far, session_come, comes_from, drive_comes, taken_from, drive_calls, puts_from, opening_command, said_after_login, session_says}
+use Rattle.nb_sans.specs.Sessions.{ReadTask, last_part, parts_of_cut, stream_parts, pdus_came, login_so_far, session_come, comes_from, drive_comes, taken_from, drive_calls, puts_from, opening_command, said_after_login, session_says}
 use Rattle.nb_sans.specs.SessionSteps.{AreAskedBy, CallsFollowWhatComes, opening_of}
 use Rattle.nb_sans.proofs.StreamGrowth.{cut_stays}
 use Rattle.nb_sans.proofs.SessionGrowth.{ended_stays}
@@ -97,7 +97,7 @@ module _ (rec : ℕ) (i : LoginInfo) (come later : List ℕ) (tasks : List (Read
 
       by : (b : Bool) → is_refused (cut come).rest ≡ b → length (stream_parts rec (come ++ later)) ≤ length (login_so_far rec i (come ++ later))
       by true e =
-          let same : length (stream_parts rec (come ++ later)) ≡ length (stream_parts rec come) = ap (λ (c : Cut). length (parts_of rec c)) (cut_stays come later e) in
+          let same : length (stream_parts rec (come ++ later)) ≡ length (stream_parts rec come) = ap (λ (c : Cut). length (parts_of_cut rec c)) (cut_stays come later e) in
           absurd (omega (arith, more, same))
       by false e =
           let parts : length (stream_parts rec come) ≡ length (map (came rec) (cut come).pdus) + length (last_part rec (cut come).rest) = length-append (map (came rec) (cut come).pdus) (last_part rec (cut come).rest) in

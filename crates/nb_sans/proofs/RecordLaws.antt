@@ -17,7 +17,7 @@ use Rattle.nb_login.specs.LoginStands.{session_opened}
 use Rattle.nb_login.specs.LoginRecords.{pdus_alone, AreAlikeLogins}
 use Rattle.nb_login.proofs.LoginRecordLaws.{records_show as records_alone}
 use Rattle.nb_disk.specs.Histories.{DiskCall, came, asked, stream_ended, DiskReading, nothing_read, SessionNumbers, completes, fits, after_call, at_work, capacity_of}
-use Rattle.nb_disk.specs.DiskAnswers.{DiskAnswer, ends, opened_of, answered, bytes_answer, data_answer, response_answer, pdu_answer, disk_answer, ended_from}
+use Rattle.nb_disk.specs.DiskAnswers.{DiskAnswer, ends, opened_of, command_answered, bytes_answer, data_answer, response_answer, pdu_answer, disk_answer, ended_from}
 use Rattle.nb_sans.specs.Sessions.{ReadTask, last_part, stream_parts, pdus_came, login_so_far, session_come, comes_from, drive_comes, is_call, taken_from}
 use Rattle.nb_sans.specs.RecordNumbers.{brought_by, OnlyEndsShowRecords}
 
@@ -40,7 +40,7 @@ by_test true x y v w one two = one
 by_test false x y v w one two = two
 
 module _ (o : SessionNumbers) (r : DiskReading) (one two : ℕ) where
-  answered_same : (command : Command) (bytes : List ℕ) (s : TaskStatus) → SameBut (answered o r one command bytes s) (answered o r two command bytes s)
+  answered_same : (command : Command) (bytes : List ℕ) (s : TaskStatus) → SameBut (command_answered o r one command bytes s) (command_answered o r two command bytes s)
   answered_same TestUnitReady bytes s =
       by_test (eqb s.status 0) _ _ _ _ (same _) (by_test (eqb s.status 2 && ltb (length r.results) 3) _ _ _ _ (same _) (both_end _ _))
   answered_same ReadCapacity bytes s =

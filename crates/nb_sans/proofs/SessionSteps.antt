@@ -11,7 +11,7 @@ use Rattle.nb_login.specs.LoginHistory.{PduCame, pdu_came, LoginEntry, login_ent
 use Rattle.nb_login.specs.LoginStands.{session_opened}
 use Rattle.nb_login.specs.Logins.{after_came, login_history, login_said}
 use Rattle.nb_disk.specs.Histories.{DiskCall, came, asked, stream_ended, DiskReading, nothing_read, reading}
-use Rattle.nb_disk.specs.DiskAnswers.{opened_of, disk_answer, has_ended}
+use Rattle.nb_disk.specs.DiskAnswers.{opened_of, disk_answer, session_has_ended}
 use Rattle.nb_sans.specs.Sessions.{ReadTask, last_part, stream_parts, pdus_came, login_so_far, session_come, comes_from, drive_comes, takes_read, is_call, taken_from, drive_calls, puts_from, opening_command, said_after_login, session_says, over_from, over_or_short, session_end_by, session_end}
 use Rattle.nb_sans.specs.SessionSteps.{AreAskedBy, said_to, said_to_task}
 use Rattle.nb_sans.proofs.SessionGrowth.{answers_stay, opened_ended, stays_open, said_same}
@@ -107,7 +107,7 @@ part_is : (rec : ℕ) (come later : List ℕ) (part : DiskCall) → stream_parts
 part_is rec come later part is = part_counts part (all_last IsOfStream (stream_parts rec come) part (subst (AllByRecursion IsOfStream) is (each_part rec (come ++ later))))
 
 pub part_end_step : (rec : ℕ) (i : LoginInfo) (come later : List ℕ) (ended : Bool) (tasks : List (ReadTask × ℕ)) (s : Session) (part : DiskCall) → AreAskedBy come tasks
-    → session_come rec i come ≡ Some s → has_ended (opened_of s) (drive_calls rec i come tasks s) ≡ false
+    → session_come rec i come ≡ Some s → session_has_ended (opened_of s) (drive_calls rec i come tasks s) ≡ false
     → stream_parts rec (come ++ later) ≡ stream_parts rec come ++ part ∷ []
     → session_end rec i (come ++ later) ended tasks ≡ over_or_short rec ended (disk_answer (opened_of s) (reading (opened_of s) (drive_calls rec i come tasks s)) part).over
 part_end_step rec i come later ended tasks s part by opens lives is =
@@ -120,7 +120,7 @@ part_end_step rec i come later ended tasks s part by opens lives is =
 -- ---- the calls
 
 pub part_call : (rec : ℕ) (i : LoginInfo) (come later : List ℕ) (tasks : List (ReadTask × ℕ)) (s : Session) (part : DiskCall) → AreAskedBy come tasks
-    → session_come rec i come ≡ Some s → has_ended (opened_of s) (drive_calls rec i come tasks s) ≡ false
+    → session_come rec i come ≡ Some s → session_has_ended (opened_of s) (drive_calls rec i come tasks s) ≡ false
     → stream_parts rec (come ++ later) ≡ stream_parts rec come ++ part ∷ [] → drive_calls rec i (come ++ later) tasks s ≡ drive_calls rec i come tasks s ++ part ∷ []
 part_call rec i come later tasks s part by opens lives is =
     ap (taken_from (opened_of s) nothing_read) (part_comes_in rec i come later tasks by (part ∷ []) (opened_ended rec i come s opens) is)
@@ -128,7 +128,7 @@ part_call rec i come later tasks s part by opens lives is =
     ∙ ap (λ b. drive_calls rec i come tasks s ++ (if b then part ∷ [] else [])) (part_is rec come later part is (reading (opened_of s) (drive_calls rec i come tasks s)))
 
 pub task_call : (rec : ℕ) (i : LoginInfo) (come : List ℕ) (tasks : List (ReadTask × ℕ)) (s : Session) (task : ReadTask) → AreAskedBy come tasks
-    → session_come rec i come ≡ Some s → has_ended (opened_of s) (drive_calls rec i come tasks s) ≡ false
+    → session_come rec i come ≡ Some s → session_has_ended (opened_of s) (drive_calls rec i come tasks s) ≡ false
     → drive_calls rec i come (tasks ++ (task, length come) ∷ []) s ≡ drive_calls rec i come tasks s
     ++ (if takes_read (reading (opened_of s) (drive_calls rec i come tasks s)) task.lba task.blocks then asked task.lba task.blocks ∷ [] else [])
 task_call rec i come tasks s task by opens lives =

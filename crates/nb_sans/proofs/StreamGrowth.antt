@@ -4,9 +4,9 @@ use Rattle.std.proofs.lemmas.Bool.{le-leb, leb-true, leb-false}
 use Rattle.std.proofs.lemmas.List.{map-append, take-append-le, length-append}
 use Rattle.std.proofs.lemmas.List.Sums.{fold-append}
 use Rattle.std.proofs.Math.Seq.{take-append-add}
-use Rattle.nb_iscsipdu.specs.Streams.{Cut, none_cut, is_refused, is_whole, pdu_of, after_byte, cut}
+use Rattle.nb_iscsipdu.specs.Streams.{Cut, none_cut, is_refused, is_whole_pdu, pdu_of, after_byte, cut}
 use Rattle.nb_disk.specs.Histories.{DiskCall, came, asked, stream_ended}
-use Rattle.nb_sans.specs.Sessions.{ReadTask, last_part, parts_of, stream_parts, comes_from}
+use Rattle.nb_sans.specs.Sessions.{ReadTask, last_part, parts_of_cut, stream_parts, comes_from}
 use Rattle.nb_sans.specs.SessionLaws.{AreAskedAfter}
 use Rattle.nb_sans.proofs.Starts.{Starts, starts_itself, starts_then, starts_more, starts_after, starts_drop}
 
@@ -27,9 +27,9 @@ cut_by c bytes false false = refl
 none_after : (rec : ℕ) (rest : List ℕ) → is_refused rest ≡ false → last_part rec rest ≡ []
 none_after rec rest e = ap (λ b. if b then stream_ended rec ∷ [] else []) e
 
-parts_by : (rec : ℕ) (c : Cut) (bytes : List ℕ) (r w : Bool) → is_refused c.rest ≡ r → Starts (parts_of rec c) (parts_of rec (cut_on c bytes r w))
+parts_by : (rec : ℕ) (c : Cut) (bytes : List ℕ) (r w : Bool) → is_refused c.rest ≡ r → Starts (parts_of_cut rec c) (parts_of_cut rec (cut_on c bytes r w))
 unfolding cut_on
-parts_by rec c bytes true w e = starts_itself (parts_of rec c)
+parts_by rec c bytes true w e = starts_itself (parts_of_cut rec c)
 parts_by rec c bytes false true e = record {
   rest = came rec (pdu_of bytes) ∷ [];
   is = append-nil (map (came rec) (c.pdus ++ pdu_of bytes ∷ [])) ∙ map-append (came rec) c.pdus (pdu_of bytes ∷ [])
@@ -40,18 +40,18 @@ parts_by rec c bytes false false e = record {
   is = ap (λ (l : List DiskCall). l ++ last_part rec bytes) (sym (ap (λ (l : List DiskCall). map (came rec) c.pdus ++ l) (none_after rec c.rest e) ∙ append-nil (map (came rec) c.pdus)));
 }
 
-parts_on : (rec : ℕ) (c : Cut) (byte : ℕ) → Starts (parts_of rec c) (parts_of rec (after_byte c byte))
+parts_on : (rec : ℕ) (c : Cut) (byte : ℕ) → Starts (parts_of_cut rec c) (parts_of_cut rec (after_byte c byte))
 parts_on rec c byte =
     let bytes : List ℕ = c.rest ++ byte ∷ [] in
-    subst (λ (d : Cut). Starts (parts_of rec c) (parts_of rec d)) (sym (cut_by c bytes (is_refused c.rest) (is_whole bytes))) (parts_by rec c bytes (is_refused c.rest) (is_whole bytes) refl)
+    subst (λ (d : Cut). Starts (parts_of_cut rec c) (parts_of_cut rec d)) (sym (cut_by c bytes (is_refused c.rest) (is_whole_pdu bytes))) (parts_by rec c bytes (is_refused c.rest) (is_whole_pdu bytes) refl)
 
-parts_fold : (rec : ℕ) (later : List ℕ) (c : Cut) → Starts (parts_of rec c) (parts_of rec (fold after_byte c later))
-parts_fold rec [] c = starts_itself (parts_of rec c)
+parts_fold : (rec : ℕ) (later : List ℕ) (c : Cut) → Starts (parts_of_cut rec c) (parts_of_cut rec (fold after_byte c later))
+parts_fold rec [] c = starts_itself (parts_of_cut rec c)
 parts_fold rec (byte ∷ later) c =
-    starts_then (parts_of rec c) (parts_of rec (after_byte c byte)) (parts_of rec (fold after_byte (after_byte c byte) later)) (parts_on rec c byte) (parts_fold rec later (after_byte c byte))
+    starts_then (parts_of_cut rec c) (parts_of_cut rec (after_byte c byte)) (parts_of_cut rec (fold after_byte (after_byte c byte) later)) (parts_on rec c byte) (parts_fold rec later (after_byte c byte))
 
 pub parts_grow : (rec : ℕ) (come later : List ℕ) → Starts (stream_parts rec come) (stream_parts rec (come ++ later))
-parts_grow rec come later = subst (λ (d : Cut). Starts (stream_parts rec come) (parts_of rec d)) (sym (fold-append after_byte none_cut come later)) (parts_fold rec later (cut come))
+parts_grow rec come later = subst (λ (d : Cut). Starts (stream_parts rec come) (parts_of_cut rec d)) (sym (fold-append after_byte none_cut come later)) (parts_fold rec later (cut come))
 
 -- ---- its PDUs
 
@@ -65,7 +65,7 @@ pdus_fold : (later : List ℕ) (c : Cut) → Starts c.pdus (fold after_byte c la
 pdus_fold [] c = starts_itself c.pdus
 pdus_fold (byte ∷ later) c =
     let bytes : List ℕ = c.rest ++ byte ∷ [] in
-    let one : Starts c.pdus (after_byte c byte).pdus = subst (λ (d : Cut). Starts c.pdus d.pdus) (sym (cut_by c bytes (is_refused c.rest) (is_whole bytes))) (pdus_by c bytes (is_refused c.rest) (is_whole bytes)) in
+    let one : Starts c.pdus (after_byte c byte).pdus = subst (λ (d : Cut). Starts c.pdus d.pdus) (sym (cut_by c bytes (is_refused c.rest) (is_whole_pdu bytes))) (pdus_by c bytes (is_refused c.rest) (is_whole_pdu bytes)) in
     starts_then c.pdus (after_byte c byte).pdus (fold after_byte (after_byte c byte) later).pdus one (pdus_fold later (after_byte c byte))
 
 pub pdus_grow : (come later : List ℕ) → Starts (cut come).pdus (cut (come ++ later)).pdus

@@ -14,7 +14,7 @@ use Rattle.nb_login.specs.LoginHistory.{login_ended}
 use Rattle.nb_disk.specs.Histories.{TaskResult, nothing_read, capacity_by, capacity_of, first_capacity, capacity_in}
 use Rattle.nb_disk.specs.DiskAnswers.{opened_of}
 use Rattle.nb_sans.specs.Sessions.{ReadTask, login_so_far, session_come, drive_calls, read_by, session_reading, session_capacity, blocks_read, read_refused, read_short, task_answer, read_results, answers_of, tasks_taken, task_answers}
-use Rattle.nb_sans.specs.Targets.{IsDisk, capacity_data, Serves, ServesDisk, IsOfDisk, AreOfDisk, stream_come}
+use Rattle.nb_sans.specs.Targets.{IsDisk, capacity_data, ServesCalls, ServesDisk, IsOfDisk, AreOfDisk, stream_come}
 use Rattle.nb_sans.proofs.Starts.{Starts}
 use Rattle.nb_sans.proofs.SessionGrowth.{opened_ended, stays_open, calls_grow}
 use Rattle.nb_sans.proofs.GoodResults.{IsGoodFor, GoodReads, GoodAfter, GoodResults}
@@ -116,9 +116,9 @@ module _ (disk : List ℕ) (i : LoginInfo) (isn : ℕ) (calls : List TcpCall) (t
       let more : Starts (drive_calls 0 i come tasks s) (drive_calls 0 i (come ++ rest) (tasks ++ []) s) = calls_grow 0 i come rest tasks [] tt s ended in
       let same : drive_calls 0 i serves.stream tasks s ≡ drive_calls 0 i come tasks s ++ more.rest =
       ap (λ (l : List ℕ). drive_calls 0 i l tasks s) all ∙ ap (λ (ts : List (ReadTask × ℕ)). drive_calls 0 i (come ++ rest) ts s) (sym (append-nil tasks)) ∙ more.is in
-      let theirs : Serves disk (opened_of s) nothing_read (drive_calls 0 i serves.stream tasks s) = serves.serves s (ap (session_come 0 i) all ∙ still) in
+      let theirs : ServesCalls disk (opened_of s) nothing_read (drive_calls 0 i serves.stream tasks s) = serves.serves s (ap (session_come 0 i) all ∙ still) in
       calls_honest disk (opened_of s) nothing_read (drive_calls 0 i come tasks s) (nothing_honest disk)
-      (serves_less disk (opened_of s) nothing_read (drive_calls 0 i come tasks s) more.rest (subst (Serves disk (opened_of s) nothing_read) same theirs))
+      (serves_less disk (opened_of s) nothing_read (drive_calls 0 i come tasks s) more.rest (subst (ServesCalls disk (opened_of s) nothing_read) same theirs))
 
   honest : IsHonest disk (session_reading i (stream_come isn calls) tasks)
   honest =

@@ -2,7 +2,7 @@
 use Rattle.std.specs.Prelude.{◌≡◌, ◌≤◌, ◌||◌, ℕ, Bool, true, false, List, [], ◌∷◌, ◌++◌, length, Some, None}
 use Rattle.std.specs.List.{AllByRecursion}
 use Rattle.nb_terms.specs.declared.cause.Cause.{Cause}
-use Rattle.nb_talks.specs.Talking.{Came, OnlyAdds, said, to_say, talk_after}
+use Rattle.nb_talks.specs.Talking.{Came, OnlyAdds, said_in_all, to_say, talk_after}
 use Rattle.nb_iscsipdu.specs.PduTexts.{PduParts}
 use Rattle.nb_iscsipdu.specs.Answers.{answer_read}
 use Rattle.nb_iscsipdu.specs.Streams.{cut, is_refused}
@@ -24,7 +24,7 @@ SessionsOnlyAdd = (i : LoginInfo) → OnlyAdds (session_talker i)
 -- All that is to be said in a session has been said, in order and once, and nothing else.
 abbrev pub AllOfASessionIsSaid : Type 0
 AllOfASessionIsSaid = (i : LoginInfo) (isn start : ℕ) (came : List (Came ReadTask))
-    → said (talk_after (session_talker i) isn start came).calls ≡ to_say (session_talker i) isn (talk_after (session_talker i) isn start came)
+    → said_in_all (talk_after (session_talker i) isn start came).calls ≡ to_say (session_talker i) isn (talk_after (session_talker i) isn start came)
 
 -- Why a session ends: it stands in what came, and there is no other cause.
 pub data SessionEnding (rec : ℕ) (i : LoginInfo) (stream : List ℕ) (ended : Bool) (tasks : List (ReadTask × ℕ)) (cause : Cause) : Type 0 where

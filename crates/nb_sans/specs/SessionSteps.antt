@@ -8,7 +8,7 @@ use Rattle.nb_login.specs.declared.session.Session.{Session}
 use Rattle.nb_login.specs.LoginHistory.{pdu_came, login_entry, login_ended, decided_at}
 use Rattle.nb_login.specs.Logins.{text_of_entry}
 use Rattle.nb_disk.specs.Histories.{DiskCall, came, asked, stream_ended, SessionNumbers, reading}
-use Rattle.nb_disk.specs.DiskAnswers.{opened_of, disk_answer, has_ended}
+use Rattle.nb_disk.specs.DiskAnswers.{opened_of, disk_answer, session_has_ended}
 use Rattle.nb_sans.specs.Sessions.{ReadTask, stream_parts, login_so_far, session_come, takes_read, is_call, drive_calls, text_of_put, opening_command, over_or_short, session_says, session_end}
 
 -- these tasks were asked when no more than this had come
@@ -33,18 +33,18 @@ pub record CallsFollowWhatComes : Type 0 where
       → stream_parts rec (come ++ later) ≡ stream_parts rec come ++ came rec p ∷ []
       → session_come rec i (come ++ later) ≡ Some s → drive_calls rec i (come ++ later) tasks s ≡ []
   pub part : (rec : ℕ) (i : LoginInfo) (come later : List ℕ) (tasks : List (ReadTask × ℕ)) (s : Session) (part : DiskCall) → AreAskedBy come tasks
-      → session_come rec i come ≡ Some s → has_ended (opened_of s) (drive_calls rec i come tasks s) ≡ false
+      → session_come rec i come ≡ Some s → session_has_ended (opened_of s) (drive_calls rec i come tasks s) ≡ false
       → stream_parts rec (come ++ later) ≡ stream_parts rec come ++ part ∷ []
       → drive_calls rec i (come ++ later) tasks s ≡ drive_calls rec i come tasks s ++ part ∷ []
   pub task : (rec : ℕ) (i : LoginInfo) (come : List ℕ) (tasks : List (ReadTask × ℕ)) (s : Session) (task : ReadTask) → AreAskedBy come tasks
-      → session_come rec i come ≡ Some s → has_ended (opened_of s) (drive_calls rec i come tasks s) ≡ false
+      → session_come rec i come ≡ Some s → session_has_ended (opened_of s) (drive_calls rec i come tasks s) ≡ false
       → drive_calls rec i come (tasks ++ (task, length come) ∷ []) s ≡ drive_calls rec i come tasks s
       ++ (if takes_read (reading (opened_of s) (drive_calls rec i come tasks s)) task.lba task.blocks then asked task.lba task.blocks ∷ [] else [])
 
 -- what a drive says to what comes after these calls, if it takes it
 abbrev pub said_to : SessionNumbers → List DiskCall → DiskCall → List ℕ
 said_to o calls call =
-    if has_ended o calls then []
+    if session_has_ended o calls then []
     else (if is_call (reading o calls) call then text_of_put (disk_answer o (reading o calls) call).put else [])
 
 abbrev pub said_to_task : LoginInfo → List ℕ → List (ReadTask × ℕ) → ReadTask → Option Session → List ℕ
@@ -70,7 +70,7 @@ PartsAreAnsweredAtOnce = (i : LoginInfo) (come later : List ℕ) (before after :
 -- Such a part ends it as the drive's answer to it says.
 abbrev pub PartsEndAtOnce : Type 0
 PartsEndAtOnce = (rec : ℕ) (i : LoginInfo) (come later : List ℕ) (ended : Bool) (tasks : List (ReadTask × ℕ)) (s : Session) (part : DiskCall) → AreAskedBy come tasks
-    → session_come rec i come ≡ Some s → has_ended (opened_of s) (drive_calls rec i come tasks s) ≡ false
+    → session_come rec i come ≡ Some s → session_has_ended (opened_of s) (drive_calls rec i come tasks s) ≡ false
     → stream_parts rec (come ++ later) ≡ stream_parts rec come ++ part ∷ []
     → session_end rec i (come ++ later) ended tasks ≡ over_or_short rec ended (disk_answer (opened_of s) (reading (opened_of s) (drive_calls rec i come tasks s)) part).over
 

@@ -27,11 +27,11 @@ abbrev pub last_part : ℕ → List ℕ → List DiskCall
 last_part rec rest = if is_refused rest then stream_ended rec ∷ [] else []
 
 -- its PDUs, and where bytes follow with which none begins, that no further one comes
-abbrev pub parts_of : ℕ → Cut → List DiskCall
-parts_of rec c = map (came rec) c.pdus ++ last_part rec c.rest
+abbrev pub parts_of_cut : ℕ → Cut → List DiskCall
+parts_of_cut rec c = map (came rec) c.pdus ++ last_part rec c.rest
 
 abbrev pub stream_parts : ℕ → List ℕ → List DiskCall
-stream_parts rec stream = parts_of rec (cut stream)
+stream_parts rec stream = parts_of_cut rec (cut stream)
 
 -- THE LOGIN
 

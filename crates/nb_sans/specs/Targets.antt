@@ -55,16 +55,16 @@ ServesCall disk o r (asked lba blocks) = Unit {0}
 ServesCall disk o r (stream_ended rec) = Unit {0}
 
 -- each PDU among these calls does
-abbrev pub Serves : List ℕ → SessionNumbers → DiskReading → List DiskCall → Type 0
-Serves disk o r [] = Unit {0}
-Serves disk o r (call ∷ calls) = ServesCall disk o r call × Serves disk o (after_call o r call) calls
+abbrev pub ServesCalls : List ℕ → SessionNumbers → DiskReading → List DiskCall → Type 0
+ServesCalls disk o r [] = Unit {0}
+ServesCalls disk o r (call ∷ calls) = ServesCall disk o r call × ServesCalls disk o (after_call o r call) calls
 
 -- A target is honest to a connection of these tasks: one stream is carried, and the PDUs of the session in it serve the disk.
 pub record ServesDisk (disk : List ℕ) (i : LoginInfo) (isn : ℕ) (calls : List TcpCall) (tasks : List (ReadTask × ℕ)) : Type 0 where
   pub stream : List ℕ
   pub short : length stream < 2 ^ 31 - 1
   pub carried : Carry stream isn (asking []) calls
-  pub serves : (s : Session) → session_come 0 i stream ≡ Some s → Serves disk (opened_of s) nothing_read (drive_calls 0 i stream tasks s)
+  pub serves : (s : Session) → session_come 0 i stream ≡ Some s → ServesCalls disk (opened_of s) nothing_read (drive_calls 0 i stream tasks s)
 
 -- a good answer to a read is its blocks of the disk, byte for byte; none is short
 abbrev pub IsOfDisk : List ℕ → ℕ × ℕ → TaskAnswer → Type 0

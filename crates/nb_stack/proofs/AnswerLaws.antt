@@ -14,7 +14,7 @@ use Rattle.nb_stack.specs.Client.{Client}
 use Rattle.nb_stack.specs.Bound.{owner_of}
 use Rattle.nb_stack.specs.Brings.{arp_message, echo_reply, segment}
 use Rattle.nb_stack.specs.Resets.{has_flag, sequence_length, segment_answer, reset_of}
-use Rattle.nb_stack.specs.Takes.{Outcome, dropped, replied, reply_to, echo_to, segment_to, outcome_of}
+use Rattle.nb_stack.specs.Takes.{Outcome, dropped, replied, arp_reply_to, echo_to, segment_to, outcome_of}
 use Rattle.nb_stack.specs.Sends.{checksum_of, with_checksum}
 
 abbrev is_reply : Outcome → Bool
@@ -22,7 +22,7 @@ is_reply replied = true
 is_reply _ = false
 
 -- no client answers an ARP reply,
-pub arp_reply_ends : (c : Client) (from mac : Mac) (arp : Arp) → is_reply (outcome_of c (arp_message from (reply_to mac arp))) ≡ false
+pub arp_reply_ends : (c : Client) (from mac : Mac) (arp : Arp) → is_reply (outcome_of c (arp_message from (arp_reply_to mac arp))) ≡ false
 arp_reply_ends c from mac arp = refl
 
 -- nor an echo reply,

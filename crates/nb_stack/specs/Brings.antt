@@ -89,10 +89,10 @@ Brings up mac address bytes nothing = (f : Frame) → IsFrameFor up mac bytes f 
 Brings up mac address bytes message = (f : Frame) × IsFrameFor up mac bytes f × BringsIn address f message
 
 -- a message without where its bytes lie in memory
-abbrev pub brought : Message → Brought
-brought Nothing = nothing
-brought (HasArp from arp) = arp_message from arp
-brought (HasDatagram p d) = datagram (packet_parts p) (udp_parts d)
-brought (HasRequest from p e) = echo_request from (packet_parts p) (echo_parts e)
-brought (HasReply p e) = echo_reply (packet_parts p) (echo_parts e)
-brought (HasSegment from p s) = segment from (packet_parts p) (segment_parts s)
+abbrev pub message_brought : Message → Brought
+message_brought Nothing = nothing
+message_brought (HasArp from arp) = arp_message from arp
+message_brought (HasDatagram p d) = datagram (packet_parts p) (udp_parts d)
+message_brought (HasRequest from p e) = echo_request from (packet_parts p) (echo_parts e)
+message_brought (HasReply p e) = echo_reply (packet_parts p) (echo_parts e)
+message_brought (HasSegment from p s) = segment from (packet_parts p) (segment_parts s)

@@ -36,8 +36,8 @@ abbrev pub asks : Option Addr → Arp → Bool
 asks address arp = (arp.op == 1) && owns address arp.tpa
 
 -- the reply to a request: the client's own addresses to those of the sender
-abbrev pub reply_to : Mac → Arp → Arp
-reply_to mac arp = record { op = 2; sha = mac; spa = arp.tpa; tha = arp.sha; tpa = arp.spa }
+abbrev pub arp_reply_to : Mac → Arp → Arp
+arp_reply_to mac arp = record { op = 2; sha = mac; spa = arp.tpa; tha = arp.sha; tpa = arp.spa }
 
 -- a datagram goes to who bound its port
 abbrev pub handed_to : PacketParts → UdpParts → Option ℕ → Outcome
@@ -80,7 +80,7 @@ reset_back from mac p s (Some owner) = []
 abbrev pub reply_of : Client → Brought → List ℕ
 reply_of client nothing = []
 reply_of client (arp_message from arp) =
-    if asks client.address arp then arp_frame from (reply_to client.mac arp) else []
+    if asks client.address arp then arp_frame from (arp_reply_to client.mac arp) else []
 reply_of client (datagram p d) = []
 reply_of client (echo_request from p e) = frame_back from client.mac p (sent_echo (record e { kind = 0 }))
 reply_of client (echo_reply p e) = []

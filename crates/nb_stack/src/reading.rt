@@ -7,7 +7,7 @@ ghost use Rattle.nb_ipv4.specs.UdpText.{udp_parts};
 ghost use Rattle.nb_ipv4.specs.EchoText.{EchoParts, IsEcho, IsEchoKind, echo_parts};
 ghost use Rattle.nb_tcpseg.specs.SegmentText.{SegmentParts, IsSegment, segment_parts};
 ghost use Rattle.nb_stack.specs.Owns.{owns, everyone};
-ghost use Rattle.nb_stack.specs.Brings.{IsFrameFor, IsAddressed, IsEchoOf, BringsIn, BringsNone, datagram, segment, brought};
+ghost use Rattle.nb_stack.specs.Brings.{IsFrameFor, IsAddressed, IsEchoOf, BringsIn, BringsNone, datagram, segment, message_brought};
 
 use crate::address::{ALL_HOSTS, Addr, DHCP_CLIENT, EVERYONE, is_own};
 use crate::message::Message;
@@ -130,7 +130,7 @@ pub(crate) fn segment_of<'a>(
 
 // The message that a frame for a client with this address brings it.
 pub(crate) fn message_in<'a>(address: Option<Addr>, frame: EtherFrame<'a>) -> Message<'a>
-    ensures { BringsIn address (frame_of frame.entry) (brought result) }
+    ensures { BringsIn address (frame_of frame.entry) (message_brought result) }
 {
     match frame.kind {
         KIND_ARP => arp_in(address, frame),
@@ -141,7 +141,7 @@ pub(crate) fn message_in<'a>(address: Option<Addr>, frame: EtherFrame<'a>) -> Me
 
 fn arp_in<'a>(address: Option<Addr>, frame: EtherFrame<'a>) -> Message<'a>
     requires { frame.kind ≡ 2054 }
-    ensures { BringsIn address (frame_of frame.entry) (brought result) }
+    ensures { BringsIn address (frame_of frame.entry) (message_brought result) }
 {
     match Arp::read(frame.body) {
         Some(arp) => Message::HasArp {
@@ -154,7 +154,7 @@ fn arp_in<'a>(address: Option<Addr>, frame: EtherFrame<'a>) -> Message<'a>
 
 fn packet_in<'a>(address: Option<Addr>, frame: EtherFrame<'a>) -> Message<'a>
     requires { frame.kind ≡ 2048 }
-    ensures { BringsIn address (frame_of frame.entry) (brought result) }
+    ensures { BringsIn address (frame_of frame.entry) (message_brought result) }
 {
     match Packet::read(frame.body) {
         Some(packet) => carried_in(address, frame, packet),
@@ -165,7 +165,7 @@ fn packet_in<'a>(address: Option<Addr>, frame: EtherFrame<'a>) -> Message<'a>
 fn carried_in<'a>(address: Option<Addr>, frame: EtherFrame<'a>, packet: Packet<'a>) -> Message<'a>
     requires kind { frame.kind ≡ 2048 }
     requires packet { IsPacket frame.body.now (packet_parts packet) }
-    ensures { BringsIn address (frame_of frame.entry) (brought result) }
+    ensures { BringsIn address (frame_of frame.entry) (message_brought result) }
 {
     match packet.proto {
         PROTO_UDP => datagram_in(address, frame, packet),
@@ -179,7 +179,7 @@ fn datagram_in<'a>(address: Option<Addr>, frame: EtherFrame<'a>, packet: Packet<
     requires kind { frame.kind ≡ 2048 }
     requires packet { IsPacket frame.body.now (packet_parts packet) }
     requires proto { packet.proto ≡ 17 }
-    ensures { BringsIn address (frame_of frame.entry) (brought result) }
+    ensures { BringsIn address (frame_of frame.entry) (message_brought result) }
 {
     match datagram_of(address, frame, packet) {
         Some(datagram) => Message::HasDatagram { packet, datagram },
@@ -191,7 +191,7 @@ fn echo_in<'a>(address: Option<Addr>, frame: EtherFrame<'a>, packet: Packet<'a>)
     requires kind { frame.kind ≡ 2048 }
     requires packet { IsPacket frame.body.now (packet_parts packet) }
     requires proto { packet.proto ≡ 1 }
-    ensures { BringsIn address (frame_of frame.entry) (brought result) }
+    ensures { BringsIn address (frame_of frame.entry) (message_brought result) }
 {
     match echo_for(address, packet) {
         Some(echo) => echo_message(frame.src, packet, echo),
@@ -201,7 +201,7 @@ fn echo_in<'a>(address: Option<Addr>, frame: EtherFrame<'a>, packet: Packet<'a>)
 
 fn echo_message<'a>(from: Mac, packet: Packet<'a>, echo: Echo<'a>) -> Message<'a>
     requires { IsEchoKind echo.kind }
-    ensures { IsEchoOf from (packet_parts packet.entry) (echo_parts echo.entry) (brought result) }
+    ensures { IsEchoOf from (packet_parts packet.entry) (echo_parts echo.entry) (message_brought result) }
 {
     match echo.kind {
         ECHO_REQUEST => Message::HasRequest { from, packet, echo },
@@ -213,7 +213,7 @@ fn segment_in<'a>(address: Option<Addr>, frame: EtherFrame<'a>, packet: Packet<'
     requires kind { frame.kind ≡ 2048 }
     requires packet { IsPacket frame.body.now (packet_parts packet) }
     requires proto { packet.proto ≡ 6 }
-    ensures { BringsIn address (frame_of frame.entry) (brought result) }
+    ensures { BringsIn address (frame_of frame.entry) (message_brought result) }
 {
     match segment_for(address, packet) {
         Some(segment) => Message::HasSegment {

@@ -46,8 +46,8 @@ impl Stack {
     ghost use Rattle.nb_stack.specs.Bound.{owner_of, with_port, without};
     ghost use Rattle.nb_stack.specs.Sends.{fate_of, put_on, way_of, fate_by, put_by, request_for, IsCarried};
     ghost use Rattle.nb_stack.specs.Envelope.{message_of};
-    ghost use Rattle.nb_stack.specs.Brings.{IsFrameFor, BringsIn, BringsNone, arp_message, datagram, echo_request, echo_reply, segment, brought};
-    ghost use Rattle.nb_stack.specs.Takes.{Takes, TakesAddressed, outcome, outcome_of, reply_of, client_after, asks, reply_to, back_to};
+    ghost use Rattle.nb_stack.specs.Brings.{IsFrameFor, BringsIn, BringsNone, arp_message, datagram, echo_request, echo_reply, segment, message_brought};
+    ghost use Rattle.nb_stack.specs.Takes.{Takes, TakesAddressed, outcome, outcome_of, reply_of, client_after, asks, arp_reply_to, back_to};
     ghost use Rattle.nb_stack.specs.Sizes.{IsFrameSize, IsReplySize};
     ghost use Rattle.nb_stack.specs.declared.taken.Fate.TheVariants.{NoRoute};
 
@@ -350,7 +350,7 @@ impl Stack {
     }
 
     fn message<'a>(&self, frame: EtherFrame<'a>) -> Message<'a>
-        ensures { BringsIn self.now.address (frame_of frame.entry) (brought result) }
+        ensures { BringsIn self.now.address (frame_of frame.entry) (message_brought result) }
     {
         message_in(self.address, frame)
     }
@@ -390,7 +390,7 @@ impl Stack {
     }
 
     fn reply_to(&self, arp: &Arp) -> Arp
-        ensures { result ≡ reply_to self.now.mac arp.now }
+        ensures { result ≡ arp_reply_to self.now.mac arp.now }
     {
         Arp {
             op: ARP_REPLY,

@@ -5,7 +5,7 @@ use Rattle.std.proofs.lemmas.Bool.{false≢true, and_parts, or_cases, ltb-true, 
 use Rattle.std.proofs.lemmas.List.{length-take, length-drop, take-append-drop, length-append}
 use Rattle.nb_streams.specs.Segments.{Incoming, Arrival}
 use Rattle.nb_streams.specs.Flows.{TcpCall, segment_came, text_came, time_came, full_window, Flow, ConnPhase, asking, flowing, conn_phase, after_tcp_call, is_taken, is_current, advance_of, advances, with_segment, size, sends_next, is_free, is_sending, going_on, after_segment, after_text, answers_syn, establishes, opened_by, established, window_bytes, is_past}
-use Rattle.nb_streams.specs.Sending.{Outgoing, segment_at, pure_ack, text_segment, rst_ack, rst_ack_at, rst_for, IsTextAt, MaySend, by_wrong_answer, by_text, by_ack, by_length, without_try, with_first_try, only_if, brings_more, ongoing_sends, taken_sends, is_answered, segment_sends, established_sends, calls_for}
+use Rattle.nb_streams.specs.Sending.{Outgoing, segment_at, pure_ack, text_segment, rst_ack, rst_ack_at, rst_for, IsTextAt, MaySend, by_wrong_answer, by_text, by_ack, by_length, without_try, with_first_try, only_if, brings_more, ongoing_sends, taken_sends, is_answered_by_ack, segment_sends, established_sends, calls_for}
 use Rattle.nb_streams.proofs.StreamLaws.{either}
 use Rattle.nb_streams.proofs.TryLaws.{not_past, not_beyond, acked_now, acked_still, by_advance}
 
@@ -217,7 +217,7 @@ taken_may isn all f s is taken e = either (list_any is_past (window_bytes f s))
 flow_may : (isn : ℕ) (all : List TcpCall) (f : Flow) (s : Incoming) → IsFlow f → conn_phase isn all ≡ flowing (after_segment f s) → AllByRecursion (May isn all) (segment_sends f s)
 flow_may isn all f s is e = either (is_taken f s)
     (λ taken. rw taken (taken_may isn all f s is taken (rw taken at e)))
-    (λ dropped. rw dropped (on_may isn all (is_answered f s) (without_try (pure_ack f)) (λ answered. by_ack f f.sent (rw dropped at e) (same f.sent) refl)))
+    (λ dropped. rw dropped (on_may isn all (is_answered_by_ack f s) (without_try (pure_ack f)) (λ answered. by_ack f f.sent (rw dropped at e) (same f.sent) refl)))
   where
     same : (n : ℕ) → n ≤ n
     same n = omega arith

@@ -4,7 +4,7 @@ use Rattle.std.specs.List.{AllByRecursion, filter, slice_get}
 use Rattle.std.proofs.lemmas.Bool.{eqb-true, lt-ltb, false≢true, and_from, and_parts}
 use Rattle.std.proofs.lemmas.Option.{none-some, same_Some}
 use Rattle.std.proofs.lemmas.List.{length-append}
-use Rattle.nb_streams.specs.Streams.{HeldBytes, if_here, byte_at, before_stop, counts, counting, with_byte, run, front, next, with_bytes, stop_at, first_stop, IsByteOf, IsPrefixOf}
+use Rattle.nb_streams.specs.Streams.{HeldBytes, if_here, byte_at, before_stop, counts, counting, with_byte, run, front, next, with_pairs, stop_at, first_stop, IsByteOf, IsPrefixOf}
 
 pub either : {Z : Type 0} (b : Bool) → (b ≡ true → Z) → (b ≡ false → Z) → Z
 either true f g = f refl
@@ -99,9 +99,9 @@ counts_more n None None p b ahead l is = is
 counts_more n None (Some stop) p b ahead l is = and_from _ _ (and_parts _ _ is).0 (lt-ltb p stop (omega (arith, l, ahead)))
 
 -- the map with more pairs and an end that is ahead has the old front, and maybe more
-pub front_more : (h : HeldBytes) (stop : Option ℕ) (more : List (ℕ × ℕ)) → IsAhead (next h) stop → IsPrefixOf (front h) (front (with_bytes more (stop_at stop h)))
+pub front_more : (h : HeldBytes) (stop : Option ℕ) (more : List (ℕ × ℕ)) → IsAhead (next h) stop → IsPrefixOf (front h) (front (with_pairs more (stop_at stop h)))
 front_more h stop more ahead =
-    let grown : IsPrefixOf (front h) (run (length h.pairs + length more) 0 (counting (with_bytes more (stop_at stop h)))) = run_more (counting h) (counting (with_bytes more (stop_at stop h))) (length h.pairs) (length more) 0
+    let grown : IsPrefixOf (front h) (run (length h.pairs + length more) 0 (counting (with_pairs more (stop_at stop h)))) = run_more (counting h) (counting (with_pairs more (stop_at stop h))) (length h.pairs) (length more) 0
     (λ place b l u is. let both : (byte_at place h.pairs ≡ Some b) × (counts h.stop (place, b) ≡ true) = look_counted h.stop h.pairs place b is in
     look_filter (first_stop h.stop stop) (h.pairs ++ more) place b (counts_more (next h) h.stop stop place b ahead (omega (arith, u)) both.1) (look_more h.pairs more place b both.0)) in
-    subst (λ k. IsPrefixOf (front h) (run k 0 (counting (with_bytes more (stop_at stop h))))) (sym (length-append h.pairs more)) grown
+    subst (λ k. IsPrefixOf (front h) (run k 0 (counting (with_pairs more (stop_at stop h))))) (sym (length-append h.pairs more)) grown

@@ -2,7 +2,7 @@
 use Rattle.std.specs.Prelude.{ℕ, ◌+◌, ◌-◌, ◌%◌, ◌^◌, ◌==◌, ◌&&◌, ◌||◌, Bool, false, not, min, max, List, [], ◌++◌, length, fold, Option, Some, None, nat_lt, nat_le, if◌then◌else◌}
 use Rattle.std.specs.Option.{option_map_or}
 use Rattle.nb_streams.specs.Segments.{Incoming, Arrival, ahead, is_forward, places}
-use Rattle.nb_streams.specs.Streams.{HeldBytes, nothing_held, next, with_bytes, stop_at}
+use Rattle.nb_streams.specs.Streams.{HeldBytes, nothing_held, next, with_pairs, stop_at}
 
 -- what came to a connection, in order: a segment, a time, more text to send
 pub data TcpCall : Type 0 where
@@ -60,7 +60,7 @@ window_bytes f s = places full_window f.theirs (next f.held) s.number s.body
 -- the same connection with a segment's bytes, end, acknowledgement and window
 abbrev pub with_segment : Incoming → Flow → Flow
 with_segment s f = record f {
-  held = with_bytes (window_bytes f s) (stop_at (stop_of f s) f.held);
+  held = with_pairs (window_bytes f s) (stop_at (stop_of f s) f.held);
   acked = if is_current f s then f.acked + advance_of f s else f.acked;
   room = if is_current f s then s.window else f.room;
 }

@@ -25,12 +25,12 @@ abbrev pub acknowledged_place : HeldBytes → ℕ
 acknowledged_place h = next h + (if has_ended h then 1 else 0)
 
 -- the number that the connection acknowledges
-abbrev pub acknowledged : Flow → ℕ
-acknowledged f = wrapped (f.theirs + acknowledged_place f.held)
+abbrev pub acknowledged_number : Flow → ℕ
+acknowledged_number f = wrapped (f.theirs + acknowledged_place f.held)
 
 -- a segment with a place of ours, and its flags
 abbrev pub segment_at : ℕ → ℕ → List ℕ → ℕ → Flow → Outgoing
-segment_at flags width bytes place f = record { number = wrapped (f.ours + place); acknowledges = acknowledged f; flags = flags; window = width; mss = None; body = bytes }
+segment_at flags width bytes place f = record { number = wrapped (f.ours + place); acknowledges = acknowledged_number f; flags = flags; window = width; mss = None; body = bytes }
 
 abbrev pub pure_ack : Flow → Outgoing
 pure_ack f = segment_at 16 full_window [] f.sent f
@@ -122,11 +122,11 @@ abbrev pub taken_sends : Flow → Incoming → List (Outgoing × Option ℕ)
 taken_sends f s = if list_any is_past (window_bytes f s) then too_long_sends f s else ongoing_sends f s
 
 -- what else is answered by an acknowledgement: a reset in the window, a SYN, and an acknowledgement of what wasn't sent
-abbrev pub is_answered : Flow → Incoming → Bool
-is_answered f s = if s.rst then is_near_reset f s else (s.syn || (s.ack && is_beyond f s))
+abbrev pub is_answered_by_ack : Flow → Incoming → Bool
+is_answered_by_ack f s = if s.rst then is_near_reset f s else (s.syn || (s.ack && is_beyond f s))
 
 abbrev pub segment_sends : Flow → Incoming → List (Outgoing × Option ℕ)
-segment_sends f s = if is_taken f s then taken_sends f s else only_if (is_answered f s) (without_try (pure_ack f))
+segment_sends f s = if is_taken f s then taken_sends f s else only_if (is_answered_by_ack f s) (without_try (pure_ack f))
 
 abbrev pub established_sends : Flow → List (Outgoing × Option ℕ)
 established_sends f = without_try (pure_ack f) ∷ only_if (is_sending false f) (with_first_try (text_segment (going_on false f)))

@@ -55,8 +55,8 @@ abbrev pub has_ended : HeldBytes → Bool
 has_ended h = is_stop h.stop (next h)
 
 -- the map with more pairs; a place that has a byte keeps it
-abbrev pub with_bytes : List (ℕ × ℕ) → HeldBytes → HeldBytes
-with_bytes more h = record h { pairs = h.pairs ++ more }
+abbrev pub with_pairs : List (ℕ × ℕ) → HeldBytes → HeldBytes
+with_pairs more h = record h { pairs = h.pairs ++ more }
 
 abbrev pub first_stop : Option ℕ → Option ℕ → Option ℕ
 first_stop None new = new

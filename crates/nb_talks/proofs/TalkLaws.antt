@@ -7,7 +7,7 @@ use Rattle.std.proofs.lemmas.List.Sums.{fold-append}
 use Rattle.nb_streams.specs.Segments.{Arrival}
 use Rattle.nb_streams.specs.Streams.{HeldBytes, front, has_ended, IsPrefixOf}
 use Rattle.nb_streams.specs.Flows.{TcpCall, segment_came, time_came, text_came, ConnPhase, asking, flowing, conn_phase, after_tcp_call, held_in, held_after}
-use Rattle.nb_talks.specs.Talking.{Came, by_segment, by_time, by_task, time_of, Talker, OnlyAdds, Talk, text_of_call, said, talk_held, to_say, unsaid, text_to_send, says_on, receives, more_of, texts_by, come_of, ended_of, texts_for, text_calls, talks_on, begun_talk, talk_after}
+use Rattle.nb_talks.specs.Talking.{Came, by_segment, by_time, by_task, time_of, Talker, OnlyAdds, Talk, text_of_call, said_in_all, talk_held, to_say, unsaid, text_to_send, says_on, receives, more_of, texts_by, come_of, ended_of, texts_for, text_calls, talks_on, begun_talk, talk_after}
 use Rattle.nb_streams.proofs.FlowLaws.{front_grows, held_going}
 use Rattle.nb_streams.proofs.OtherSendLaws.{phase_append}
 
@@ -21,9 +21,9 @@ held_with_text isn cs [] now = ap (held_after isn) (append-nil cs)
 held_with_text isn cs (b ∷ bytes) now =
     ap held_in (phase_append isn cs (text_came (b ∷ bytes) now)) ∙ held_as_before isn (conn_phase isn cs) (b ∷ bytes) now
 
-said_with_text : (cs : List TcpCall) (text : List ℕ) (now : ℕ) → said (cs ++ text_to_send text now) ≡ said cs ++ text
+said_with_text : (cs : List TcpCall) (text : List ℕ) (now : ℕ) → said_in_all (cs ++ text_to_send text now) ≡ said_in_all cs ++ text
 said_with_text cs [] now = flat_map-append text_of_call cs []
-said_with_text cs (b ∷ bytes) now = flat_map-append text_of_call cs (text_came (b ∷ bytes) now ∷ []) ∙ ap (λ t. said cs ++ t) (append-nil (b ∷ bytes))
+said_with_text cs (b ∷ bytes) now = flat_map-append text_of_call cs (text_came (b ∷ bytes) now ∷ []) ∙ ap (λ t. said_in_all cs ++ t) (append-nil (b ∷ bytes))
 
 -- so do texts that are given one after another
 pub held_with_texts : (isn : ℕ) (cs : List TcpCall) (texts : List (List ℕ)) (now : ℕ) → held_after isn (cs ++ text_calls texts now) ≡ held_after isn cs
@@ -41,11 +41,11 @@ all_of_both : (xs ys : List (List ℕ)) → all_of (xs ++ ys) ≡ all_of xs ++ a
 all_of_both [] ys = refl
 all_of_both (x ∷ xs) ys = ap (λ z. x ++ z) (all_of_both xs ys) ∙ sym (append_assoc x (all_of xs) (all_of ys))
 
-said_with_texts : (cs : List TcpCall) (texts : List (List ℕ)) (now : ℕ) → said (cs ++ text_calls texts now) ≡ said cs ++ all_of texts
+said_with_texts : (cs : List TcpCall) (texts : List (List ℕ)) (now : ℕ) → said_in_all (cs ++ text_calls texts now) ≡ said_in_all cs ++ all_of texts
 said_with_texts cs [] now = flat_map-append text_of_call cs []
 said_with_texts cs (x ∷ xs) now =
-    ap said (sym (append_assoc cs (text_to_send x now) (text_calls xs now)))
-    ∙ said_with_texts (cs ++ text_to_send x now) xs now ∙ ap (λ z. z ++ all_of xs) (said_with_text cs x now) ∙ append_assoc (said cs) x (all_of xs)
+    ap said_in_all (sym (append_assoc cs (text_to_send x now) (text_calls xs now)))
+    ∙ said_with_texts (cs ++ text_to_send x now) xs now ∙ ap (λ z. z ++ all_of xs) (said_with_text cs x now) ∙ append_assoc (said_in_all cs) x (all_of xs)
 
 -- the rest of what is to be said completes what was
 completes : (so_far all : List ℕ) → IsPrefixOf so_far all → so_far ++ drop (length so_far) all ≡ all
@@ -53,10 +53,10 @@ completes so_far all (rest, is) = ap (λ t. so_far ++ t) (ap (drop (length so_fa
 
 module _ {T : Type 0} (t : Talker T) (adds : OnlyAdds t) (isn : ℕ) where
   -- where only more is to be said, all is said then
-  all_said_then : (now : ℕ) (d : Talk T) → IsPrefixOf (said d.calls) (to_say t isn d) → said (says_on t isn now d).calls ≡ to_say t isn (says_on t isn now d)
+  all_said_then : (now : ℕ) (d : Talk T) → IsPrefixOf (said_in_all d.calls) (to_say t isn d) → said_in_all (says_on t isn now d).calls ≡ to_say t isn (says_on t isn now d)
   all_said_then now d more =
       let text : List ℕ = unsaid t isn d in
-      said_with_text d.calls text now ∙ completes (said d.calls) (to_say t isn d) more
+      said_with_text d.calls text now ∙ completes (said_in_all d.calls) (to_say t isn d) more
       ∙ ap (λ (h : HeldBytes). t.says (front h) (has_ended h) d.tasks) (sym (held_with_text isn d.calls text now))
 
   -- the texts of bytes that come later complete what was to be said before
@@ -89,12 +89,12 @@ module _ {T : Type 0} (t : Talker T) (adds : OnlyAdds t) (isn : ℕ) where
       ∙ ap (λ x. x ++ last) (texts_complete (ended_of isn d) d.tasks come later ∙ ap (λ x. t.says x (ended_of isn d) d.tasks) whole)
       ∙ end_completes (come_of isn heard) (ended_of isn d) (ended_of isn heard) d.tasks
 
-  said_still : (cs : List TcpCall) (c : TcpCall) → text_of_call c ≡ [] → said (cs ++ c ∷ []) ≡ said cs
-  said_still cs c none = flat_map-append text_of_call cs (c ∷ []) ∙ ap (λ x. said cs ++ (x ++ [])) none ∙ append-nil (said cs)
+  said_still : (cs : List TcpCall) (c : TcpCall) → text_of_call c ≡ [] → said_in_all (cs ++ c ∷ []) ≡ said_in_all cs
+  said_still cs c none = flat_map-append text_of_call cs (c ∷ []) ∙ ap (λ x. said_in_all cs ++ (x ++ [])) none ∙ append-nil (said_in_all cs)
 
   -- texts that complete what is to be said leave nothing to say
-  all_said_with : (d heard : Talk T) (texts : List (List ℕ)) (now : ℕ) → said heard.calls ≡ to_say t isn d → to_say t isn d ++ all_of texts ≡ to_say t isn heard
-      → said (heard.calls ++ text_calls texts now) ≡ to_say t isn (record heard { calls = heard.calls ++ text_calls texts now })
+  all_said_with : (d heard : Talk T) (texts : List (List ℕ)) (now : ℕ) → said_in_all heard.calls ≡ to_say t isn d → to_say t isn d ++ all_of texts ≡ to_say t isn heard
+      → said_in_all (heard.calls ++ text_calls texts now) ≡ to_say t isn (record heard { calls = heard.calls ++ text_calls texts now })
   all_said_with d heard texts now so whole =
       said_with_texts heard.calls texts now ∙ ap (λ x. x ++ all_of texts) so ∙ whole
       ∙ ap (λ (h : HeldBytes). t.says (front h) (has_ended h) heard.tasks) (sym (held_with_texts isn heard.calls texts now))
@@ -103,7 +103,7 @@ module _ {T : Type 0} (t : Talker T) (adds : OnlyAdds t) (isn : ℕ) where
   time_held : (d : Talk T) (now : ℕ) → talk_held isn (receives isn d (by_time now)) ≡ talk_held isn d
   time_held d now = ap held_in (phase_append isn d.calls (time_came now))
 
-  one_more : (d : Talk T) (c : Came T) → said d.calls ≡ to_say t isn d → said (talks_on t isn d c).calls ≡ to_say t isn (talks_on t isn d c)
+  one_more : (d : Talk T) (c : Came T) → said_in_all d.calls ≡ to_say t isn d → said_in_all (talks_on t isn d c).calls ≡ to_say t isn (talks_on t isn d c)
   one_more d (by_segment m now) so =
       all_said_with d (receives isn d (by_segment m now)) (texts_for t isn d (by_segment m now)) now (said_still d.calls (segment_came m now) refl ∙ so) (segment_completes d m now)
   one_more d (by_time now) so =
@@ -112,15 +112,15 @@ module _ {T : Type 0} (t : Talker T) (adds : OnlyAdds t) (isn : ℕ) where
   one_more d (by_task task now) so =
       let heard = receives isn d (by_task task now) in
       let text : List ℕ = unsaid t isn heard in
-      let more : IsPrefixOf (said d.calls) (to_say t isn heard) = subst (λ x. IsPrefixOf x (to_say t isn heard)) (sym so) (adds.task (come_of isn d) (ended_of isn d) d.tasks task) in
-      said_with_texts heard.calls (text ∷ []) now ∙ ap (λ x. said d.calls ++ x) (append-nil text) ∙ completes (said d.calls) (to_say t isn heard) more
+      let more : IsPrefixOf (said_in_all d.calls) (to_say t isn heard) = subst (λ x. IsPrefixOf x (to_say t isn heard)) (sym so) (adds.task (come_of isn d) (ended_of isn d) d.tasks task) in
+      said_with_texts heard.calls (text ∷ []) now ∙ ap (λ x. said_in_all d.calls ++ x) (append-nil text) ∙ completes (said_in_all d.calls) (to_say t isn heard) more
       ∙ ap (λ (h : HeldBytes). t.says (front h) (has_ended h) heard.tasks) (sym (held_with_texts isn heard.calls (text ∷ []) now))
 
-  all_said_on : (d : Talk T) (came : List (Came T)) → said d.calls ≡ to_say t isn d → said (fold (talks_on t isn) d came).calls ≡ to_say t isn (fold (talks_on t isn) d came)
+  all_said_on : (d : Talk T) (came : List (Came T)) → said_in_all d.calls ≡ to_say t isn d → said_in_all (fold (talks_on t isn) d came).calls ≡ to_say t isn (fold (talks_on t isn) d came)
   all_said_on d [] so = so
   all_said_on d (c ∷ cs) so = all_said_on (talks_on t isn d c) cs (one_more d c so)
 
-  pub all_is_said : (start : ℕ) (came : List (Came T)) → said (talk_after t isn start came).calls ≡ to_say t isn (talk_after t isn start came)
+  pub all_is_said : (start : ℕ) (came : List (Came T)) → said_in_all (talk_after t isn start came).calls ≡ to_say t isn (talk_after t isn start came)
   all_is_said start came =
       let nothing : Talk T = record { calls = []; tasks = [] } in
       all_said_on (begun_talk t isn start) came (all_said_then start nothing (to_say t isn nothing, refl))

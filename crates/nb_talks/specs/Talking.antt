@@ -42,8 +42,8 @@ text_of_call (time_came now) = []
 text_of_call (text_came bytes now) = bytes
 
 -- all that was given to the connection to send
-abbrev pub said : List TcpCall → List ℕ
-said calls = flat_map text_of_call calls
+abbrev pub said_in_all : List TcpCall → List ℕ
+said_in_all calls = flat_map text_of_call calls
 
 -- what is held of the stream
 abbrev pub talk_held : {T : Type 0} → ℕ → Talk T → HeldBytes
@@ -54,7 +54,7 @@ abbrev pub to_say : {T : Type 0} → Talker T → ℕ → Talk T → List ℕ
 to_say t isn d = t.says (front (talk_held isn d)) (has_ended (talk_held isn d)) d.tasks
 
 abbrev pub unsaid : {T : Type 0} → Talker T → ℕ → Talk T → List ℕ
-unsaid t isn d = drop (length (said d.calls)) (to_say t isn d)
+unsaid t isn d = drop (length (said_in_all d.calls)) (to_say t isn d)
 
 abbrev pub text_to_send : List ℕ → ℕ → List TcpCall
 text_to_send [] now = []
@@ -113,4 +113,4 @@ talk_after t isn start came = fold (talks_on t isn) (begun_talk t isn start) cam
 -- All that is to be said has been said, in order and once, and nothing else.
 abbrev pub AllIsSaid : Type 0 → Type 0
 AllIsSaid T = (t : Talker T) → OnlyAdds t → (isn start : ℕ) (came : List (Came T))
-    → said (talk_after t isn start came).calls ≡ to_say t isn (talk_after t isn start came)
+    → said_in_all (talk_after t isn start came).calls ≡ to_say t isn (talk_after t isn start came)

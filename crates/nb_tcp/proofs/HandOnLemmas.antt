@@ -10,7 +10,7 @@ use Rattle.nb_terms.specs.declared.acts.Acts.{Acts}
 use Rattle.nb_streams.specs.Segments.{Incoming, Arrival}
 use Rattle.nb_streams.specs.Streams.{HeldBytes, front, next, has_ended, is_stop}
 use Rattle.nb_streams.specs.Flows.{segment_came, conn_phase, held_in, is_taken, held_after}
-use Rattle.nb_streams.specs.Sending.{is_reset, is_answered}
+use Rattle.nb_streams.specs.Sending.{is_reset, is_answered_by_ack}
 use Rattle.nb_streams.specs.Trying.{timer_after}
 use Rattle.nb_reasm.specs.declared.held.Held.{Held}
 use Rattle.nb_reasm.specs.HeldWindows.{window}
@@ -209,8 +209,8 @@ module _ (l : Link) (start : ℕ) (old new : Conn) (h : List ConnEntry) (m : Arr
   pub alive : has_ended_after h ≡ false
   alive = sym was.over ∙ running
 
-  means : Means (is_taken (flow_of k.variables flows.held flows.text) m.segment) (is_reset (flow_of k.variables flows.held flows.text) m.segment) (is_answered (flow_of k.variables flows.held flows.text) m.segment) verdict.Taken
-  means = subst (λ (d : Verdict). Means (is_taken (flow_of k.variables flows.held flows.text) m.segment) (is_reset (flow_of k.variables flows.held flows.text) m.segment) (is_answered (flow_of k.variables flows.held flows.text) m.segment) d)
+  means : Means (is_taken (flow_of k.variables flows.held flows.text) m.segment) (is_reset (flow_of k.variables flows.held flows.text) m.segment) (is_answered_by_ack (flow_of k.variables flows.held flows.text) m.segment) verdict.Taken
+  means = subst (λ (d : Verdict). Means (is_taken (flow_of k.variables flows.held flows.text) m.segment) (is_reset (flow_of k.variables flows.held flows.text) m.segment) (is_answered_by_ack (flow_of k.variables flows.held flows.text) m.segment) d)
       (next_taken k.variables old.given m.segment said) (verdict_means k.variables flows.held flows.text m.segment flows.stands.next)
 
   abbrev received : Variables

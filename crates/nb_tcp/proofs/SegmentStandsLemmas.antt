@@ -7,7 +7,7 @@ use Rattle.nb_reasm.specs.declared.held.Held.{Held}
 use Rattle.nb_reasm.specs.HeldWindows.{window}
 use Rattle.nb_streams.specs.Segments.{Arrival}
 use Rattle.nb_streams.specs.Flows.{segment_came, held_after, is_taken}
-use Rattle.nb_streams.specs.Sending.{Outgoing, is_reset, is_answered, without_try}
+use Rattle.nb_streams.specs.Sending.{Outgoing, is_reset, is_answered_by_ack, without_try}
 use Rattle.nb_tcp.specs.declared.link.Link.{Link}
 use Rattle.nb_tcp.specs.declared.conn.Conn.{Conn}
 use Rattle.nb_tcp.specs.declared.conn.ConnState.{ConnState}
@@ -45,10 +45,10 @@ module _ (l : Link) (start : ℕ) (old new : Conn) (h : List ConnEntry) (m : Arr
       running : has_finished old.state ≡ false
       running = was.over ∙ alive
 
-      not_reset : (v : Variables) (flows : FlowsSo v old.given old.unacked.items (phase_of l h)) → Means (is_taken (flow_of v flows.held flows.text) m.segment) (is_reset (flow_of v flows.held flows.text) m.segment) (is_answered (flow_of v flows.held flows.text) m.segment) (judged v m.segment)
+      not_reset : (v : Variables) (flows : FlowsSo v old.given old.unacked.items (phase_of l h)) → Means (is_taken (flow_of v flows.held flows.text) m.segment) (is_reset (flow_of v flows.held flows.text) m.segment) (is_answered_by_ack (flow_of v flows.held flows.text) m.segment) (judged v m.segment)
       not_reset v flows = verdict_means v flows.held flows.text m.segment flows.stands.next
 
-      by_verdict : (v : Variables) (flows : FlowsSo v old.given old.unacked.items (phase_of l h)) → old.state ≡ Established v → (d : Verdict) → Means (is_taken (flow_of v flows.held flows.text) m.segment) (is_reset (flow_of v flows.held flows.text) m.segment) (is_answered (flow_of v flows.held flows.text) m.segment) d
+      by_verdict : (v : Variables) (flows : FlowsSo v old.given old.unacked.items (phase_of l h)) → old.state ≡ Established v → (d : Verdict) → Means (is_taken (flow_of v flows.held flows.text) m.segment) (is_reset (flow_of v flows.held flows.text) m.segment) (is_answered_by_ack (flow_of v flows.held flows.text) m.segment) d
           → FollowsVerdict old v m.rec m.segment now d new acts → GoesOn l start h (segment_came m now) acts new
       by_verdict v flows e verdict.Taken means f = taken_goes_on l start old new h m now acts v (record { was = was; alive = alive; running = running; here = here; short = short; takes = f; flows = flows; taken = means.0; reset = means.1 })
       by_verdict v flows e verdict.Reset means f = untaken_goes_on l start old new h m now acts v false true (record {

@@ -7,7 +7,7 @@ use Rattle.std.proofs.lemmas.List.{drop-drop}
 use Rattle.nb_streams.specs.Segments.{Incoming, ahead, places}
 use Rattle.nb_streams.specs.Streams.{HeldBytes, next, first_stop}
 use Rattle.nb_streams.specs.Flows.{full_window, is_beyond, is_taken, is_current, advance_of, with_segment, window_bytes, is_past, is_other, has_other_stop}
-use Rattle.nb_streams.specs.Sending.{is_reset, is_answered}
+use Rattle.nb_streams.specs.Sending.{is_reset, is_answered_by_ack}
 use Rattle.nb_streams.proofs.StreamLaws.{either}
 use Rattle.nb_streams.proofs.TryLaws.{not_past, not_beyond}
 use Rattle.nb_streams.proofs.SendLaws.{IsFlow}
@@ -65,7 +65,7 @@ means true false false true d = (refl, refl, refl)
 means true false false false d = (refl, refl)
 means false false false beyond d = (refl, refl, refl)
 
-pub verdict_means : (v : Variables) (h : HeldBytes) (text : List ℕ) (s : Incoming) → v.next ≡ next h → Means (is_taken (flow_of v h text) s) (is_reset (flow_of v h text) s) (is_answered (flow_of v h text) s) (judged v s)
+pub verdict_means : (v : Variables) (h : HeldBytes) (text : List ℕ) (s : Incoming) → v.next ≡ next h → Means (is_taken (flow_of v h text) s) (is_reset (flow_of v h text) s) (is_answered_by_ack (flow_of v h text) s) (judged v s)
 verdict_means v h text s same = subst (λ n. Means (is_taken (flow_of v h text) s) (s.rst && ahead (v.irs + 1 + n) s.number == 0) (answered_by s.ack s.syn s.rst (is_beyond (flow_of v h text) s) (ahead (v.irs + 1 + n) s.number)) (judged v s)) same
     (means s.ack s.syn s.rst (is_beyond (flow_of v h text) s) (distance_of v s.number))
 

@@ -10,7 +10,7 @@ use Rattle.nb_retry.specs.declared.retry.Due.{Due}
 use Rattle.nb_retry.specs.declared.retry.Due.TheVariants.{Not, Again, Over}
 use Rattle.nb_retry.specs.declared.retry.Retry.{Retry}
 use Rattle.nb_retry.specs.Plans.{Asked, asked_at, firings, waits}
-use Rattle.nb_retry.specs.Calls.{fires, TimerStands as TimerStands}
+use Rattle.nb_retry.specs.Calls.{fires, TimerStands}
 use Rattle.nb_retry.specs.Timer.{due_at, after as asked_after}
 use Rattle.nb_retry.proofs.PlanLemmas.{follows_plan, after-since, Stands-append}
 use Rattle.nb_terms.specs.declared.acts.Acts.{Acts}

@@ -7,7 +7,7 @@ use Rattle.nb_terms.specs.declared.acts.Acts.{Acts}
 use Rattle.nb_streams.specs.Segments.{Arrival}
 use Rattle.nb_streams.specs.Streams.{next, has_ended, is_stop, grown}
 use Rattle.nb_streams.specs.Flows.{ConnPhase, flowing, segment_came, after_tcp_call, after_segment, held_in, is_taken}
-use Rattle.nb_streams.specs.Sending.{calls_for, is_reset, is_answered, only_if, without_try, pure_ack}
+use Rattle.nb_streams.specs.Sending.{calls_for, is_reset, is_answered_by_ack, only_if, without_try, pure_ack}
 use Rattle.nb_streams.specs.Trying.{timer_by, timer_after}
 use Rattle.nb_tcp.specs.declared.link.Link.{Link}
 use Rattle.nb_tcp.specs.declared.conn.Conn.{Conn}
@@ -33,7 +33,7 @@ pub record UntakenFacts (l : Link) (start : ℕ) (old new : Conn) (h : List Conn
   pub flows : FlowsSo v old.given old.unacked.items (phase_of l h)
   pub taken : is_taken (flow_of v flows.held flows.text) m.segment ≡ false
   pub reset_is : is_reset (flow_of v flows.held flows.text) m.segment ≡ reset
-  pub answered_is : is_answered (flow_of v flows.held flows.text) m.segment ≡ answered
+  pub answered_is : is_answered_by_ack (flow_of v flows.held flows.text) m.segment ≡ answered
   pub new_is : new ≡ record old { state = cond reset (ended_at v) (Established v) }
   pub acts_are : acts ≡ acts_by l (only_if answered (without_try (ack_of_variables v))) v.next v.next (cond reset (Some (refused_in m.rec)) None)
 

@@ -6,7 +6,7 @@ use Rattle.std.proofs.lemmas.Bool.{ltb-true, leb-true, eqb-true, lt-ltb, cases_l
 use Rattle.std.proofs.lemmas.Option.{slice_get-get_or, none-some}
 use Rattle.std.proofs.lemmas.List.{length-append}
 use Rattle.nb_streams.specs.Segments.{Incoming, ahead, places}
-use Rattle.nb_streams.specs.Streams.{HeldBytes, byte_at, if_here, before_stop, counts, counting, first_stop, front, next, with_bytes, stop_at, IsPrefixOf}
+use Rattle.nb_streams.specs.Streams.{HeldBytes, byte_at, if_here, before_stop, counts, counting, first_stop, front, next, with_pairs, stop_at, IsPrefixOf}
 use Rattle.nb_streams.specs.Flows.{Flow, full_window, place_within, stop_of, window_bytes}
 use Rattle.nb_streams.proofs.StreamLaws.{either, by_option, look_counted, IsAhead, front_more}
 use Rattle.nb_streams.proofs.LeastLaws.{none_at_next, byte_below_next}
@@ -121,7 +121,7 @@ pub record PutsSegment (v : Variables) (h : HeldBytes) (s : Incoming) (old new :
 
 -- what is held once the segment came
 abbrev pub held_then : Variables → HeldBytes → Incoming → HeldBytes
-held_then v h s = with_bytes (places full_window (v.irs + 1) v.next s.number s.body) (stop_at (found_stop v s) h)
+held_then v h s = with_pairs (places full_window (v.irs + 1) v.next s.number s.body) (stop_at (found_stop v s) h)
 
 counted_below : (o : Option ℕ) (p : ℕ) → p < 2 ^ 31 - 1 → before_stop o p ≡ true → p < min (unwrap_or o (2 ^ 31 - 1)) (2 ^ 31 - 1)
 counted_below None p low before = omega (arith, low)
@@ -172,10 +172,10 @@ put_small v h s old new c = ⊎_elim
 
 -- the held bytes are those of the connection
 pub held_same : (v : Variables) (h : HeldBytes) (text : List ℕ) (s : Incoming) → v.next ≡ next h → v.next < 2 ^ 31
-    → with_bytes (window_bytes (flow_of v h text) s) (stop_at (stop_of (flow_of v h text) s) h) ≡ held_then v h s
+    → with_pairs (window_bytes (flow_of v h text) s) (stop_at (stop_of (flow_of v h text) s) h) ≡ held_then v h s
 held_same v h text s same small =
-    ap (λ o. with_bytes (window_bytes (flow_of v h text) s) (stop_at o h)) (stop_same v h text s same small)
-    ∙ ap (λ n. with_bytes (places full_window (v.irs + 1) n s.number s.body) (stop_at (found_stop v s) h)) (sym same)
+    ap (λ o. with_pairs (window_bytes (flow_of v h text) s) (stop_at o h)) (stop_same v h text s same small)
+    ∙ ap (λ n. with_pairs (places full_window (v.irs + 1) n s.number s.body) (stop_at (found_stop v s) h)) (sym same)
 
 -- the front grew, if it changed at all
 pub front_then : (v : Variables) (h : HeldBytes) (s : Incoming) → v.next ≡ next h → v.next < 2 ^ 31 → IsPrefixOf (front h) (front (held_then v h s))

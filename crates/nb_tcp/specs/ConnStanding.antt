@@ -1,7 +1,7 @@
 -- What a connection stands for: all the calls since its start
 use Rattle.std.specs.Prelude.{◌≡◌, ◌≤◌, ◌<◌, ℕ, ◌+◌, ◌^◌, Bool, true, false, List, [], ◌∷◌, ◌++◌, length, take, drop, map, Option, Some, None, nat_lt, slice_index, ◌-◌}
 use Rattle.std.specs.Option.{is_some}
-use Rattle.nb_retry.specs.Calls.{TimerStands as TimerStands}
+use Rattle.nb_retry.specs.Calls.{TimerStands}
 use Rattle.nb_retry.specs.Plans.{Asked}
 use Rattle.nb_retry.specs.declared.plan.Plan.TheVariants.{Common}
 use Rattle.nb_retry.specs.declared.retry.Retry.{Retry}

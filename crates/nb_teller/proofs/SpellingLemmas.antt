@@ -18,7 +18,7 @@ use Rattle.nb_opens.proofs.CloseLemmas.{first_close-append}
 use Rattle.nb_stack.specs.Client.{Client}
 use Rattle.nb_teller.specs.declared.speaker.Speaker.{Speaker}
 use Rattle.nb_drivechains.specs.declared.drive_answer.DriveAnswer.{DriveAnswer}
-use Rattle.nb_drivechains.specs.DriveCalls.{answer_in}
+use Rattle.nb_drivechains.specs.DriveCalls.{drive_answer_in}
 use Rattle.nb_teller.specs.Deliveries.{delivered_address, delivered_answer, delivered_blocks, delivered_bytes}
 use Rattle.nb_teller.specs.Spelling.{Spelling, rows_of, rows_in, heard_by, IsSpelled, IsBlank, SpellsMore, SpellsMessage, FindsNothing, bytes_after, address_after, blocks_after, answer_after, first_there}
 use Rattle.nb_drivenodes.specs.DriveTags.{drive_tag_number}
@@ -134,14 +134,14 @@ first_none (Some x) = refl
 answer_more : (ns : List Notice) (n : Notice) → delivered_answer (ns ++ n ∷ []) ≡ answer_by (delivered_answer ns) n
 unfolding delivered_answer
 answer_more [] (event e) = refl
-answer_more [] (message from tag rec a b bytes) = first_none (answer_in tag a b)
+answer_more [] (message from tag rec a b bytes) = first_none (drive_answer_in tag a b)
 answer_more (event e ∷ ns) n = answer_more ns n
-answer_more (message from tag rec a b bytes ∷ ns) n = ap (option_or (answer_in tag a b)) (answer_more ns n) ∙ goes_in (answer_in tag a b) n
+answer_more (message from tag rec a b bytes ∷ ns) n = ap (option_or (drive_answer_in tag a b)) (answer_more ns n) ∙ goes_in (drive_answer_in tag a b) n
   where
     goes_in : (x : Option DriveAnswer) (m : Notice) → option_or x (answer_by (delivered_answer ns) m) ≡ answer_by (option_or x (delivered_answer ns)) m
     goes_in x (event e) = refl
     goes_in x (message from tag rec a b bytes) =
-        or_there x (first_there (delivered_answer ns) (answer_in tag a b)) ∙ (first_in x (delivered_answer ns) (answer_in tag a b) ∙ ap (λ z. first_there z (answer_in tag a b)) (sym (or_there x (delivered_answer ns))))
+        or_there x (first_there (delivered_answer ns) (drive_answer_in tag a b)) ∙ (first_in x (delivered_answer ns) (drive_answer_in tag a b) ∙ ap (λ z. first_there z (drive_answer_in tag a b)) (sym (or_there x (delivered_answer ns))))
 
 -- whether a message found no route, with one thing more
 stuck_more : (net : Client) (who : Speaker) (ns : List Notice) (n : Notice) → any_lacks_route net who (ns ++ n ∷ []) ≡ (any_lacks_route net who ns || lacks_route net who n)

@@ -7,7 +7,7 @@ use Rattle.nb_ledger.specs.Flat.{Notice, event, message}
 use Rattle.nb_nodes.specs.Tags.{tag_number}
 use Rattle.nb_nodes.specs.declared.tag.Tag.TheVariants.{Bytes, Address}
 use Rattle.nb_drivechains.specs.declared.drive_answer.DriveAnswer.{DriveAnswer}
-use Rattle.nb_drivechains.specs.DriveCalls.{answer_in}
+use Rattle.nb_drivechains.specs.DriveCalls.{drive_answer_in}
 
 -- the first bytes that were delivered
 unfoldable pub delivered_bytes : List Notice → Option (List ℕ)
@@ -31,4 +31,4 @@ delivered_blocks (message from tag rec a b bytes ∷ ns) = if tag == tag_number 
 unfoldable pub delivered_answer : List Notice → Option DriveAnswer
 delivered_answer [] = None
 delivered_answer (event e ∷ ns) = delivered_answer ns
-delivered_answer (message from tag rec a b bytes ∷ ns) = option_or (answer_in tag a b) (delivered_answer ns)
+delivered_answer (message from tag rec a b bytes ∷ ns) = option_or (drive_answer_in tag a b) (delivered_answer ns)

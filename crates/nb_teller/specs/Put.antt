@@ -16,5 +16,5 @@ abbrev pub PutsMessage : Client → Speaker → Option ℕ → ℕ → List ℕ 
 PutsMessage net who tried port body old new = Puts old new (out_texts (send_records net who.number tried (datagram_of who port body)))
 
 -- they were put, and the message leaves
-abbrev pub Leaves : Client → Speaker → Option ℕ → ℕ → List ℕ → Logged → Logged → Type 0
-Leaves net who tried port body old new = (has_route net (datagram_of who port body) ≡ true) × PutsMessage net who tried port body old new
+abbrev pub LeavesByRoute : Client → Speaker → Option ℕ → ℕ → List ℕ → Logged → Logged → Type 0
+LeavesByRoute net who tried port body old new = (has_route net (datagram_of who port body) ≡ true) × PutsMessage net who tried port body old new

@@ -11,7 +11,7 @@ use Rattle.nb_nodes.specs.declared.tag.Tag.TheVariants.{Bytes, Address}
 use Rattle.nb_opens.specs.Notices.{first_close}
 use Rattle.nb_teller.specs.declared.speaker.Speaker.{Speaker}
 use Rattle.nb_drivechains.specs.declared.drive_answer.DriveAnswer.{DriveAnswer}
-use Rattle.nb_drivechains.specs.DriveCalls.{answer_in}
+use Rattle.nb_drivechains.specs.DriveCalls.{drive_answer_in}
 use Rattle.nb_teller.specs.Deliveries.{delivered_address, delivered_answer, delivered_blocks, delivered_bytes}
 use Rattle.nb_teller.specs.Tellings.{told_records, message_records, any_lacks_route, message_lacks_route}
 
@@ -110,7 +110,7 @@ abbrev pub blocks_after : List ℕ → ℕ → List ℕ → List ℕ
 blocks_after before tag bytes = if tag == tag_number Bytes then before ++ bytes else before
 
 abbrev pub answer_after : Option DriveAnswer → ℕ → ℕ → ℕ → Option DriveAnswer
-answer_after before tag a b = first_there before (answer_in tag a b)
+answer_after before tag a b = first_there before (drive_answer_in tag a b)
 
 abbrev pub FindsMore : Spelling → Spelling → ℕ → ℕ → ℕ → List ℕ → Type 0
 FindsMore s t tag a b bytes = t.is_lost ≡ false → (t.bytes ≡ bytes_after s.bytes tag bytes) × (t.address ≡ address_after s.address tag a)

@@ -9,7 +9,7 @@ ghost use Rattle.nb_teller.specs.declared.speaker.Carrier.TheVariants.{Udp, Tcp}
 ghost use Rattle.nb_teller.specs.Spelling.{IsSpelled};
 ghost use Rattle.nb_machine.specs.Sendings.{try_records, send_records, has_route};
 ghost use Rattle.nb_machine.specs.CommandRecords.{reply_records};
-ghost use Rattle.nb_teller.specs.Put.{IsFrameOrNothing, Leaves};
+ghost use Rattle.nb_teller.specs.Put.{IsFrameOrNothing, LeavesByRoute};
 ghost use Rattle.nb_teller.specs.Tellings.{told_records};
 ghost use Rattle.nb_teller.specs.Speakers.{carrier_number, datagram_of, least_body, CanCarry};
 
@@ -117,7 +117,7 @@ fn put_ack(
     body: &[u8],
     log: &mut Log,
 ) -> bool
-    ensures { MatchBool result (Leaves net.now who.now tried port body.now log.old log.new) (log.new ≡ log.old) }
+    ensures { MatchBool result (LeavesByRoute net.now who.now tried port body.now log.old log.new) (log.new ≡ log.old) }
 {
     match who.carrier {
         Carrier::Udp => match short_datagram(net, who, port, body) {

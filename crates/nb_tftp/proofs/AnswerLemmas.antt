@@ -11,24 +11,24 @@ use Rattle.nb_tftp.specs.declared.answer.Answer.{Answer}
 use Rattle.nb_tftp.specs.declared.answer.Answer.TheVariants.{Ignored, Stranger, Again, Agreed, Declined, Taken, Ended}
 use Rattle.nb_tftp.specs.Asks.{range_of_block}
 use Rattle.nb_tftp.specs.Ends.{refused_by}
-use Rattle.nb_tftp.specs.Decisions.{from_server, decided, block_decided, end_of_block, is_block_size}
-use Rattle.nb_tftp.specs.Received.{Received, has_number, bytes_of, is_error, is_oack, stated_size}
+use Rattle.nb_tftp.specs.Decisions.{from_server, packet_decided, block_decided, end_of_block, is_block_size}
+use Rattle.nb_tftp.specs.Received.{Received, has_block_number, block_bytes_of, is_error, is_oack, stated_size}
 use Rattle.nb_tftp.specs.History.{came, given_of}
 use Rattle.nb_tftp.proofs.BlockLemmas.{either_way}
 
 -- it is the next block
 abbrev pub next_of : Option ℕ → ℕ → ℕ → Option Message → Bool
-next_of fixed last port p = option_map_or (has_number (suc last)) p false && from_server fixed port
+next_of fixed last port p = option_map_or (has_block_number (suc last)) p false && from_server fixed port
 
 abbrev pub fits_of : ℕ → Option Message → Bool
-fits_of size p = leb (length (option_map_or bytes_of p [])) size
+fits_of size p = leb (length (option_map_or block_bytes_of p [])) size
 
 abbrev pub grants_of : Bool → Option ℕ → Option Message → Bool
 grants_of opts fixed p = opts && (is_none fixed && option_map_or is_oack p false)
 
 abbrev pub answers_of : Bool → Option ℕ → ℕ → ℕ → Option Message → Bool
 answers_of opts fixed last port p =
-    grants_of opts fixed p || (from_server fixed port && (option_map_or (has_number (last + 1)) p false || option_map_or is_error p false))
+    grants_of opts fixed p || (from_server fixed port && (option_map_or (has_block_number (last + 1)) p false || option_map_or is_error p false))
 
 abbrev Quiet : Bool → Option ℕ → ℕ → ℕ → Option Message → Type 0
 Quiet opts fixed last port p = (next_of fixed last port p ≡ false) × (answers_of opts fixed last port p ≡ false)
@@ -36,7 +36,7 @@ Quiet opts fixed last port p = (next_of fixed last port p ≡ false) × (answers
 -- what each answer says
 abbrev pub Means : Bool → Option ℕ → ℕ → ℕ → ℕ → Option Message → Answer → Type 0
 Means opts fixed size last port p (Taken n len over) =
-    (n ≡ suc last) × (len ≡ length (option_map_or bytes_of p [])) × (next_of fixed last port p ≡ true) × (fits_of size p ≡ true) × (over ≡ end_of_block size n len)
+    (n ≡ suc last) × (len ≡ length (option_map_or block_bytes_of p [])) × (next_of fixed last port p ≡ true) × (fits_of size p ≡ true) × (over ≡ end_of_block size n len)
 Means opts fixed size last port p (Ended cause) = ((next_of fixed last port p && fits_of size p) ≡ false) × (eqb cause.code 0 ≡ false)
 Means opts fixed size last port p (Agreed granted) =
     (fixed ≡ None) × ((opts && option_map_or is_oack p false) ≡ true) × (granted ≡ option_map_or stated_size p 512) × (is_block_size granted ≡ true)
@@ -83,7 +83,7 @@ no_answer opts fixed port test off = no_grant opts fixed (from_server fixed port
 nothing_in : (opts : Bool) (fixed : Option ℕ) (port : ℕ) → ((opts && (is_none fixed && false)) || (from_server fixed port && false)) ≡ false
 nothing_in opts fixed port = no_grant opts fixed (from_server fixed port && false) (and_off (from_server fixed port))
 
-oack_means : (opts : Bool) (fixed : Option ℕ) (size last rec port : ℕ) (blksize tsize : Option ℕ) → Means opts fixed size last port (Some (oack blksize tsize)) (decided opts fixed size last rec port (oack blksize tsize))
+oack_means : (opts : Bool) (fixed : Option ℕ) (size last rec port : ℕ) (blksize tsize : Option ℕ) → Means opts fixed size last port (Some (oack blksize tsize)) (packet_decided opts fixed size last rec port (oack blksize tsize))
 oack_means false fixed size last rec port blksize tsize = (refl, and_off (from_server fixed port))
 oack_means true None size last rec port blksize tsize =
     either_way (is_block_size (unwrap_or blksize 512)) (λ on. rw on (refl, refl, refl, on)) (λ off. rw off refl)
@@ -91,7 +91,7 @@ oack_means true (Some p) size last rec port blksize tsize = either_way (eqb p po
     (λ on. rw on (either_way (eqb last 0) (λ first. rw first (refl, and_off (eqb p port))) (λ later. rw later (refl, and_off (eqb p port)))))
     (λ off. rw off (refl, and_off (eqb p port)))
 
-packet_means : (opts : Bool) (fixed : Option ℕ) (size last rec port : ℕ) (p : Message) → Means opts fixed size last port (Some p) (decided opts fixed size last rec port p)
+packet_means : (opts : Bool) (fixed : Option ℕ) (size last rec port : ℕ) (p : Message) → Means opts fixed size last port (Some p) (packet_decided opts fixed size last rec port p)
 packet_means opts fixed size last rec port (block n bytes) =
     by_server opts fixed size last port (block n bytes) (block_decided fixed size last rec n bytes) Stranger
     (λ on. block_means opts fixed size last rec port n bytes on)
@@ -104,12 +104,12 @@ packet_means opts fixed size last rec port (ack n) =
     by_server opts fixed size last port (ack n) Ignored Stranger (λ on. (refl, nothing_in opts fixed port)) (λ off. (refl, nothing_in opts fixed port))
 packet_means opts fixed size last rec port (oack blksize tsize) = oack_means opts fixed size last rec port blksize tsize
 
-pub means : (opts : Bool) (fixed : Option ℕ) (size last rec port : ℕ) (p : Option Message) → Means opts fixed size last port p (option_map_or (decided opts fixed size last rec port) p Ignored)
+pub means : (opts : Bool) (fixed : Option ℕ) (size last rec port : ℕ) (p : Option Message) → Means opts fixed size last port p (option_map_or (packet_decided opts fixed size last rec port) p Ignored)
 means opts fixed size last rec port None = (refl, nothing_in opts fixed port)
 means opts fixed size last rec port (Some p) = packet_means opts fixed size last rec port p
 
 -- where a block's bytes stand in its body
-pub block_body : (body : List ℕ) (n : ℕ) (p : Option Message) → IsBytes body → packet_read body ≡ p → option_map_or (has_number n) p false ≡ true → drop 4 body ≡ option_map_or bytes_of p []
+pub block_body : (body : List ℕ) (n : ℕ) (p : Option Message) → IsBytes body → packet_read body ≡ p → option_map_or (has_block_number n) p false ≡ true → drop 4 body ≡ option_map_or block_bytes_of p []
 block_body body n None are is number = absurd (false≢true number)
 block_body body n (Some (block k bytes)) are is number = ap (λ b. drop 4 b) (reading_sound body (block k bytes) are is).1
 block_body body n (Some (rrq path options)) are is number = absurd (false≢true number)

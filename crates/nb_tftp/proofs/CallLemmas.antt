@@ -5,7 +5,7 @@ use Rattle.std.specs.List.{list_any}
 use Rattle.std.specs.Option.{option_map_or}
 use Rattle.std.proofs.lemmas.Bool.{false≢true}
 use Rattle.std.proofs.lemmas.List.{append-nil}
-use Rattle.nb_retry.specs.Calls.{TimerStands as TimerStands}
+use Rattle.nb_retry.specs.Calls.{TimerStands}
 use Rattle.nb_retry.specs.Plans.{firings, waits}
 use Rattle.nb_retry.specs.declared.retry.Due.{Due}
 use Rattle.nb_retry.specs.declared.retry.Due.TheVariants.{Not, Again as TryAgain, Over as PlanOver}
@@ -16,7 +16,7 @@ use Rattle.nb_tftp.specs.declared.answer.Answer.TheVariants.{Ignored}
 use Rattle.nb_tftp.specs.declared.state.State.{State}
 use Rattle.nb_tftp.specs.Asks.{Begun, acts_of, due_acts, nothing}
 use Rattle.nb_tftp.specs.Decisions.{fixed_of, block_size_of, last_of, transfer_has_ended}
-use Rattle.nb_tftp.specs.Steps.{begun_of, first_state, after_answer, after_bytes, bytes_acts, after_due, after_tick, tick_acts}
+use Rattle.nb_tftp.specs.Steps.{begun_of, first_state, state_after_answer, after_bytes, bytes_acts, after_due, after_tick, tick_acts}
 use Rattle.nb_tftp.specs.Received.{Received, packet_in, port_with, size_with}
 use Rattle.nb_tftp.specs.Blocks.{blocks_with, count_with, whole_with}
 use Rattle.nb_tftp.specs.History.{Entry, entry, came, ticked, got, is_ended, ends_ok, watched, Watch}
@@ -30,19 +30,19 @@ use Rattle.nb_retry.specs.Plans.{Asked, asked_at}
 use Rattle.nb_retry.proofs.PlanLemmas.{Stands-append as TimerStands-append, follows_plan, after-since}
 use Rattle.nb_tftpmsg.specs.Packets.{Message}
 use Rattle.nb_tftpmsg.specs.Reading.{packet_read}
-use Rattle.nb_tftp.specs.Decisions.{decided}
+use Rattle.nb_tftp.specs.Decisions.{packet_decided}
 use Rattle.nb_tftp.specs.History.{due_of}
 use Rattle.nb_tftp.specs.Steps.{packet_acts, after_packet}
 use Rattle.nb_tftp.proofs.StandsLemmas.{keeps, or_none, or_some, PlanOf, came_by}
 
 -- what a datagram asks and leaves, by its answer, while the transfer hasn't ended
-acts_by : (state : State) (rec port : ℕ) (p : Option Message) → transfer_has_ended state.phase ≡ false → option_map_or (packet_acts state rec port) p nothing ≡ acts_of (begun_of state) port (option_map_or (decided state.options (fixed_of state.phase) (block_size_of state.phase) (last_of state.phase) rec port) p Ignored)
+acts_by : (state : State) (rec port : ℕ) (p : Option Message) → transfer_has_ended state.phase ≡ false → option_map_or (packet_acts state rec port) p nothing ≡ acts_of (begun_of state) port (option_map_or (packet_decided state.options (fixed_of state.phase) (block_size_of state.phase) (last_of state.phase) rec port) p Ignored)
 acts_by state rec port None unended = refl
-acts_by state rec port (Some p) unended = ap (λ t. cond t nothing (acts_of (begun_of state) port (decided state.options (fixed_of state.phase) (block_size_of state.phase) (last_of state.phase) rec port p))) unended
+acts_by state rec port (Some p) unended = ap (λ t. cond t nothing (acts_of (begun_of state) port (packet_decided state.options (fixed_of state.phase) (block_size_of state.phase) (last_of state.phase) rec port p))) unended
 
-after_by : (state : State) (rec port now : ℕ) (p : Option Message) → transfer_has_ended state.phase ≡ false → option_map_or (λ packet. after_packet state rec port packet now) p state ≡ after_answer state port (option_map_or (decided state.options (fixed_of state.phase) (block_size_of state.phase) (last_of state.phase) rec port) p Ignored) now
+after_by : (state : State) (rec port now : ℕ) (p : Option Message) → transfer_has_ended state.phase ≡ false → option_map_or (λ packet. after_packet state rec port packet now) p state ≡ state_after_answer state port (option_map_or (packet_decided state.options (fixed_of state.phase) (block_size_of state.phase) (last_of state.phase) rec port) p Ignored) now
 after_by state rec port now None unended = refl
-after_by state rec port now (Some p) unended = ap (λ t. cond t state (after_answer state port (decided state.options (fixed_of state.phase) (block_size_of state.phase) (last_of state.phase) rec port p) now)) unended
+after_by state rec port now (Some p) unended = ap (λ t. cond t state (state_after_answer state port (packet_decided state.options (fixed_of state.phase) (block_size_of state.phase) (last_of state.phase) rec port p) now)) unended
 
 answer_same : (opts : Bool) (state : State) (h : List Entry) (m : Received) → state.options ≡ opts → fixed_of state.phase ≡ port_with opts (got h) → block_size_of state.phase ≡ size_with opts (got h) → last_of state.phase ≡ count_with opts (got h)
     → answer_to state.options (fixed_of state.phase) (block_size_of state.phase) (last_of state.phase) m ≡ answer_to opts (port_with opts (got h)) (size_with opts (got h)) (count_with opts (got h)) m
@@ -61,10 +61,10 @@ came_stands opts b start state h m now stands unended are =
     let same = answer_same opts state h m live.asked live.fixed live.size live.last in
     let acts : bytes_acts state m.rec m.port m.body ≡ acts_of b m.port (answer_to opts (port_with opts (got h)) (size_with opts (got h)) (count_with opts (got h)) m) =
     acts_by state m.rec m.port (packet_in m) running ∙ ap (λ x. acts_of x m.port (answer_to state.options (fixed_of state.phase) (block_size_of state.phase) (last_of state.phase) m)) live.begun ∙ ap (acts_of b m.port) same in
-    let after : after_bytes state m.rec m.port m.body now ≡ after_answer state m.port (answer_to opts (port_with opts (got h)) (size_with opts (got h)) (count_with opts (got h)) m) now =
-    after_by state m.rec m.port now (packet_in m) running ∙ ap (λ a. after_answer state m.port a now) same in
+    let after : after_bytes state m.rec m.port m.body now ≡ state_after_answer state m.port (answer_to opts (port_with opts (got h)) (size_with opts (got h)) (count_with opts (got h)) m) now =
+    after_by state m.rec m.port now (packet_in m) running ∙ ap (λ a. state_after_answer state m.port a now) same in
     subst (λ (x : State). StandsWith opts b start x (h ++ entry (came m now) (bytes_acts state m.rec m.port m.body) ∷ [])) (sym after)
-    (subst (λ (x : Acts). StandsWith opts b start (after_answer state m.port (answer_to opts (port_with opts (got h)) (size_with opts (got h)) (count_with opts (got h)) m) now) (h ++ entry (came m now) x ∷ [])) (sym acts)
+    (subst (λ (x : Acts). StandsWith opts b start (state_after_answer state m.port (answer_to opts (port_with opts (got h)) (size_with opts (got h)) (count_with opts (got h)) m) now) (h ++ entry (came m now) x ∷ [])) (sym acts)
     (came_by opts b start state h m now (answer_to opts (port_with opts (got h)) (size_with opts (got h)) (count_with opts (got h)) m) stands running are (means opts (port_with opts (got h)) (size_with opts (got h)) (count_with opts (got h)) m.rec m.port (packet_in m)) refl))
 
 -- a time changes nothing of what was received
@@ -194,11 +194,11 @@ start_stands opts b now = record {
 
 over_after : (state : State) (rec port now : ℕ) (p : Option Message) → transfer_has_ended state.phase ≡ true → option_map_or (λ packet. after_packet state rec port packet now) p state ≡ state
 over_after state rec port now None over = refl
-over_after state rec port now (Some p) over = ap (λ t. cond t state (after_answer state port (decided state.options (fixed_of state.phase) (block_size_of state.phase) (last_of state.phase) rec port p) now)) over
+over_after state rec port now (Some p) over = ap (λ t. cond t state (state_after_answer state port (packet_decided state.options (fixed_of state.phase) (block_size_of state.phase) (last_of state.phase) rec port p) now)) over
 
 over_acts : (state : State) (rec port : ℕ) (p : Option Message) → transfer_has_ended state.phase ≡ true → option_map_or (packet_acts state rec port) p nothing ≡ nothing
 over_acts state rec port None over = refl
-over_acts state rec port (Some p) over = ap (λ t. cond t nothing (acts_of (begun_of state) port (decided state.options (fixed_of state.phase) (block_size_of state.phase) (last_of state.phase) rec port p))) over
+over_acts state rec port (Some p) over = ap (λ t. cond t nothing (acts_of (begun_of state) port (packet_decided state.options (fixed_of state.phase) (block_size_of state.phase) (last_of state.phase) rec port p))) over
 
 -- what has ended ignores every call
 pub came_over : (opts : Bool) (b : Begun) (start : ℕ) (state : State) (h : List Entry) (rec port : ℕ) (body : List ℕ) (now : ℕ)

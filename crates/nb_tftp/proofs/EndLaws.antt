@@ -13,10 +13,10 @@ use Rattle.nb_terms.specs.declared.cause.Cause.{Cause}
 use Rattle.nb_tftpmsg.specs.Packets.{Message, rrq, block, ack, error, oack}
 use Rattle.nb_tftp.specs.declared.answer.Answer.{Answer}
 use Rattle.nb_tftp.specs.declared.answer.Answer.TheVariants.{Ignored, Stranger, Again, Agreed, Declined, Taken, Ended}
-use Rattle.nb_tftp.specs.Ends.{ok_cause, refused_by, timed_out, broken, too_many_blocks}
+use Rattle.nb_tftp.specs.Ends.{ok_cause, refused_by, timed_out, broken_block, too_many_blocks}
 use Rattle.nb_tftp.specs.Asks.{Begun, acts_of, due_acts}
-use Rattle.nb_tftp.specs.Decisions.{from_server, decided, end_of_block, is_block_size}
-use Rattle.nb_tftp.specs.Received.{Received, packet_in, block_bytes, has_number, bytes_of, is_oack, stated_size, port_with, size_with}
+use Rattle.nb_tftp.specs.Decisions.{from_server, packet_decided, end_of_block, is_block_size}
+use Rattle.nb_tftp.specs.Received.{Received, packet_in, block_bytes, has_block_number, block_bytes_of, is_oack, stated_size, port_with, size_with}
 use Rattle.nb_tftp.specs.Blocks.{FoundBlock, blocks_with, blocks_to, count_with, whole_with, last_block}
 use Rattle.nb_tftp.specs.History.{Call, came, ticked, Entry, entry, got, ends_ok, due_of, last_advance, watched, Watch}
 use Rattle.nb_tftp.specs.Sentences.{MeetsWith, OkWhereWholeWith, TriesUnanswered}
@@ -32,19 +32,19 @@ use Rattle.nb_tftp.proofs.SilenceLemmas.{ran_out}
 -- what a packet is that is answered by an end
 data Told (asked : Bool) (fixed : Option ℕ) (size last rec port : ℕ) (p : Message) (a : Answer) (cause : Cause) : Type 0 where
   told_refused : (number : ℕ) (text : List ℕ) → p ≡ error number text → from_server fixed port ≡ true → cause ≡ refused_by rec number → Told asked fixed size last rec port p a cause
-  told_broken : (n : ℕ) (bytes : List ℕ) → p ≡ block n bytes → n ≡ last + 1 → size < length bytes → from_server fixed port ≡ true → cause ≡ broken rec → Told asked fixed size last rec port p a cause
-  told_unfit : (blksize tsize : Option ℕ) → p ≡ oack blksize tsize → asked ≡ true → fixed ≡ None → is_block_size (unwrap_or blksize 512) ≡ false → cause ≡ broken rec → Told asked fixed size last rec port p a cause
+  told_broken : (n : ℕ) (bytes : List ℕ) → p ≡ block n bytes → n ≡ last + 1 → size < length bytes → from_server fixed port ≡ true → cause ≡ broken_block rec → Told asked fixed size last rec port p a cause
+  told_unfit : (blksize tsize : Option ℕ) → p ≡ oack blksize tsize → asked ≡ true → fixed ≡ None → is_block_size (unwrap_or blksize 512) ≡ false → cause ≡ broken_block rec → Told asked fixed size last rec port p a cause
   told_taken : (n len : ℕ) → a ≡ Taken n len (end_of_block size n len) → end_of_block size n len ≡ Some cause → Told asked fixed size last rec port p a cause
 
 block_told : (b : Begun) (asked : Bool) (fixed : Option ℕ) (size last rec port n : ℕ) (bytes : List ℕ) (cause : Cause) (server next long again : Bool)
     → from_server fixed port ≡ server → (n == last + 1) ≡ next → ltb size (length bytes) ≡ long
-    → (acts_of b port (cond server (cond next (cond long (Ended (broken rec)) (Taken n (length bytes) (end_of_block size n (length bytes)))) (cond again (Again n) Ignored)) Stranger)).over ≡ Some cause
-    → Told asked fixed size last rec port (block n bytes) (cond server (cond next (cond long (Ended (broken rec)) (Taken n (length bytes) (end_of_block size n (length bytes)))) (cond again (Again n) Ignored)) Stranger) cause
+    → (acts_of b port (cond server (cond next (cond long (Ended (broken_block rec)) (Taken n (length bytes) (end_of_block size n (length bytes)))) (cond again (Again n) Ignored)) Stranger)).over ≡ Some cause
+    → Told asked fixed size last rec port (block n bytes) (cond server (cond next (cond long (Ended (broken_block rec)) (Taken n (length bytes) (end_of_block size n (length bytes)))) (cond again (Again n) Ignored)) Stranger) cause
 block_told b asked fixed size last rec port n bytes cause false next long again from number over is = absurd (none-some cause is)
 block_told b asked fixed size last rec port n bytes cause true false long true from number over is = absurd (none-some cause is)
 block_told b asked fixed size last rec port n bytes cause true false long false from number over is = absurd (none-some cause is)
 block_told b asked fixed size last rec port n bytes cause true true true again from number over is =
-    told_broken n bytes refl (eqb-true n (last + 1) number) (ltb-true size (length bytes) over) from (sym (same_Some (broken rec) cause is))
+    told_broken n bytes refl (eqb-true n (last + 1) number) (ltb-true size (length bytes) over) from (sym (same_Some (broken_block rec) cause is))
 block_told b asked fixed size last rec port n bytes cause true true false again from number over is = told_taken n (length bytes) refl is
 
 error_told : (b : Begun) (asked : Bool) (fixed : Option ℕ) (size last rec port code : ℕ) (text : List ℕ) (cause : Cause) (server : Bool) → from_server fixed port ≡ server
@@ -67,9 +67,9 @@ grant_told b true fixed size last rec port blksize tsize cause false first fit e
 grant_told b true (Some p) size last rec port blksize tsize cause true true fit e1 e2 is a = absurd (none-some cause is)
 grant_told b true (Some p) size last rec port blksize tsize cause true false fit e1 e2 is a = absurd (none-some cause is)
 grant_told b true None size last rec port blksize tsize cause true first true e1 e2 is a = absurd (none-some cause is)
-grant_told b true None size last rec port blksize tsize cause true first false e1 e2 is a = told_unfit blksize tsize refl refl refl e2 (sym (same_Some (broken rec) cause is))
+grant_told b true None size last rec port blksize tsize cause true first false e1 e2 is a = told_unfit blksize tsize refl refl refl e2 (sym (same_Some (broken_block rec) cause is))
 
-packet_told : (b : Begun) (asked : Bool) (fixed : Option ℕ) (size last rec port : ℕ) (p : Message) (cause : Cause) → (acts_of b port (decided asked fixed size last rec port p)).over ≡ Some cause → Told asked fixed size last rec port p (decided asked fixed size last rec port p) cause
+packet_told : (b : Begun) (asked : Bool) (fixed : Option ℕ) (size last rec port : ℕ) (p : Message) (cause : Cause) → (acts_of b port (packet_decided asked fixed size last rec port p)).over ≡ Some cause → Told asked fixed size last rec port p (packet_decided asked fixed size last rec port p) cause
 packet_told b asked fixed size last rec port (block n bytes) cause is =
     block_told b asked fixed size last rec port n bytes cause (from_server fixed port) (n == last + 1) (ltb size (length bytes)) (ltb 0 n && (is_some fixed && last == n)) refl refl refl is
 packet_told b asked fixed size last rec port (error code text) cause is = error_told b asked fixed size last rec port code text cause (from_server fixed port) refl is
@@ -138,8 +138,8 @@ told_ends opts b start h m now acts p a cause (told_refused number text is from 
 told_ends opts b start h m now acts p a cause (told_broken n bytes is number long from why) at meets asks over =
     let packet : packet_in m ≡ Some (block n bytes) = at ∙ ap (λ x. Some x) is in
     by_long_block m now refl why (record {
-      next = ap (λ (o : Option Message). option_map_or (has_number (count_with opts (got h) + 1)) o false) packet ∙ eq-eqb n (count_with opts (got h) + 1) number;
-      long = subst (λ (o : Option Message). size_with opts (got h) < length (option_map_or bytes_of o [])) (sym packet) long;
+      next = ap (λ (o : Option Message). option_map_or (has_block_number (count_with opts (got h) + 1)) o false) packet ∙ eq-eqb n (count_with opts (got h) + 1) number;
+      long = subst (λ (o : Option Message). size_with opts (got h) < length (option_map_or block_bytes_of o [])) (sym packet) long;
       server = from_it (port_with opts (got h)) m.port from;
     })
 told_ends opts b start h m now acts p a cause (told_unfit blksize tsize is asked none unfit why) at meets asks over =
@@ -154,11 +154,11 @@ told_ends opts b start h m now acts p a cause (told_taken n len is ends) at meet
     taken_ends opts b start h m now acts (size_with opts (got h)) n len cause meets (asks ∙ ap (acts_of b m.port) is) ends over
 
 came_by_packet : (opts : Bool) (b : Begun) (start : ℕ) (h : List Entry) (m : Received) (now : ℕ) (acts : Acts) (cause : Cause) (o : Option Message) → packet_in m ≡ o
-    → MeetsWith opts b start (h ++ entry (came m now) acts ∷ []) → acts ≡ acts_of b m.port (option_map_or (decided opts (port_with opts (got h)) (size_with opts (got h)) (count_with opts (got h)) m.rec m.port) o Ignored) → acts.over ≡ Some cause
+    → MeetsWith opts b start (h ++ entry (came m now) acts ∷ []) → acts ≡ acts_of b m.port (option_map_or (packet_decided opts (port_with opts (got h)) (size_with opts (got h)) (count_with opts (got h)) m.rec m.port) o Ignored) → acts.over ≡ Some cause
     → EndingWith opts start h (entry (came m now) acts) cause
 came_by_packet opts b start h m now acts cause None at meets asks over = absurd (none-some cause (sym (ap (λ (x : Acts). x.over) asks) ∙ over))
 came_by_packet opts b start h m now acts cause (Some p) at meets asks over =
-    told_ends opts b start h m now acts p (decided opts (port_with opts (got h)) (size_with opts (got h)) (count_with opts (got h)) m.rec m.port p) cause
+    told_ends opts b start h m now acts p (packet_decided opts (port_with opts (got h)) (size_with opts (got h)) (count_with opts (got h)) m.rec m.port p) cause
     (packet_told b opts (port_with opts (got h)) (size_with opts (got h)) (count_with opts (got h)) m.rec m.port p cause (sym (ap (λ (x : Acts). x.over) asks) ∙ over)) at meets asks over
 
 due_told : (b : Begun) (fixed : Option ℕ) (last : ℕ) (due : Due) (cause : Cause) → (due_acts b fixed last due).over ≡ Some cause → (due ≡ PlanOver) × (cause ≡ timed_out)

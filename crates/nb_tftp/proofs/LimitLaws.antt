@@ -12,7 +12,7 @@ use Rattle.nb_tftp.specs.declared.answer.Answer.{Answer}
 use Rattle.nb_tftp.specs.declared.answer.Answer.TheVariants.{Ignored, Stranger, Again, Agreed, Declined, Taken, Ended}
 use Rattle.nb_tftp.specs.Asks.{Begun, acts_of}
 use Rattle.nb_tftp.specs.Decisions.{end_of_block, is_block_size}
-use Rattle.nb_tftp.specs.Received.{Received, packet_in, has_number, is_block, port_with, size_with}
+use Rattle.nb_tftp.specs.Received.{Received, packet_in, has_block_number, is_block, port_with, size_with}
 use Rattle.nb_tftp.specs.Blocks.{FoundBlock, count_with, file_with}
 use Rattle.nb_tftp.specs.History.{Call, came, ticked, Entry, entry, got, is_ended, EachEntry}
 use Rattle.nb_tftp.specs.Sentences.{MeetsWith, AsksSoWith, answer_to, grants_first}
@@ -24,7 +24,7 @@ use Rattle.nb_tftp.proofs.AnswerLemmas.{Means, means}
 use Rattle.nb_tftp.proofs.HistoryLemmas.{got-append, is_ended-append}
 use Rattle.nb_tftp.proofs.FoundLemmas.{found_all, file_fits, bounded_blocks}
 
-number_small : (body : List ℕ) (n : ℕ) (p : Option Message) → IsBytes body → packet_read body ≡ p → option_map_or (has_number n) p false ≡ true → n ≤ 65535
+number_small : (body : List ℕ) (n : ℕ) (p : Option Message) → IsBytes body → packet_read body ≡ p → option_map_or (has_block_number n) p false ≡ true → n ≤ 65535
 number_small body n None are is number = absurd (false≢true number)
 number_small body n (Some (block k bytes)) are is number =
     let small = (reading_sound body (block k bytes) are is).0 in

@@ -16,7 +16,7 @@ use Rattle.nb_tftpmsg.specs.Reading.{FoundValues, packet_read, body_reading, req
 use Rattle.nb_tftp.specs.declared.answer.Answer.{Answer}
 use Rattle.nb_tftp.specs.declared.answer.Answer.TheVariants.{Ignored, Stranger, Again, Agreed, Declined, Taken, Ended}
 use Rattle.nb_tftp.specs.Asks.{Begun, begun_asking, acts_of, due_acts}
-use Rattle.nb_tftp.specs.Received.{Received, packet_in, has_number, bytes_of, port_with, size_with}
+use Rattle.nb_tftp.specs.Received.{Received, packet_in, has_block_number, block_bytes_of, port_with, size_with}
 use Rattle.nb_tftp.specs.Blocks.{count_with}
 use Rattle.nb_tftp.specs.History.{Call, came, ticked, Entry, entry, got, given, due_of, EachEntry}
 use Rattle.nb_tftp.specs.Sentences.{MeetsWith, AsksSoWith, asked_in, answer_to}
@@ -120,7 +120,7 @@ rest_of (zero_byte ∷ code ∷ body) =
     let less : length (zero_byte ∷ code ∷ body) - 2 ≡ length body = omega arith in
     subst (λ (k : ℕ). IfRead (packet_read (zero_byte ∷ code ∷ body)) k) (sym less) (either_read (zero_byte == 0) (body_reading code body) None (length body) (body_rest code body) tt)
 
-block_long : (k n : ℕ) (p : Option Message) → IfRead p (k - 2) → option_map_or (has_number n) p false ≡ true → k ≡ 4 + length (option_map_or bytes_of p [])
+block_long : (k n : ℕ) (p : Option Message) → IfRead p (k - 2) → option_map_or (has_block_number n) p false ≡ true → k ≡ 4 + length (option_map_or block_bytes_of p [])
 block_long k n None has number = absurd (false≢true number)
 block_long k n (Some (block i bytes)) has number = omega arith
 block_long k n (Some (rrq path options)) has number = absurd (false≢true number)
@@ -129,7 +129,7 @@ block_long k n (Some (error code text)) has number = absurd (false≢true number
 block_long k n (Some (oack blksize tsize)) has number = absurd (false≢true number)
 
 -- four bytes stand before a block's bytes
-pub block_length : (m : Received) (n : ℕ) → option_map_or (has_number n) (packet_in m) false ≡ true → length m.body ≡ 4 + length (option_map_or bytes_of (packet_in m) [])
+pub block_length : (m : Received) (n : ℕ) → option_map_or (has_block_number n) (packet_in m) false ≡ true → length m.body ≡ 4 + length (option_map_or block_bytes_of (packet_in m) [])
 block_length m n number = block_long (length m.body) n (packet_in m) (rest_of m.body) number
 
 answer_range : (opts : Bool) (b : Begun) (fixed : Option ℕ) (size last : ℕ) (m : Received) (a : Answer) (from to : ℕ) → Means opts fixed size last m.port (packet_in m) a → (acts_of b m.port a).give ≡ Some (from, to) → IsRangeOf m.body from to
@@ -140,7 +140,7 @@ answer_range opts b fixed size last m (Ended cause) from to means is = absurd (n
 answer_range opts b fixed size last m (Agreed granted) from to means is = absurd (none-some (from, to) is)
 answer_range opts b fixed size last m (Declined rec) from to means is = absurd (none-some (from, to) is)
 answer_range opts b fixed size last m (Taken n len over) from to means is =
-    let all = block_length m (suc last) (and_left (option_map_or (has_number (suc last)) (packet_in m) false) (from_server fixed m.port) means.2) in
+    let all = block_length m (suc last) (and_left (option_map_or (has_block_number (suc last)) (packet_in m) false) (from_server fixed m.port) means.2) in
     let many = means.1 in
     either_way (len == 0)
     (λ none. absurd (none-some (from, to) (rw none at is)))

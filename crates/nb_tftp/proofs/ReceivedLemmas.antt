@@ -7,7 +7,7 @@ use Rattle.std.proofs.lemmas.List.{length-append}
 use Rattle.std.proofs.lemmas.List.Folds.{find-append}
 use Rattle.std.proofs.lemmas.Option.{none-some}
 use Rattle.nb_tftpmsg.specs.Packets.{Message, rrq, block, ack, error, oack}
-use Rattle.nb_tftp.specs.Received.{Received, packet_in, has_number, stated_size, is_oack, is_block, is_grant, size_in, block_bytes, is_agreement, agreement, port_with, size_with}
+use Rattle.nb_tftp.specs.Received.{Received, packet_in, has_block_number, stated_size, is_oack, is_block, is_grant, size_in, block_bytes, is_agreement, agreement, port_with, size_with}
 use Rattle.nb_tftp.specs.Blocks.{FoundBlock, first_passing, is_block_from, behind_block, blocks_to, blocks_with, count_with, next_block}
 use Rattle.nb_tftp.specs.Decisions.{from_server}
 use Rattle.nb_tftp.specs.Sentences.{grants_first}
@@ -87,7 +87,7 @@ pub no_size : (opts : Bool) (got : List Received) → port_with opts got ≡ Non
 no_size true got none = ap (size_at true) (find_none true got none)
 no_size false got none = refl
 
-block_states : (n : ℕ) (p : Option Message) → option_map_or (has_number n) p false ≡ true → option_map_or stated_size p 512 ≡ 512
+block_states : (n : ℕ) (p : Option Message) → option_map_or (has_block_number n) p false ≡ true → option_map_or stated_size p 512 ≡ 512
 block_states n None is = refl
 block_states n (Some (block k bytes)) is = refl
 block_states n (Some (rrq path asked)) is = refl
@@ -95,7 +95,7 @@ block_states n (Some (ack k)) is = refl
 block_states n (Some (error code text)) is = refl
 block_states n (Some (oack blksize tsize)) is = absurd (false≢true is)
 
-grant_no_block : (n : ℕ) (p : Option Message) → option_map_or is_oack p false ≡ true → option_map_or (has_number n) p false ≡ false
+grant_no_block : (n : ℕ) (p : Option Message) → option_map_or is_oack p false ≡ true → option_map_or (has_block_number n) p false ≡ false
 grant_no_block n None is = refl
 grant_no_block n (Some (block k bytes)) is = absurd (false≢true is)
 grant_no_block n (Some (rrq path asked)) is = refl

@@ -10,8 +10,8 @@ use Rattle.nb_tftp.specs.declared.answer.Answer.TheVariants.{Ignored, Stranger, 
 use Rattle.nb_tftp.specs.declared.state.State.{State}
 use Rattle.nb_tftp.specs.Asks.{Begun, nothing, acts_of, due_acts, range_of_block}
 use Rattle.nb_tftp.specs.Steps.{begun_of, packet_acts, bytes_acts, tick_acts}
-use Rattle.nb_tftp.specs.Decisions.{fixed_of, block_size_of, last_of, transfer_has_ended, from_server, decided}
-use Rattle.nb_tftp.specs.Received.{Received, received, packet_in, has_number}
+use Rattle.nb_tftp.specs.Decisions.{fixed_of, block_size_of, last_of, transfer_has_ended, from_server, packet_decided}
+use Rattle.nb_tftp.specs.Received.{Received, received, packet_in, has_block_number}
 use Rattle.nb_tftp.specs.Sound.{AreSoundActs, IsRange}
 use Rattle.nb_tftp.proofs.BlockLemmas.{either_way}
 use Rattle.nb_tftp.proofs.ReceivedLemmas.{and_left}
@@ -33,13 +33,13 @@ answer_sound opts b fixed size last m (Ended cause) means = record { few = lit�
 answer_sound opts b fixed size last m (Agreed granted) means = record { few = lit≤ tt; udp = (refl, tt); range = tt }
 answer_sound opts b fixed size last m (Declined rec) means = record { few = lit≤ tt; udp = (refl, tt); range = tt }
 answer_sound opts b fixed size last m (Taken n len over) means =
-    let all = block_length m (suc last) (and_left (option_map_or (has_number (suc last)) (packet_in m) false) (from_server fixed m.port) means.2) in
+    let all = block_length m (suc last) (and_left (option_map_or (has_block_number (suc last)) (packet_in m) false) (from_server fixed m.port) means.2) in
     let many = means.1 in
     record { few = lit≤ tt; udp = (refl, tt); range = range_sound len (length m.body) (omega arith) }
 
 -- a packet's acts are those of the answer to it
 decided_sound : (s : State) (m : Received) (p : Option Message) → p ≡ packet_in m →
-    AreSoundActs (length m.body) (acts_of (begun_of s) m.port (option_map_or (decided s.options (fixed_of s.phase) (block_size_of s.phase) (last_of s.phase) m.rec m.port) p Ignored)) →
+    AreSoundActs (length m.body) (acts_of (begun_of s) m.port (option_map_or (packet_decided s.options (fixed_of s.phase) (block_size_of s.phase) (last_of s.phase) m.rec m.port) p Ignored)) →
     AreSoundActs (length m.body) (option_map_or (packet_acts s m.rec m.port) p nothing)
 decided_sound s m None is sound = nothing_sound (length m.body)
 decided_sound s m (Some packet) is sound =

@@ -8,7 +8,7 @@ use Rattle.std.proofs.lemmas.List.{append-nil}
 use Rattle.std.proofs.lemmas.List.Concat.{flat_map-append}
 use Rattle.std.proofs.lemmas.List.Folds.{list_any-append}
 use Rattle.nb_retry.specs.declared.plan.Plan.TheVariants.{Common}
-use Rattle.nb_retry.specs.Calls.{fires, TimerStands as TimerStands}
+use Rattle.nb_retry.specs.Calls.{fires, TimerStands}
 use Rattle.nb_retry.specs.Plans.{firings, waits}
 use Rattle.nb_retry.specs.Timer.{started}
 use Rattle.nb_terms.specs.declared.acts.Acts.{Acts}
@@ -20,9 +20,9 @@ use Rattle.nb_tftp.specs.declared.answer.Answer.TheVariants.{Ignored, Stranger, 
 use Rattle.nb_tftp.specs.declared.answer.Phase.TheVariants.{Taking, Over}
 use Rattle.nb_tftp.specs.declared.state.State.{State}
 use Rattle.nb_tftp.specs.Asks.{Begun, acts_of, ack_of, taken}
-use Rattle.nb_tftp.specs.Ends.{broken}
+use Rattle.nb_tftp.specs.Ends.{broken_block}
 use Rattle.nb_tftp.specs.Decisions.{from_server, block_size_of, transfer_has_ended, end_of_block}
-use Rattle.nb_tftp.specs.Steps.{after_answer}
+use Rattle.nb_tftp.specs.Steps.{state_after_answer}
 use Rattle.nb_tftp.specs.Received.{Received, packet_in, block_bytes, is_block, is_grant, size_in, port_with, size_with}
 use Rattle.nb_tftp.specs.Blocks.{blocks_with, count_with, file_with, whole_with, last_block}
 use Rattle.nb_tftp.specs.History.{Entry, entry, came, got, last_advance, given, given_of, is_ended, ends_ok, watched, Watch, watch_from}
@@ -149,7 +149,7 @@ agreed_step : (opts : Bool) (b : Begun) (start : ℕ) (state : State) (h : List 
     → StandsWith opts b start state h → transfer_has_ended state.phase ≡ false
     → port_with opts (got h) ≡ None → (opts && is_grant m) ≡ true → size ≡ size_in m
     → AsksSoWith opts b h (entry (came m now) (acts_of b m.port (Agreed size)))
-    → StandsWith opts b start (after_answer state m.port (Agreed size) now) (h ++ entry (came m now) (acts_of b m.port (Agreed size)) ∷ [])
+    → StandsWith opts b start (state_after_answer state m.port (Agreed size) now) (h ++ entry (came m now) (acts_of b m.port (Agreed size)) ∷ [])
 agreed_step opts b start state h m now size stands unended none on sized asks =
     let acts : Acts = acts_of b m.port (Agreed size) in
     let e : Entry = entry (came m now) acts in
@@ -261,14 +261,14 @@ taken_by opts b start state h m now n len send (Some cause) stands unended numbe
 pub came_by : (opts : Bool) (b : Begun) (start : ℕ) (state : State) (h : List Entry) (m : Received) (now : ℕ) (a : Answer)
     → StandsWith opts b start state h → transfer_has_ended state.phase ≡ false → IsBytes m.body
     → Means opts (port_with opts (got h)) (size_with opts (got h)) (count_with opts (got h)) m.port (packet_in m) a → a ≡ answer_to opts (port_with opts (got h)) (size_with opts (got h)) (count_with opts (got h)) m
-    → StandsWith opts b start (after_answer state m.port a now) (h ++ entry (came m now) (acts_of b m.port a) ∷ [])
+    → StandsWith opts b start (state_after_answer state m.port a now) (h ++ entry (came m now) (acts_of b m.port a) ∷ [])
 came_by opts b start state h m now Ignored stands unended are means is = quiet_step opts b start state h m now (acts_of b m.port Ignored) stands unended means.0 means.1 refl refl refl refl (ap (acts_of b m.port) is)
 came_by opts b start state h m now Stranger stands unended are means is = quiet_step opts b start state h m now (acts_of b m.port Stranger) stands unended means.0 means.1 refl refl refl refl (ap (acts_of b m.port) is)
 came_by opts b start state h m now (Again n) stands unended are means is = quiet_step opts b start state h m now (acts_of b m.port (Again n)) stands unended means.0 means.1 refl refl refl refl (ap (acts_of b m.port) is)
 came_by opts b start state h m now (Ended cause) stands unended are means is =
     ended_step opts b start state h m now cause (acts_of b m.port (Ended cause)) stands unended means.0 means.1 refl refl refl refl (ap (acts_of b m.port) is)
 came_by opts b start state h m now (Declined rec) stands unended are means is =
-    ended_step opts b start state h m now (broken rec) (acts_of b m.port (Declined rec)) stands unended means refl refl refl refl refl (ap (acts_of b m.port) is)
+    ended_step opts b start state h m now (broken_block rec) (acts_of b m.port (Declined rec)) stands unended means refl refl refl refl refl (ap (acts_of b m.port) is)
 came_by opts b start state h m now (Agreed size) stands unended are means is =
     agreed_step opts b start state h m now size stands unended means.0 means.1 means.2 (ap (acts_of b m.port) is)
 came_by opts b start state h m now (Taken n len over) stands unended are means is =

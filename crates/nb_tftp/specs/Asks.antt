@@ -11,7 +11,7 @@ use Rattle.nb_tftp.specs.declared.answer.Answer.{Answer}
 use Rattle.nb_tftp.specs.declared.answer.Answer.TheVariants.{Ignored, Stranger, Again, Agreed, Declined, Taken, Ended}
 use Rattle.nb_retry.specs.declared.retry.Due.{Due}
 use Rattle.nb_retry.specs.declared.retry.Due.TheVariants.{Not, Again as TryAgain, Over as PlanOver}
-use Rattle.nb_tftp.specs.Ends.{broken, timed_out}
+use Rattle.nb_tftp.specs.Ends.{broken_block, timed_out}
 
 -- what a transfer was begun with: the server, the port that is asked, our own port, and the request's packet
 pub record Begun : Type 0 where
@@ -79,7 +79,7 @@ acts_of b port Ignored = nothing
 acts_of b port Stranger = sending (stranger b port) None
 acts_of b port (Again n) = sending (ack_of b port n) None
 acts_of b port (Agreed size) = sending (ack_of b port 0) (Some 1)
-acts_of b port (Declined rec) = ended_with (declining b port) (broken rec)
+acts_of b port (Declined rec) = ended_with (declining b port) (broken_block rec)
 acts_of b port (Taken n len over) = taken (ack_of b port n) n len over
 acts_of b port (Ended cause) = ended_by cause
 

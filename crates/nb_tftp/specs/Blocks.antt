@@ -77,5 +77,5 @@ count got = count_with true got
 abbrev pub file : List Received → List ℕ
 file got = file_with true got
 
-abbrev pub is_whole : List Received → Bool
-is_whole got = whole_with true got
+abbrev pub is_whole_transfer : List Received → Bool
+is_whole_transfer got = whole_with true got

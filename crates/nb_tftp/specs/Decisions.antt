@@ -7,7 +7,7 @@ use Rattle.nb_tftp.specs.declared.answer.Answer.{Answer}
 use Rattle.nb_tftp.specs.declared.answer.Answer.TheVariants.{Ignored, Stranger, Again, Agreed, Declined, Taken, Ended}
 use Rattle.nb_tftp.specs.declared.answer.Phase.{Phase}
 use Rattle.nb_tftp.specs.declared.answer.Phase.TheVariants.{Asking, Taking, Over}
-use Rattle.nb_tftp.specs.Ends.{ok_cause, refused_by, broken, too_many_blocks}
+use Rattle.nb_tftp.specs.Ends.{ok_cause, refused_by, broken_block, too_many_blocks}
 
 -- the server's port, once it is agreed
 abbrev pub fixed_of : Phase → Option ℕ
@@ -55,7 +55,7 @@ awaits_full Over from n len = false
 abbrev pub block_decided : Option ℕ → ℕ → ℕ → ℕ → ℕ → List ℕ → Answer
 block_decided fixed size last rec n bytes =
     if n == last + 1
-    then (if nat_lt size (length bytes) then Ended (broken rec) else Taken n (length bytes) (end_of_block size n (length bytes)))
+    then (if nat_lt size (length bytes) then Ended (broken_block rec) else Taken n (length bytes) (end_of_block size n (length bytes)))
     else (if nat_lt 0 n && (is_some fixed && last == n) then Again n else Ignored)
 
 -- an OACK from the server that states a size: the first is agreed to or declined, a later one is acknowledged again
@@ -67,12 +67,12 @@ grant_decided fixed last rec size =
     else (if is_block_size size then Agreed size else Declined rec)
 
 -- a packet that isn't the server's is told so; where no option was asked for, an OACK is nobody's
-abbrev pub decided : Bool → Option ℕ → ℕ → ℕ → ℕ → ℕ → Message → Answer
-decided options fixed size last rec port (block n bytes) = if from_server fixed port then block_decided fixed size last rec n bytes else Stranger
-decided options fixed size last rec port (error code text) = if from_server fixed port then Ended (refused_by rec code) else Stranger
-decided options fixed size last rec port (rrq path asked) = if from_server fixed port then Ignored else Stranger
-decided options fixed size last rec port (ack n) = if from_server fixed port then Ignored else Stranger
-decided options fixed size last rec port (oack blksize tsize) =
+abbrev pub packet_decided : Bool → Option ℕ → ℕ → ℕ → ℕ → ℕ → Message → Answer
+packet_decided options fixed size last rec port (block n bytes) = if from_server fixed port then block_decided fixed size last rec n bytes else Stranger
+packet_decided options fixed size last rec port (error code text) = if from_server fixed port then Ended (refused_by rec code) else Stranger
+packet_decided options fixed size last rec port (rrq path asked) = if from_server fixed port then Ignored else Stranger
+packet_decided options fixed size last rec port (ack n) = if from_server fixed port then Ignored else Stranger
+packet_decided options fixed size last rec port (oack blksize tsize) =
     if options
     then (if from_server fixed port then grant_decided fixed last rec (unwrap_or blksize 512) else Stranger)
     else Ignored

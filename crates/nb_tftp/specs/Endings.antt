@@ -6,7 +6,7 @@ use Rattle.nb_retry.specs.Calls.{fires}
 use Rattle.nb_retry.specs.Plans.{asked_at, first_from}
 use Rattle.nb_terms.specs.declared.cause.Cause.{Cause}
 use Rattle.nb_tftpmsg.specs.Packets.{error}
-use Rattle.nb_tftp.specs.Ends.{ok_cause, refused_by, timed_out, broken, too_many_blocks}
+use Rattle.nb_tftp.specs.Ends.{ok_cause, refused_by, timed_out, broken_block, too_many_blocks}
 use Rattle.nb_tftp.specs.Received.{Received, packet_in, is_block, block_bytes, is_grant, size_in, port_with, size_with}
 use Rattle.nb_tftp.specs.Blocks.{blocks_with, count_with, whole_with, last_block}
 use Rattle.nb_tftp.specs.Decisions.{is_block_size}
@@ -87,10 +87,10 @@ pub data EndingWith (options : Bool) (start : ℕ) (before : List Entry) (e : En
   by_refusal : (m : Received) (now number : ℕ) → e.call ≡ came m now → cause ≡ refused_by m.rec number
       → RefusesWith options (got before) m number → EndingWith options start before e cause
   -- this datagram's block is too long
-  by_long_block : (m : Received) (now : ℕ) → e.call ≡ came m now → cause ≡ broken m.rec
+  by_long_block : (m : Received) (now : ℕ) → e.call ≡ came m now → cause ≡ broken_block m.rec
       → IsTooLongWith options (got before) m → EndingWith options start before e cause
   -- this datagram grants a size that is none to agree on
-  by_unfit_size : (m : Received) (now : ℕ) → e.call ≡ came m now → cause ≡ broken m.rec
+  by_unfit_size : (m : Received) (now : ℕ) → e.call ≡ came m now → cause ≡ broken_block m.rec
       → IsUnfitWith options (got before) m → EndingWith options start before e cause
   -- no number is left for the next block
   by_last_number : cause ≡ too_many_blocks → IsFullWith options (got (before ++ e ∷ [])) → EndingWith options start before e cause

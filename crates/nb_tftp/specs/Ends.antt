@@ -19,8 +19,8 @@ abbrev pub timed_out : Cause
 timed_out = as_cause (reason.TimedOut 6)
 
 -- the block in a record is too long
-abbrev pub broken : ℕ → Cause
-broken rec = as_cause (reason.Broken rec)
+abbrev pub broken_block : ℕ → Cause
+broken_block rec = as_cause (reason.Broken rec)
 
 -- block 65,535 was full
 abbrev pub too_many_blocks : Cause

@@ -19,19 +19,19 @@ abbrev pub packet_in : Received → Option Message
 packet_in m = packet_read m.body
 
 -- a packet is the block of this number
-abbrev pub has_number : ℕ → Message → Bool
-has_number number (block n bytes) = n == number
-has_number number (rrq path options) = false
-has_number number (ack n) = false
-has_number number (error code text) = false
-has_number number (oack blksize tsize) = false
+abbrev pub has_block_number : ℕ → Message → Bool
+has_block_number number (block n bytes) = n == number
+has_block_number number (rrq path options) = false
+has_block_number number (ack n) = false
+has_block_number number (error code text) = false
+has_block_number number (oack blksize tsize) = false
 
-abbrev pub bytes_of : Message → List ℕ
-bytes_of (block n bytes) = bytes
-bytes_of (rrq path options) = []
-bytes_of (ack n) = []
-bytes_of (error code text) = []
-bytes_of (oack blksize tsize) = []
+abbrev pub block_bytes_of : Message → List ℕ
+block_bytes_of (block n bytes) = bytes
+block_bytes_of (rrq path options) = []
+block_bytes_of (ack n) = []
+block_bytes_of (error code text) = []
+block_bytes_of (oack blksize tsize) = []
 
 abbrev pub is_error : Message → Bool
 is_error (error code text) = true
@@ -57,11 +57,11 @@ stated_size (error code text) = 512
 
 -- it is the block of this number, whatever its bytes
 abbrev pub is_block : ℕ → Received → Bool
-is_block n m = option_map_or (has_number n) (packet_in m) false
+is_block n m = option_map_or (has_block_number n) (packet_in m) false
 
 -- the bytes of the block that it is
 abbrev pub block_bytes : Received → List ℕ
-block_bytes m = option_map_or bytes_of (packet_in m) []
+block_bytes m = option_map_or block_bytes_of (packet_in m) []
 
 -- it refuses
 abbrev pub is_refusal : Received → Bool

@@ -9,14 +9,14 @@ use Rattle.nb_terms.specs.declared.acts.Acts.{Acts}
 use Rattle.nb_tftp.specs.declared.answer.Answer.{Answer}
 use Rattle.nb_tftp.specs.declared.answer.Answer.TheVariants.{Ignored}
 use Rattle.nb_tftp.specs.Asks.{Begun, acts_of, due_acts}
-use Rattle.nb_tftp.specs.Decisions.{decided, from_server}
+use Rattle.nb_tftp.specs.Decisions.{packet_decided, from_server}
 use Rattle.nb_tftp.specs.Received.{Received, packet_in, is_block, is_grant, is_refusal, port_with, size_with}
 use Rattle.nb_tftp.specs.Blocks.{count_with, file_with, whole_with}
 use Rattle.nb_tftp.specs.History.{Call, came, ticked, Entry, got, last_advance, given, ends_ok, due_of, watched, EachEntry}
 
 -- what a datagram calls for, by the port and the size that are agreed and the number of the last block
 abbrev pub answer_to : Bool → Option ℕ → ℕ → ℕ → Received → Answer
-answer_to options fixed size last m = option_map_or (decided options fixed size last m.rec m.port) (packet_in m) Ignored
+answer_to options fixed size last m = option_map_or (packet_decided options fixed size last m.rec m.port) (packet_in m) Ignored
 
 -- what a call asks, by the datagrams that came before it: for a datagram all of it, for a time what
 -- the timer's answer asks

@@ -2,7 +2,7 @@
 use Rattle.std.specs.Prelude.{◌≡◌, ◌≤◌, ℕ, suc, ◌==◌, ◌&&◌, Bool, true, false, List, length, Option, Some, None}
 use Rattle.std.specs.Option.{option_map_or}
 use Rattle.nb_retry.specs.declared.plan.Plan.TheVariants.{Common}
-use Rattle.nb_retry.specs.Calls.{TimerStands as TimerStands}
+use Rattle.nb_retry.specs.Calls.{TimerStands}
 use Rattle.nb_tftp.specs.declared.state.State.{State}
 use Rattle.nb_tftp.specs.Asks.{Begun}
 use Rattle.nb_tftp.specs.Decisions.{fixed_of, block_size_of, last_of, transfer_has_ended}

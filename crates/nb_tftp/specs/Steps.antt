@@ -14,7 +14,7 @@ use Rattle.nb_tftp.specs.declared.answer.Answer.TheVariants.{Ignored, Stranger, 
 use Rattle.nb_tftp.specs.declared.answer.Phase.TheVariants.{Asking, Taking, Over}
 use Rattle.nb_tftp.specs.declared.state.State.{State}
 use Rattle.nb_tftp.specs.Asks.{Begun, nothing, acts_of, due_acts}
-use Rattle.nb_tftp.specs.Decisions.{fixed_of, block_size_of, last_of, transfer_has_ended, decided}
+use Rattle.nb_tftp.specs.Decisions.{fixed_of, block_size_of, last_of, transfer_has_ended, packet_decided}
 
 abbrev pub begun_of : State → Begun
 begun_of state = record { server = state.server; port = state.port; own_port = state.own_port; request = state.request.items }
@@ -24,28 +24,28 @@ first_state options b now =
     record { server = b.server; port = b.port; own_port = b.own_port; options = options; request = record { items = b.request }; phase = Asking; retry = started now Common }
 
 -- the state after an answer to a packet from a port
-abbrev pub after_answer : State → ℕ → Answer → ℕ → State
-after_answer state port (Agreed size) now = record state { phase = Taking port size 0; retry = started now Common }
-after_answer state port (Declined rec) now = record state { phase = Over }
-after_answer state port (Taken n len over) now =
+abbrev pub state_after_answer : State → ℕ → Answer → ℕ → State
+state_after_answer state port (Agreed size) now = record state { phase = Taking port size 0; retry = started now Common }
+state_after_answer state port (Declined rec) now = record state { phase = Over }
+state_after_answer state port (Taken n len over) now =
     if is_none over
     then record state { phase = Taking port (block_size_of state.phase) n; retry = started now Common }
     else record state { phase = Over }
-after_answer state port (Ended cause) now = record state { phase = Over }
-after_answer state port Ignored now = state
-after_answer state port Stranger now = state
-after_answer state port (Again n) now = state
+state_after_answer state port (Ended cause) now = record state { phase = Over }
+state_after_answer state port Ignored now = state
+state_after_answer state port Stranger now = state
+state_after_answer state port (Again n) now = state
 
 abbrev pub answer_of : State → ℕ → ℕ → Message → Answer
 answer_of state rec port packet =
-    decided state.options (fixed_of state.phase) (block_size_of state.phase) (last_of state.phase) rec port packet
+    packet_decided state.options (fixed_of state.phase) (block_size_of state.phase) (last_of state.phase) rec port packet
 
 -- a packet
 abbrev pub packet_acts : State → ℕ → ℕ → Message → Acts
 packet_acts state rec port packet = if transfer_has_ended state.phase then nothing else acts_of (begun_of state) port (answer_of state rec port packet)
 
 abbrev pub after_packet : State → ℕ → ℕ → Message → ℕ → State
-after_packet state rec port packet now = if transfer_has_ended state.phase then state else after_answer state port (answer_of state rec port packet) now
+after_packet state rec port packet now = if transfer_has_ended state.phase then state else state_after_answer state port (answer_of state rec port packet) now
 
 -- any datagram's bytes; what is no packet is ignored
 abbrev pub bytes_acts : State → ℕ → ℕ → List ℕ → Acts

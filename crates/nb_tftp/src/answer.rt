@@ -1,7 +1,7 @@
 //! What a packet calls for.
 
 ghost use Rattle.std.specs.Prelude.{◌≡◌, ◌≤◌, ℕ, Option, IfSome, IsTrue, true};
-ghost use Rattle.nb_tftp.specs.Decisions.{awaits_full, decided, block_decided, grant_decided, end_of_block, is_block_size, from_server, fixed_of, block_size_of, last_of, transfer_has_ended};
+ghost use Rattle.nb_tftp.specs.Decisions.{awaits_full, packet_decided, block_decided, grant_decided, end_of_block, is_block_size, from_server, fixed_of, block_size_of, last_of, transfer_has_ended};
 ghost use Rattle.nb_tftpmsg.specs.Views.{message};
 ghost use Rattle.nb_tftp.specs.declared.answer.Phase.TheVariants.{Taking};
 
@@ -92,7 +92,7 @@ impl Phase {
 
     /// What a packet of this port calls for in this phase, which isn't the end, with or without options.
     pub(crate) fn decide(self, options: bool, rec: u32, from: u16, packet: &Tftp<'_>) -> Answer
-        ensures { result ≡ decided options (fixed_of self) (block_size_of self) (last_of self) rec from (message packet.now) }
+        ensures { result ≡ packet_decided options (fixed_of self) (block_size_of self) (last_of self) rec from (message packet.now) }
     {
         match packet {
             Tftp::Oack { .. } if !options => Answer::Ignored,

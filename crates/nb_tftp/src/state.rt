@@ -6,7 +6,7 @@ ghost use Rattle.nb_tftp.specs.Decisions.{awaits_full, fixed_of, last_of};
 ghost use Rattle.nb_tftp.specs.Asks.{begun_asking, datagram, last_message, acts_of, nothing, sending};
 ghost use Rattle.nb_tftpmsg.specs.Packets.{packet_text, ack, block, error};
 ghost use Rattle.nb_tftpmsg.specs.Reading.{packet_read};
-ghost use Rattle.nb_tftp.specs.Steps.{begun_of, first_state, after_answer, packet_acts, after_packet, bytes_acts, after_bytes, tick_acts, after_tick};
+ghost use Rattle.nb_tftp.specs.Steps.{begun_of, first_state, state_after_answer, packet_acts, after_packet, bytes_acts, after_bytes, tick_acts, after_tick};
 ghost use Rattle.nb_tftpmsg.specs.Views.{message};
 ghost use Rattle.nb_tftp.specs.declared.answer.Phase.TheVariants.{Taking};
 ghost use Rattle.nb_retry.specs.declared.plan.Plan.TheVariants.{Common};
@@ -165,7 +165,7 @@ impl State {
 
     /// The state after an answer.
     fn follow(&mut self, from: u16, answer: Answer, now: u64)
-        ensures { self.new ≡ after_answer self.old from answer now }
+        ensures { self.new ≡ state_after_answer self.old from answer now }
     {
         match answer {
             Answer::Agreed { size } => self.await_block(from, size, 0, now),

@@ -14,7 +14,7 @@ use Rattle.nb_frames.specs.Frames.{is_one_of}
 use Rattle.nb_frames.specs.Within.{IsEventWithin}
 use Rattle.nb_traced.specs.Holdings.{Holdings, lowest_of, serials}
 use Rattle.nb_traced.specs.Pieces.{AreInner, BeginsBy, EntersFirst, IsCallOn, IsInnerEvent, IsMaking, IsOutsideWay, StandOnEntries, event_records, is_entry_of, none_more, happens_then, puts_then}
-use Rattle.nb_traced.specs.Outputs.{Arrived, Traced, arrived, last_step, own_serials, at_first, apart, replies, commands, opens, calls, ends, ends_with_all, gives_up}
+use Rattle.nb_traced.specs.Outputs.{Arrived, Traced, arrived_by_way, last_step, own_serials, at_first, apart, replies, commands, opens, calls, ends, ends_with_all, gives_up}
 use Rattle.nb_traced.specs.LowestObjects.{GraphSoFar, graph_so_far, graph_by, graph_moves, is_it, no_graph}
 use Rattle.nb_traced.specs.Entries.{EntryArrival, came_to, entries, entries_from, entry_at, entry_in}
 use Rattle.nb_traced.proofs.EventLemmas.{all_each, all_map}
@@ -128,11 +128,11 @@ came_append k (a ∷ xs) ys =
     let this : List EntryArrival = if a.whose == k then record { number = a.number; way = way_number a.way } ∷ [] else [] in
     ap (λ z. this ++ z) (came_append k xs ys) ∙ sym (append_assoc this (came_to k xs) (came_to k ys))
 
-came_other : (k n : ℕ) (outs : List Out) (by : Option Way) → (n ≡ k → ⊥) → came_to k (arrived outs n by) ≡ []
+came_other : (k n : ℕ) (outs : List Out) (by : Option Way) → (n ≡ k → ⊥) → came_to k (arrived_by_way outs n by) ≡ []
 came_other k n outs None other = refl
 came_other k n outs (Some w) other = ap (λ b. cond b (record { number = last_step outs; way = way_number w } ∷ []) [] ++ []) (ne_eqb n k other)
 
-came_this : (k n : ℕ) (outs : List Out) (w : Way) → n ≡ k → came_to k (arrived outs n (Some w)) ≡ record { number = last_step outs; way = way_number w } ∷ []
+came_this : (k n : ℕ) (outs : List Out) (w : Way) → n ≡ k → came_to k (arrived_by_way outs n (Some w)) ≡ record { number = last_step outs; way = way_number w } ∷ []
 came_this k n outs w same = ap (λ b. cond b (record { number = last_step outs; way = way_number w } ∷ []) [] ++ []) (eq-eqb n k same)
 
 -- A CALL
@@ -158,7 +158,7 @@ module _ (k n x : ℕ) (ids : List ℕ) (by : Option Way) (outs added : List Out
   others_enter l is h = inners_on_entries k n x l the_graph false added c.events is c.stand h
 
   -- its own
-  own_first : (w : Way) → EntersFirst x w c.events → the_graph.lowest k ≡ Some x → n ≡ k → entries_from k the_graph added ≡ came_to k (arrived outs n (Some w))
+  own_first : (w : Way) → EntersFirst x w c.events → the_graph.lowest k ≡ Some x → n ≡ k → entries_from k the_graph added ≡ came_to k (arrived_by_way outs n (Some w))
   own_first w f is same =
       let b : BeginsWith n x (Entered f.port w) f.rest added = begins_with n x added c.events (Entered f.port w) f.rest c.stand f.first in
       let this : Out = graph (flat (Entered f.port w)) in
@@ -168,11 +168,11 @@ module _ (k n x : ℕ) (ids : List ℕ) (by : Option Way) (outs added : List Out
       ∙ append-nil (entries_from k the_graph (this ∷ [])) ∙ entered_once k x the_graph f.port w is f.object f.outside
       ∙ ap (λ m. record { number = m; way = way_number w } ∷ []) (number_is outs) ∙ sym (came_this k n outs w same)
 
-  own_by : (w : Option Way) → BeginsBy x w c.events → the_graph.lowest k ≡ Some x → n ≡ k → entries_from k the_graph added ≡ came_to k (arrived outs n w)
+  own_by : (w : Option Way) → BeginsBy x w c.events → the_graph.lowest k ≡ Some x → n ≡ k → entries_from k the_graph added ≡ came_to k (arrived_by_way outs n w)
   own_by None begins is same = others_enter (Some x) is begins
   own_by (Some w) begins is same = own_first w begins is same
 
-  own_enters : the_graph.lowest k ≡ Some x → n ≡ k → entries_from k the_graph added ≡ came_to k (arrived outs n by)
+  own_enters : the_graph.lowest k ≡ Some x → n ≡ k → entries_from k the_graph added ≡ came_to k (arrived_by_way outs n by)
   own_enters is same = own_by by c.begins is same
 
   -- its events are none of another open's lowest object
@@ -185,7 +185,7 @@ module _ (k n x : ℕ) (ids : List ℕ) (by : Option Way) (outs added : List Out
       all_map (IsEventWithin (is_one_of ids)) (IsInnerEvent y) c.events (λ e w. within_inner (is_one_of ids) y e not_own w) c.within
 
   call_enters : (owner : ℕ → Option ℕ) → ((j y : ℕ) → the_graph.lowest j ≡ Some y → owner y ≡ Some j) → the_graph.lowest n ≡ Some x → ((y : ℕ) → is_one_of ids y ≡ true → (owner y ≡ Some n) ⊎ (owner y ≡ None)) →
-      entries_from k the_graph added ≡ came_to k (arrived outs n by)
+      entries_from k the_graph added ≡ came_to k (arrived_by_way outs n by)
   call_enters owner lowests is whose = elim (cases_eq n k) [
     | inl same ↦ own_enters (ap (λ j. the_graph.lowest j) (sym same) ∙ is) same
     | inr other ↦ others_enter (the_graph.lowest k) refl (inner_of owner (the_graph.lowest k) refl lowests whose other) ∙ sym (came_other k n outs by other)
@@ -221,13 +221,13 @@ entered _ _ _ (opens outs h came es s first o kind server port own target t w ru
 entered _ _ _ (calls outs added h came before after o by s t living call none) k =
     let a = kept outs h came t in
     let b = beside outs h before after o a living in
-    more_entered k outs added came (arrived outs o.number by) (entered outs h came t k)
+    more_entered k outs added came (arrived_by_way outs o.number by) (entered outs h came t k)
     (call_enters k o.number (lowest_of (own_serials o)) (own_serials o) by outs added h.state s call a.owner a.lowests b.this.lowest (λ y e. inl (b.this.owned y e)))
 entered _ _ _ (ends outs added h came before after o by s cause t living call closed gone) k =
     let a = kept outs h came t in
     let b = beside outs h before after o a living in
-    more_entered k outs (added ++ (ended o.number cause ∷ [])) came (arrived outs o.number by) (entered outs h came t k)
-    (before_end k (graph_so_far outs) added (ended o.number cause ∷ []) (came_to k (arrived outs o.number by))
+    more_entered k outs (added ++ (ended o.number cause ∷ [])) came (arrived_by_way outs o.number by) (entered outs h came t k)
+    (before_end k (graph_so_far outs) added (ended o.number cause ∷ []) (came_to k (arrived_by_way outs o.number by))
     (call_enters k o.number (lowest_of (own_serials o)) (own_serials o) by outs added h.state s call a.owner a.lowests b.this.lowest (λ y e. inl (b.this.owned y e))) (tt, tt))
 entered _ _ _ (ends_with_all outs added h came before after o s cause t living call closed gone) k =
     let a = kept outs h came t in

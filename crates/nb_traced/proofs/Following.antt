@@ -10,7 +10,7 @@ use Rattle.nb_traced.specs.Outputs.{Arrived, Traced}
 use Rattle.nb_traced.specs.Openings.{OpensHavePieces, EndsAreTheirs, CommandsLeaveNone, NumbersRise, IsMadeLast, LeavesTheirs}
 use Rattle.nb_traced.specs.LowestObjects.{graph_so_far, graph_by, first_in}
 use Rattle.nb_traced.specs.Entries.{IsOutside}
-use Rattle.nb_traced.specs.Places.{LowestAreTheirs, LowestAreOwn, FramesStand, TriesStand, AdvancesStand}
+use Rattle.nb_traced.specs.Places.{LowestAreTheirs, LowestAreOwn, FramesStand, TriesStandWithin, AdvancesStand}
 use Rattle.nb_traced.proofs.EventLemmas.{all_first, all_last}
 use Rattle.nb_traced.proofs.StateLemmas.{runners}
 use Rattle.nb_traced.proofs.Seeing.{IsNoOpening, lowest_stays, so_far_append}
@@ -67,7 +67,7 @@ none_is_left outs h came t living waits x = elim (cases_Bool (h.state.live x)) [
 pub frames_stand : (outs : List Out) (h : Holdings) (came : List Arrived) → Traced outs h came → FramesStand outs
 frames_stand outs h came t before after bytes is = at outs h came t before after (sent bytes) is
 
-pub tries_stand : (outs : List Out) (h : Holdings) (came : List Arrived) → Traced outs h came → TriesStand outs
+pub tries_stand : (outs : List Out) (h : Holdings) (came : List Arrived) → Traced outs h came → TriesStandWithin outs
 tries_stand outs h came t before after k count is = at outs h came t before after (tried k count) is
 
 pub advances_stand : (outs : List Out) (h : Holdings) (came : List Arrived) → Traced outs h came → AdvancesStand outs

@@ -15,7 +15,7 @@ use Rattle.nb_frames.specs.Frames.{is_one_of}
 use Rattle.nb_traced.specs.Holdings.{Holdings, Kin, GraphObject, no_holdings, no_state}
 use Rattle.nb_traced.specs.Pieces.{IsCallOn, AreGone, BeginsBy, event_records, happens_then, puts_then}
 use Rattle.nb_traced.specs.Outputs.{Traced, last_step, at_first, apart, commands, opens, calls, ends}
-use Rattle.nb_traced.specs.Example.{ping_made, ping_asks, ping_begins, ping_ends, two_pings, one_ends, came_to_two, came_to_both}
+use Rattle.nb_traced.specs.Example.{ping_made, example_ping_asks, ping_begins, ping_ends, two_pings, one_ends, came_to_two, came_to_both}
 use Rattle.nb_traced.proofs.OnEntries.{events_on_entries}
 use Rattle.nb_traced.proofs.Serials.{one_cases}
 use Rattle.nb_traced.proofs.OneState.{rest_of}
@@ -66,10 +66,10 @@ some_pieces p ps e = cc
 
 -- a message or a time comes to the object x by p, and it sends
 a_call : (k x : ℕ) (p : Port) (way : Way) (s : GraphState) → GraphRunOf s (Entered p way ∷ Left p ∷ []) s → s.stack ≡ [] → p.obj.0 ≡ x → is_one_of (x ∷ []) p.obj.0 ≡ true →
-    (by : Option Way) → BeginsBy x by (Entered p way ∷ Left p ∷ []) → IsCallOn k (x ∷ []) x by (event_records (Entered p way ∷ []) ++ (ping_asks k ++ event_records (Left p ∷ []))) s s
+    (by : Option Way) → BeginsBy x by (Entered p way ∷ Left p ∷ []) → IsCallOn k (x ∷ []) x by (event_records (Entered p way ∷ []) ++ (example_ping_asks k ++ event_records (Left p ∷ []))) s s
 a_call k x p way s run still object mine by begins = record {
   events = Entered p way ∷ Left p ∷ [];
-  stand = happens_then false (Entered p way) (ping_asks k ++ event_records (Left p ∷ [])) (Left p ∷ [])
+  stand = happens_then false (Entered p way) (example_ping_asks k ++ event_records (Left p ∷ [])) (Left p ∷ [])
       (puts_then (p.obj.0 == x) (tried k 1) (sent [] ∷ event_records (Left p ∷ [])) (Left p ∷ []) (eq-eqb p.obj.0 x object) refl
       (puts_then true (sent []) (event_records (Left p ∷ [])) (Left p ∷ []) refl tt (events_on_entries k x true (Left p ∷ []))));
   run = run;

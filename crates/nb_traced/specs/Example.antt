@@ -13,16 +13,16 @@ use Rattle.nb_traced.specs.Outputs.{Arrived}
 abbrev pub ping_made : ℕ → List GraphEvent
 ping_made x = Made (record { 0 = x }) 7 ∷ Held (record { 0 = x }) ∷ []
 
-abbrev pub ping_asks : ℕ → List Out
-ping_asks k = tried k 1 ∷ sent [] ∷ []
+abbrev pub example_ping_asks : ℕ → List Out
+example_ping_asks k = tried k 1 ∷ sent [] ∷ []
 
 -- a COMMAND, the object x, the OPEN of number k, and what it sends first
 abbrev pub ping_begins : ℕ → ℕ → List Out
 ping_begins k x =
-    (command 0 1 0 false [] ∷ []) ++ (event_records (ping_made x) ++ ((opened k 6 0 0 0 [] ∷ []) ++ (event_records (Entered (port_at x 0) Down ∷ []) ++ (ping_asks k ++ event_records (Left (port_at x 0) ∷ [])))))
+    (command 0 1 0 false [] ∷ []) ++ (event_records (ping_made x) ++ ((opened k 6 0 0 0 [] ∷ []) ++ (event_records (Entered (port_at x 0) Down ∷ []) ++ (example_ping_asks k ++ event_records (Left (port_at x 0) ∷ [])))))
 
 abbrev pub ping_goes_on : ℕ → ℕ → ℕ → List Out
-ping_goes_on n k x = (step n ∷ []) ++ (event_records (Entered (port_at x 1) Up ∷ []) ++ (ping_asks k ++ event_records (Left (port_at x 1) ∷ [])))
+ping_goes_on n k x = (step n ∷ []) ++ (event_records (Entered (port_at x 1) Up ∷ []) ++ (example_ping_asks k ++ event_records (Left (port_at x 1) ∷ [])))
 
 abbrev pub ping_ends : ℕ → Cause → List GraphEvent
 ping_ends x cause =

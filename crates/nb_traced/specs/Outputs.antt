@@ -26,9 +26,9 @@ step_by n _ = n
 unfoldable pub last_step : List Out → ℕ
 last_step outs = fold step_by 0 outs
 
-abbrev pub arrived : List Out → ℕ → Option Way → List Arrived
-arrived outs k None = []
-arrived outs k (Some way) = record { whose = k; way = way; number = last_step outs } ∷ []
+abbrev pub arrived_by_way : List Out → ℕ → Option Way → List Arrived
+arrived_by_way outs k None = []
+arrived_by_way outs k (Some way) = record { whose = k; way = way; number = last_step outs } ∷ []
 
 -- no object that lives was made later
 abbrev pub IsNewest : GraphState → ℕ → Type 0
@@ -72,11 +72,11 @@ pub data Traced : List Out → Holdings → List Arrived → Type 0 where
   -- a call on the objects of an open that goes on: no port of theirs is closed
   calls : (outs added : List Out) (h : Holdings) (came : List Arrived) (before after : List Kin) (o : Kin) (way : Option Way) (s : GraphState) → Traced outs h came → h.living ≡ before ++ o ∷ after →
       CallsOpen o way added h.state s → first_close_of (own_serials o) added ≡ None →
-      Traced (outs ++ added) (record h { state = s }) (came ++ arrived outs o.number way)
+      Traced (outs ++ added) (record h { state = s }) (came ++ arrived_by_way outs o.number way)
   -- calls on the objects of an open that ends: the first close of a port of theirs has its cause, and they are gone
   ends : (outs added : List Out) (h : Holdings) (came : List Arrived) (before after : List Kin) (o : Kin) (way : Option Way) (s : GraphState) (cause : Cause) → Traced outs h came → h.living ≡ before ++ o ∷ after →
       CallsOpen o way added h.state s → first_close_of (own_serials o) added ≡ Some cause → AreGone (own_serials o) s →
-      Traced (outs ++ (added ++ (ended o.number cause ∷ []))) (record h { state = s; living = before ++ after }) (came ++ arrived outs o.number way)
+      Traced (outs ++ (added ++ (ended o.number cause ∷ []))) (record h { state = s; living = before ++ after }) (came ++ arrived_by_way outs o.number way)
   -- the run ends with an open beside which objects wait: all are gone
   ends_with_all : (outs added : List Out) (h : Holdings) (came : List Arrived) (before after : List Kin) (o : Kin) (s : GraphState) (cause : Cause) → Traced outs h came → h.living ≡ before ++ o ∷ after →
       ShutsOpen o h.waits added h.state s → first_close_of (own_serials o) added ≡ Some cause → AreGone (own_serials o ++ serials h.waits) s →

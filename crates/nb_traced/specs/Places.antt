@@ -33,8 +33,8 @@ pub data FrameStands (before : List Out) : Type 0 where
 abbrev pub FramesStand : List Out → Type 0
 FramesStand outs = (before after : List Out) (bytes : List ℕ) → outs ≡ before ++ (sent bytes ∷ after) → FrameStands before
 
-abbrev pub TriesStand : List Out → Type 0
-TriesStand outs = (before after : List Out) (k count : ℕ) → outs ≡ before ++ (tried k count ∷ after) → IsWithinOpen k before
+abbrev pub TriesStandWithin : List Out → Type 0
+TriesStandWithin outs = (before after : List Out) (k count : ℕ) → outs ≡ before ++ (tried k count ∷ after) → IsWithinOpen k before
 
 abbrev pub AdvancesStand : List Out → Type 0
 AdvancesStand outs = (before after : List Out) (k place : ℕ) → outs ≡ before ++ (advanced k place ∷ after) → IsWithinOpen k before

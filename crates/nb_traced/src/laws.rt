@@ -9,7 +9,7 @@ ghost use Rattle.nb_traced.specs.Example.{came_to_both, came_to_two, one_ends, t
 ghost use Rattle.nb_traced.specs.Holdings.{Holdings, GraphObject};
 ghost use Rattle.nb_traced.specs.Openings.{CommandsLeaveNone, EndsAreTheirs, HasPieces, LeavesTheirs, NumbersRise, OpensHavePieces};
 ghost use Rattle.nb_traced.specs.Outputs.{Arrived, Traced};
-ghost use Rattle.nb_traced.specs.Places.{AdvancesStand, FramesStand, LowestAreOwn, LowestAreTheirs, OthersStandOutside, TriesStand};
+ghost use Rattle.nb_traced.specs.Places.{AdvancesStand, FramesStand, LowestAreOwn, LowestAreTheirs, OthersStandOutside, TriesStandWithin};
 ghost use Rattle.nb_traced.specs.Runs.{HasLedTo};
 ghost use Rattle.nb_traced.specs.Whose.{EventsAreTheirs, MadesAreTheirs, OpensTakeAll, PutsFollow};
 
@@ -79,7 +79,7 @@ pub fn entries_are_theirs()
 /// and each ADVANCE within an entry of the lowest object of its open; and no other record stands within an entry.
 pub fn records_stand_within()
     ensures frames { (outs : List Out) (h : Holdings) (came : List Arrived) → Traced outs h came → FramesStand outs }
-    ensures tries { (outs : List Out) (h : Holdings) (came : List Arrived) → Traced outs h came → TriesStand outs }
+    ensures tries { (outs : List Out) (h : Holdings) (came : List Arrived) → Traced outs h came → TriesStandWithin outs }
     ensures advances { (outs : List Out) (h : Holdings) (came : List Arrived) → Traced outs h came → AdvancesStand outs }
     ensures others { (outs : List Out) (h : Holdings) (came : List Arrived) → Traced outs h came → OthersStandOutside outs }
 {}

@@ -5,7 +5,7 @@ use Rattle.std.specs.List.{position_or_len}
 use Rattle.std.proofs.lemmas.Bool.{eqb-true, eqb-false, ne_eqb, lt-ltb}
 use Rattle.std.proofs.lemmas.List.{take_at, drop_at, get_or-take, get_or_append_left, length-take-le}
 use Rattle.std.proofs.lemmas.List.Sums.{position_or_len_is, fails_before_first, passes_at_first}
-use Rattle.nb_uri.specs.Pieces.{cut}
+use Rattle.nb_uri.specs.Pieces.{cut_at_first}
 use Rattle.nb_uri.specs.IscsiNames.{HasNoColon}
 use Rattle.nb_uri.proofs.PieceLemmas.{cut_found}
 
@@ -14,7 +14,7 @@ drop-past field rest =
     ap (drop (length field + 1)) (sym (append_assoc field (58 ∷ []) rest)) ∙ drop_at (field ++ 58 ∷ []) rest (length field + 1) (length-append field (58 ∷ []))
 
 -- a field and what follows its colon are cut there
-pub cut-at : (field rest : List ℕ) → HasNoColon field → cut 58 (field ++ 58 ∷ rest) ≡ Some (field, rest)
+pub cut-at : (field rest : List ℕ) → HasNoColon field → cut_at_first 58 (field ++ 58 ∷ rest) ≡ Some (field, rest)
 cut-at field rest none =
     let text = field ++ 58 ∷ rest in
     let within : length field < length text = simp length-append (omega arith) in
@@ -25,7 +25,7 @@ cut-at field rest none =
     rw (at, lt-ltb (length field) (length text) within) (λ i. Some (take_at field (58 ∷ rest) (length field) refl i, after i))
 
 -- what is cut was spelled so
-pub cut-joins : (text field rest : List ℕ) → Some (field, rest) ≡ cut 58 text → (text ≡ field ++ 58 ∷ rest) × HasNoColon field
+pub cut-joins : (text field rest : List ℕ) → Some (field, rest) ≡ cut_at_first 58 text → (text ≡ field ++ 58 ∷ rest) × HasNoColon field
 cut-joins text field rest is =
     let at = position_or_len (λ b. eqb b 58) text in
     let found = cut_found 58 text field rest is in

@@ -9,7 +9,7 @@ use Rattle.std.proofs.lemmas.Fmt.{decimal-digits_value, decimal_is_IsNumeral, de
 use Rattle.std.proofs.lemmas.Option.{none-some}
 use Rattle.std.proofs.lemmas.Slice.Eq.{bytes_eq-Decides}
 use Rattle.std.proofs.lemmas.Str.Parse.{numerals_by_value, tells_digits, digit_at}
-use Rattle.nb_uri.specs.Pieces.{cut}
+use Rattle.nb_uri.specs.Pieces.{cut_at_first}
 use Rattle.nb_uri.specs.IscsiNames.{IscsiTarget, HasNoColon, IsPortField, SpellsIscsi, fields_target, iscsi_lun, iscsi_port, iscsi_target, is_iscsi_protocol, is_target_name, word_number}
 use Rattle.nb_uri.proofs.DigitLemmas.{word_number-some, word_number-read}
 use Rattle.nb_uri.proofs.FieldLemmas.{cut-at, cut-joins}
@@ -120,7 +120,7 @@ name-given target some fits = let long : leb (length target) 223 ≡ true = grin
 abbrev Field : Type 0
 Field = Option (List ℕ × List ℕ)
 
-spelled-4 : (text server protocol port three : List ℕ) (disk : IscsiTarget) (four : Field) → text ≡ server ++ 58 ∷ (protocol ++ 58 ∷ (port ++ 58 ∷ three)) → HasNoColon server → four ≡ cut 58 three → option_and_then (λ four. fields_target server protocol port four.0 four.1) four ≡ Some disk → SpellsIscsi text disk
+spelled-4 : (text server protocol port three : List ℕ) (disk : IscsiTarget) (four : Field) → text ≡ server ++ 58 ∷ (protocol ++ 58 ∷ (port ++ 58 ∷ three)) → HasNoColon server → four ≡ cut_at_first 58 three → option_and_then (λ four. fields_target server protocol port four.0 four.1) four ≡ Some disk → SpellsIscsi text disk
 spelled-4 text server protocol port three disk None is none cuts read = absurd (none-some disk read)
 spelled-4 text server protocol port three disk (Some four) is none cuts read =
     let joined = cut-joins three four.0 four.1 cuts in
@@ -143,32 +143,32 @@ spelled-4 text server protocol port three disk (Some four) is none cuts read =
     }
 
 abbrev read-3 : List ℕ → List ℕ → Field → Option IscsiTarget
-read-3 server protocol three = option_and_then (λ three. option_and_then (λ four. fields_target server protocol three.0 four.0 four.1) (cut 58 three.1)) three
+read-3 server protocol three = option_and_then (λ three. option_and_then (λ four. fields_target server protocol three.0 four.0 four.1) (cut_at_first 58 three.1)) three
 
-spelled-3 : (text server protocol two : List ℕ) (disk : IscsiTarget) (three : Field) → text ≡ server ++ 58 ∷ (protocol ++ 58 ∷ two) → HasNoColon server → three ≡ cut 58 two → read-3 server protocol three ≡ Some disk → SpellsIscsi text disk
+spelled-3 : (text server protocol two : List ℕ) (disk : IscsiTarget) (three : Field) → text ≡ server ++ 58 ∷ (protocol ++ 58 ∷ two) → HasNoColon server → three ≡ cut_at_first 58 two → read-3 server protocol three ≡ Some disk → SpellsIscsi text disk
 spelled-3 text server protocol two disk None is none cuts read = absurd (none-some disk read)
 spelled-3 text server protocol two disk (Some three) is none cuts read =
-    spelled-4 text server protocol three.0 three.1 disk (cut 58 three.1) (is ∙ ap (λ t. server ++ 58 ∷ (protocol ++ 58 ∷ t)) (cut-joins two three.0 three.1 cuts).0) none refl read
+    spelled-4 text server protocol three.0 three.1 disk (cut_at_first 58 three.1) (is ∙ ap (λ t. server ++ 58 ∷ (protocol ++ 58 ∷ t)) (cut-joins two three.0 three.1 cuts).0) none refl read
 
 abbrev read-2 : List ℕ → Field → Option IscsiTarget
-read-2 server two = option_and_then (λ two. read-3 server two.0 (cut 58 two.1)) two
+read-2 server two = option_and_then (λ two. read-3 server two.0 (cut_at_first 58 two.1)) two
 
-spelled-2 : (text server one : List ℕ) (disk : IscsiTarget) (two : Field) → text ≡ server ++ 58 ∷ one → HasNoColon server → two ≡ cut 58 one → read-2 server two ≡ Some disk → SpellsIscsi text disk
+spelled-2 : (text server one : List ℕ) (disk : IscsiTarget) (two : Field) → text ≡ server ++ 58 ∷ one → HasNoColon server → two ≡ cut_at_first 58 one → read-2 server two ≡ Some disk → SpellsIscsi text disk
 spelled-2 text server one disk None is none cuts read = absurd (none-some disk read)
 spelled-2 text server one disk (Some two) is none cuts read =
-    spelled-3 text server two.0 two.1 disk (cut 58 two.1) (is ∙ ap (λ t. server ++ 58 ∷ t) (cut-joins one two.0 two.1 cuts).0) none refl read
+    spelled-3 text server two.0 two.1 disk (cut_at_first 58 two.1) (is ∙ ap (λ t. server ++ 58 ∷ t) (cut-joins one two.0 two.1 cuts).0) none refl read
 
 abbrev read-1 : Field → Option IscsiTarget
-read-1 one = option_and_then (λ one. read-2 one.0 (cut 58 one.1)) one
+read-1 one = option_and_then (λ one. read-2 one.0 (cut_at_first 58 one.1)) one
 
-spelled-1 : (text : List ℕ) (disk : IscsiTarget) (one : Field) → one ≡ cut 58 text → read-1 one ≡ Some disk → SpellsIscsi text disk
+spelled-1 : (text : List ℕ) (disk : IscsiTarget) (one : Field) → one ≡ cut_at_first 58 text → read-1 one ≡ Some disk → SpellsIscsi text disk
 spelled-1 text disk None cuts read = absurd (none-some disk read)
 spelled-1 text disk (Some one) cuts read =
     let joined = cut-joins text one.0 one.1 cuts in
-    spelled-2 text one.0 one.1 disk (cut 58 one.1) joined.0 joined.1 refl read
+    spelled-2 text one.0 one.1 disk (cut_at_first 58 one.1) joined.0 joined.1 refl read
 
 pub iscsi-spelled : (text : List ℕ) (disk : IscsiTarget) → iscsi_target text ≡ Some disk → SpellsIscsi text disk
-iscsi-spelled text disk is = spelled-1 text disk (cut 58 text) refl is
+iscsi-spelled text disk is = spelled-1 text disk (cut_at_first 58 text) refl is
 
 pub iscsi-read : (text : List ℕ) (disk : IscsiTarget) → SpellsIscsi text disk → iscsi_target text ≡ Some disk
 iscsi-read text disk s =

@@ -9,7 +9,7 @@ use Rattle.std.proofs.lemmas.Bool.{true≢false}
 use Rattle.std.proofs.lemmas.Bool.Decides.{nat_tests}
 use Rattle.std.proofs.lemmas.List.Splits.{length-slice_split}
 use Rattle.std.proofs.lemmas.Slice.Eq.{bytes_eq-Decides}
-use Rattle.nb_uri.specs.Pieces.{cut}
+use Rattle.nb_uri.specs.Pieces.{cut_at_first}
 use Rattle.nb_uri.specs.IscsiNames.{is_iscsi, is_hyphen, lun_word, lun_words, lun_groups, HasNoColon}
 use Rattle.nb_uri.proofs.PieceLemmas.{parts_cut, parts_whole}
 use Rattle.nb_uri.proofs.FieldLemmas.{cut-joins}
@@ -19,10 +19,10 @@ use Rattle.nb_uri.proofs.FieldLemmas.{cut-joins}
 abbrev pub more_words : ℕ → List (List ℕ) → Option ℕ → Option (List ℕ)
 more_words count groups first = option_and_then (λ word. option_map (λ words. word ∷ words) (lun_words count groups)) first
 
-pub words-cut : (count : ℕ) (text group rest : List ℕ) → Some (group, rest) ≡ cut 45 text → lun_words (suc count) (slice_split is_hyphen text) ≡ more_words count (slice_split is_hyphen rest) (lun_word group)
+pub words-cut : (count : ℕ) (text group rest : List ℕ) → Some (group, rest) ≡ cut_at_first 45 text → lun_words (suc count) (slice_split is_hyphen text) ≡ more_words count (slice_split is_hyphen rest) (lun_word group)
 words-cut count text group rest is = ap (lun_words (suc count)) (parts_cut 45 text group rest is)
 
-pub words-whole : (count : ℕ) (text : List ℕ) → None ≡ cut 45 text → lun_words (suc count) (slice_split is_hyphen text) ≡ more_words count [] (lun_word text)
+pub words-whole : (count : ℕ) (text : List ℕ) → None ≡ cut_at_first 45 text → lun_words (suc count) (slice_split is_hyphen text) ≡ more_words count [] (lun_word text)
 words-whole count text is = ap (lun_words (suc count)) (parts_whole 45 text is)
 
 -- nothing is left after the last word
@@ -67,12 +67,12 @@ scheme_spelled (a ∷ b ∷ c ∷ d ∷ e ∷ f ∷ scheme) rest none same =
     let sixth : to_ascii_lowercase f ≡ 58 = cc same in
     absurd (none 5 (omega arith) (no_colon f sixth))
 
-pub is_iscsi-cut : (text scheme rest : List ℕ) → Some (scheme, rest) ≡ cut 58 text → Lower scheme ≡ codes "iscsi" → (is_iscsi text ≡ true) × (rest ≡ drop 6 text)
+pub is_iscsi-cut : (text scheme rest : List ℕ) → Some (scheme, rest) ≡ cut_at_first 58 text → Lower scheme ≡ codes "iscsi" → (is_iscsi text ≡ true) × (rest ≡ drop 6 text)
 is_iscsi-cut text scheme rest is same =
     let joined = cut-joins text scheme rest is in
     rw joined.0 (scheme_read scheme rest same)
 
-pub is_iscsi-other : (text scheme rest : List ℕ) → Some (scheme, rest) ≡ cut 58 text → (Lower scheme ≡ codes "iscsi" → ⊥) → is_iscsi text ≡ false
+pub is_iscsi-other : (text scheme rest : List ℕ) → Some (scheme, rest) ≡ cut_at_first 58 text → (Lower scheme ≡ codes "iscsi" → ⊥) → is_iscsi text ≡ false
 is_iscsi-other text scheme rest is other =
     let joined = cut-joins text scheme rest is in
     not_true (is_iscsi text) (λ yes. other (scheme_spelled scheme rest joined.1 (subst (λ t. Lower (take 6 t) ≡ codes "iscsi:") joined.0 ((bytes_eq-Decides _ (codes "iscsi:")).0 yes))))

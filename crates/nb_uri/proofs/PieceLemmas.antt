@@ -6,7 +6,7 @@ use Rattle.std.proofs.lemmas.List.Splits.{slice_split_first, slice_split_none}
 use Rattle.std.proofs.lemmas.Option.{none-some, some_pair_parts}
 use Rattle.std.proofs.lemmas.List.{drop_all}
 use Rattle.std.specs.List.{after_last, after_first, before_first, position_or_len, slice_split, suffix_len}
-use Rattle.nb_uri.specs.Pieces.{cut, is_slash, HasNoSlashFrom}
+use Rattle.nb_uri.specs.Pieces.{cut_at_first, is_slash, HasNoSlashFrom}
 
 -- either answer of a test
 pub either_way : {P : Type 0} (b : Bool) → (b ≡ true → P) → (b ≡ false → P) → P
@@ -39,7 +39,7 @@ after_last-none path none =
     rw (len, start) refl
 
 -- a separator that is found
-pub cut_found : (separator : ℕ) (text front behind : List ℕ) → Some (front, behind) ≡ cut separator text → (position_or_len (λ b. eqb b separator) text < length text) × (before_first (λ b. eqb b separator) text ≡ front) × (after_first (λ b. eqb b separator) text ≡ behind)
+pub cut_found : (separator : ℕ) (text front behind : List ℕ) → Some (front, behind) ≡ cut_at_first separator text → (position_or_len (λ b. eqb b separator) text < length text) × (before_first (λ b. eqb b separator) text ≡ front) × (after_first (λ b. eqb b separator) text ≡ behind)
 cut_found separator text front behind is =
     let at = position_or_len (λ b. eqb b separator) text in
     either_way (ltb at (length text))
@@ -49,7 +49,7 @@ cut_found separator text front behind is =
     (λ off. absurd (none-some (front, behind) (sym (rw off at is))))
 
 -- no separator
-pub cut_none : (separator : ℕ) (text : List ℕ) → None ≡ cut separator text → length text ≤ position_or_len (λ b. eqb b separator) text
+pub cut_none : (separator : ℕ) (text : List ℕ) → None ≡ cut_at_first separator text → length text ≤ position_or_len (λ b. eqb b separator) text
 cut_none separator text is =
     let at = position_or_len (λ b. eqb b separator) text in
     either_way (ltb at (length text))
@@ -57,7 +57,7 @@ cut_none separator text is =
     (λ off. ltb-false at (length text) off)
 
 -- what stands before a separator is the first part
-pub parts_cut : (separator : ℕ) (text front behind : List ℕ) → Some (front, behind) ≡ cut separator text → slice_split (λ b. eqb b separator) text ≡ front ∷ slice_split (λ b. eqb b separator) behind
+pub parts_cut : (separator : ℕ) (text front behind : List ℕ) → Some (front, behind) ≡ cut_at_first separator text → slice_split (λ b. eqb b separator) text ≡ front ∷ slice_split (λ b. eqb b separator) behind
 parts_cut separator text front behind is =
     let found = cut_found separator text front behind is in
     slice_split_first (λ b. eqb b separator) text 0 found.0
@@ -65,13 +65,13 @@ parts_cut separator text front behind is =
     ∙ ap (λ rest. front ∷ slice_split (λ b. eqb b separator) rest) found.2
 
 -- a text without separator is one part
-pub parts_whole : (separator : ℕ) (text : List ℕ) → None ≡ cut separator text → slice_split (λ b. eqb b separator) text ≡ text ∷ []
+pub parts_whole : (separator : ℕ) (text : List ℕ) → None ≡ cut_at_first separator text → slice_split (λ b. eqb b separator) text ≡ text ∷ []
 parts_whole separator text is =
     let past = cut_none separator text is in
     slice_split_none (λ b. eqb b separator) text (λ k d below. fails_before_first (λ b. eqb b separator) text k d (omega arith))
 
 -- without separator nothing stands after it
-pub after_first-none : (separator : ℕ) (text : List ℕ) → None ≡ cut separator text → after_first (λ b. eqb b separator) text ≡ []
+pub after_first-none : (separator : ℕ) (text : List ℕ) → None ≡ cut_at_first separator text → after_first (λ b. eqb b separator) text ≡ []
 after_first-none separator text is =
     let past = cut_none separator text is in
     drop_all (position_or_len (λ b. eqb b separator) text + 1) text (omega arith)

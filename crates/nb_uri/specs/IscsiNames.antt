@@ -7,7 +7,7 @@ use Rattle.std.specs.Int.{to_be_bytes, w16}
 use Rattle.std.specs.List.{list_all, slice_split, flat_map}
 use Rattle.std.specs.Option.{option_map, option_and_then}
 use Rattle.std.specs.Str.Parse.{digits_value}
-use Rattle.nb_uri.specs.Pieces.{cut}
+use Rattle.nb_uri.specs.Pieces.{cut_at_first}
 
 -- what an iSCSI name means: the server, its port, the logical unit as 8 bytes, and the target's name
 pub record IscsiTarget : Type 0 where
@@ -76,7 +76,7 @@ abbrev pub iscsi_target : List ℕ → Option IscsiTarget
 iscsi_target text =
     option_and_then (λ one. option_and_then (λ two. option_and_then (λ three. option_and_then (λ four.
     fields_target one.0 two.0 three.0 four.0 four.1)
-    (cut 58 three.1)) (cut 58 two.1)) (cut 58 one.1)) (cut 58 text)
+    (cut_at_first 58 three.1)) (cut_at_first 58 two.1)) (cut_at_first 58 one.1)) (cut_at_first 58 text)
 
 -- no byte is a colon
 abbrev pub HasNoColon : List ℕ → Type 0

@@ -10,5 +10,5 @@ abbrev pub HasNoSlashFrom : ℕ → List ℕ → Type 0
 HasNoSlashFrom from path = (place : ℕ) → from ≤ place → place < length path → is_slash (slice_index path place) ≡ false
 
 -- what stands before the first separator, and what after it
-abbrev pub cut : ℕ → List ℕ → Option (List ℕ × List ℕ)
-cut separator text = option_map (λ place. (take place text, drop (place + 1) text)) (position (λ byte. byte == separator) text)
+abbrev pub cut_at_first : ℕ → List ℕ → Option (List ℕ × List ℕ)
+cut_at_first separator text = option_map (λ place. (take place text, drop (place + 1) text)) (position (λ byte. byte == separator) text)

@@ -3,11 +3,11 @@
 ghost use Rattle.std.specs.Prelude.{◌≡◌, ◌+◌, ◌<◌, ◌==◌, true, position, length, slice_index, IfSome, IfNone};
 ghost use Rattle.std.specs.List.{after_last};
 ghost use Rattle.std.specs.Option.{option_map};
-ghost use Rattle.nb_uri.specs.Pieces.{cut, is_slash, HasNoSlashFrom};
+ghost use Rattle.nb_uri.specs.Pieces.{cut_at_first, is_slash, HasNoSlashFrom};
 
 /// The bytes before the first separator, and those after it. None where there is no separator.
 pub(crate) fn cut(text: &[u8], separator: u8) -> Option<(&[u8], &[u8])>
-    ensures { option_map (λ pieces. (pieces.0.now, pieces.1.now)) result ≡ cut separator text.now }
+    ensures { option_map (λ pieces. (pieces.0.now, pieces.1.now)) result ≡ cut_at_first separator text.now }
 {
     match first_of(text, separator) {
         Some(place) => Some((&text[..place], &text[place + 1..])),
@@ -18,7 +18,7 @@ pub(crate) fn cut(text: &[u8], separator: u8) -> Option<(&[u8], &[u8])>
 /// The same of a text.
 pub(crate) fn cut_text(text: &str, separator: char) -> Option<(&str, &str)>
     requires { separator < 128 }
-    ensures { option_map (λ pieces. (pieces.0.now, pieces.1.now)) result ≡ cut separator text.now }
+    ensures { option_map (λ pieces. (pieces.0.now, pieces.1.now)) result ≡ cut_at_first separator text.now }
 {
     text.split_once(separator)
 }

@@ -20,25 +20,25 @@ use Rattle.nb_opens.specs.Pairs.{body_in}
 use Rattle.nb_chains.specs.Chains.{AreChained, AreStillChained}
 use Rattle.nb_closings.specs.Chained.{IsShutThrough, HaveNoOthers}
 use Rattle.nb_webchains.specs.declared.web_chain.WebChain.{WebChain}
-use Rattle.nb_webchains.specs.WebCalls.{brought, text_of_obj}
+use Rattle.nb_webchains.specs.WebCalls.{file_brought, text_of_obj}
 use Rattle.nb_webchains.specs.WebChains.{AreOfWeb, IsShutWeb, web_ids}
 use Rattle.nb_webchains.proofs.Three.{fetch_in}
 
 -- of a trace that isn't closed well nothing was brought
-none_brought : (t : List (NodeEntry Obj Load)) → false ≡ closed_well t → None ≡ brought t
+none_brought : (t : List (NodeEntry Obj Load)) → false ≡ closed_well t → None ≡ file_brought t
 none_brought t e = ap (λ (b : Bool). if b then Some (taken_below t) else None) e
 
-whole_brought : (t : List (NodeEntry Obj Load)) (b : List ℕ) → true ≡ closed_well t → b ≡ taken_below t → Some b ≡ brought t
+whole_brought : (t : List (NodeEntry Obj Load)) (b : List ℕ) → true ≡ closed_well t → b ≡ taken_below t → Some b ≡ file_brought t
 whole_brought t b e i = ap Some i ∙ ap (λ (b : Bool). if b then Some (taken_below t) else None) e
 
-fetch_brings : (fe after : Fetch) (r : Option Load) (t : List (NodeEntry Obj Load)) → FetchStands fe t → mark_of_obj (obj.Fetch fe) ≡ 0 → FetchHarvests fe r after → body_in r ≡ brought t
+fetch_brings : (fe after : Fetch) (r : Option Load) (t : List (NodeEntry Obj Load)) → FetchStands fe t → mark_of_obj (obj.Fetch fe) ≡ 0 → FetchHarvests fe r after → body_in r ≡ file_brought t
 fetch_brings (Gathering b al) after r t s zero h = ap body_in h.0 ∙ none_brought t s.whole
 fetch_brings (Whole b) after r t s zero h = ap body_in h.0 ∙ whole_brought t b s.whole s.body
 fetch_brings HandedOut after r t s zero h = absurd (omega (arith, zero))
 fetch_brings (Moved u) after r t s zero h = ap body_in h.0 ∙ none_brought t s.whole
 fetch_brings Failed after r t s zero h = ap body_in h.0 ∙ none_brought t s.whole
 
-node_brings : (n after : Obj) (r : Option Load) (t : List (NodeEntry Obj Load)) → rank_of_obj n ≡ 5 → ObjStands n t → mark_of_obj n ≡ 0 → ObjHarvests n r after → body_in r ≡ brought t
+node_brings : (n after : Obj) (r : Option Load) (t : List (NodeEntry Obj Load)) → rank_of_obj n ≡ 5 → ObjStands n t → mark_of_obj n ≡ 0 → ObjHarvests n r after → body_in r ≡ file_brought t
 node_brings (obj.Fetch fe) (obj.Fetch after) r t at s zero h = fetch_brings fe after r t s zero h
 node_brings (obj.Fetch fe) (obj.Tftp q) r t at s zero h = absurd h
 node_brings (obj.Fetch fe) (obj.Resolver q) r t at s zero h = absurd h
@@ -73,7 +73,7 @@ module _ (c : WebChain) (g : Objects Obj) (are : AreOfWeb c g) (t : List (NodeEn
   pub moves_so : (n : Obj) → node_at g c.fetch.0 ≡ Some n → rank_of_obj n ≡ rank g.book c.fetch.0 → text_of_obj n ≡ moved_in t
   moves_so n is at = node_moved n t (at ∙ are.fetch_rank) (stands n is).0 (are.fetch n is)
 
-  pub brings_so : (h : Objects Obj) (r : Option Load) → AreNoded rank_of_obj g → object_lives g.book c.fetch.0 ≡ true → Harvests ObjHarvests g h c.fetch r → body_in r ≡ brought t
+  pub brings_so : (h : Objects Obj) (r : Option Load) → AreNoded rank_of_obj g → object_lives g.book c.fetch.0 ≡ true → Harvests ObjHarvests g h c.fetch r → body_in r ≡ file_brought t
   brings_so h r noded lives k =
       let n = noded c.fetch.0 lives in
       let z : Some n.node ≡ Some k.before = sym n.is_node ∙ k.had in

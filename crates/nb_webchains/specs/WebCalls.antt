@@ -18,7 +18,7 @@ use Rattle.nb_ledger.specs.Flat.{Heard, Notice, all}
 use Rattle.nb_nodes.specs.declared.load.Load.{Load}
 use Rattle.nb_nodes.specs.declared.obj.Obj.{Obj}
 use Rattle.nb_nodes.specs.declared.obj.Obj.TheVariants as obj
-use Rattle.nb_nodes.specs.Fetches.{closed_well, moved_text, taken_below}
+use Rattle.nb_nodes.specs.Fetches.{closed_well, moved_uri, taken_below}
 use Rattle.nb_nodes.specs.Objects.{obj_nature, rank_of_obj}
 use Rattle.nb_nodes.specs.Standing.{ObjStands}
 use Rattle.nb_opens.specs.AloneNotices.{alone_freed}
@@ -104,12 +104,12 @@ pub record ClosesWeb (c : WebChain) (old new : Objects Obj) (cause : Cause) (bef
   pub still : AreChained new (web_ids c)
 
 -- the file that a Fetch has brought by this trace, if it has
-abbrev pub brought : List (NodeEntry Obj Load) → Option (List ℕ)
-brought t = if closed_well t then Some (taken_below t) else None
+abbrev pub file_brought : List (NodeEntry Obj Load) → Option (List ℕ)
+file_brought t = if closed_well t then Some (taken_below t) else None
 
 -- the URI that an object's file is at instead
 abbrev pub text_of_obj : Obj → Option (List ℕ)
-text_of_obj (obj.Fetch f) = moved_text f
+text_of_obj (obj.Fetch f) = moved_uri f
 text_of_obj (obj.Http p) = None
 text_of_obj (obj.Tcp p) = None
 text_of_obj (obj.Iscsi p) = None

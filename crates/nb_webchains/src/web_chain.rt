@@ -17,7 +17,7 @@ ghost use Rattle.nb_nodes.specs.Objects.{obj_nature};
 ghost use Rattle.nb_nodes.specs.Standing.{ObjStands};
 ghost use Rattle.nb_opens.specs.Pairs.{body_in};
 ghost use Rattle.nb_webchains.specs.Releases.{AreLoose, GoesLoose};
-ghost use Rattle.nb_webchains.specs.WebCalls.{ClosesWeb, DoesWeb, ReleasesEach, ShutsWeb, begins_web, brought, receives_web, text_of_obj, ticks_web};
+ghost use Rattle.nb_webchains.specs.WebCalls.{ClosesWeb, DoesWeb, ReleasesEach, ShutsWeb, begins_web, file_brought, receives_web, text_of_obj, ticks_web};
 ghost use Rattle.nb_webchains.specs.WebChains.{AreOfWeb, IsInOrder, IsOpenWeb, IsShutWeb, KeepKinds, web_ids};
 
 use nb_chains::Arrival;
@@ -138,7 +138,7 @@ impl WebChain {
         requires { AreChained graph.old (web_ids self) }
         ensures on { AreStillChained (web_ids self) graph.old graph.new }
         ensures body { AreOfWeb self graph.old → (t : List (NodeEntry TheObj TheLoad))
-            → ObjectStands ObjStands graph.old self.fetch.0 t → result ≡ brought t }
+            → ObjectStands ObjStands graph.old self.fetch.0 t → result ≡ file_brought t }
         ensures shut { IsShutWeb self graph.old → IsShutWeb self graph.new }
         // Every life, hold, rank, port and link.
         ensures book { graph.new.book ≡ graph.old.book }

@@ -18,7 +18,7 @@ use Rattle.nb_conns.specs.ConnEffects.{emits_of, GoesAbove, GoesBelow, received_
 use Rattle.nb_responses.specs.Chunks.{Verdict, more, open_body, body, moved, status, broken, large, long, many}
 use Rattle.nb_readings.specs.Readings.{read_so_far}
 use Rattle.nb_readings.specs.Ends.{verdict_end, is_decided}
-use Rattle.nb_http.specs.Standing.{Core, Kept, HasRead, TakesBytes, DecidesLast, EndsStream}
+use Rattle.nb_http.specs.Standing.{Core, Kept, HasReadStream, TakesBytes, DecidesLast, EndsStream}
 use Rattle.nb_http.specs.Giving.{TakesFirst, HandsUp, IsRangeWithin, range_given, gave, is_plain_body}
 use Rattle.nb_http.specs.Runs.{Ran, started, took}
 use Rattle.nb_webnodes.specs.declared.asking.Body.{Body}
@@ -118,7 +118,7 @@ body_said m old new acts count w h = body_said_by m count acts.give (take new.wa
 
 -- where a core is after a call
 after_at : (a : AskParts) (rec : ℕ) (new : Kept) (stream given : List ℕ) (over : Option Cause) (w : WebStage) → w ≡ (if is_some over then Ended else Fetching new)
-    → Ran rec new.core stream given over → HasRead new.core stream given → over ≡ verdict_end rec (read_so_far stream).verdict → IsWebAt w (fetched_on a new.core stream given over)
+    → Ran rec new.core stream given over → HasReadStream new.core stream given → over ≡ verdict_end rec (read_so_far stream).verdict → IsWebAt w (fetched_on a new.core stream given over)
 after_at a rec new stream given None w e ran stands ends =
     subst (λ (z : WebStage). IsWebAt z (fetching a new.core stream given)) (sym e)
     (while_fetching new a new.core stream given refl (record { rec = rec; ran = ran; stands = stands; goes_on = stands.decided ∙ none_decided rec (read_so_far stream).verdict ends }))

@@ -9,7 +9,7 @@ use Rattle.nb_conns.specs.StreamTags.{stream_tag_number}
 use Rattle.nb_conns.specs.ConnEffects.{TookAll, closes_for}
 use Rattle.nb_conns.specs.Dialogues.{AsksIdly, HandsOnClose}
 use Rattle.nb_responses.specs.Requests.{request_text}
-use Rattle.nb_http.specs.Standing.{Core, Kept, HasRead, TakesBytes, DecidesLast, EndsStream, is_over}
+use Rattle.nb_http.specs.Standing.{Core, Kept, HasReadStream, TakesBytes, DecidesLast, EndsStream, is_over}
 use Rattle.nb_http.specs.Runs.{Ran}
 use Rattle.nb_webnodes.specs.declared.stage.WebStage.{WebStage}
 use Rattle.nb_webnodes.specs.declared.stage.WebStage.TheVariants.{Unasked, Fetching, Ended}
@@ -72,7 +72,7 @@ fetched_on a c stream given over = if is_some over then web_decided a c stream g
 pub data Fetched {N L : Type 0} (k : WebCarrier L) : WebTalk → NodeEntry N L → WebTalk → Type 0 where
   -- the connection is asked for, and given the request
   is_begun : (a : AskParts) (c : Core) (m : Said) (now : ℕ) (fx : Fx N L) → m.tag ≡ stream_tag_number Begin → web_ask_in m.a m.bytes ≡ Some a
-      → HasRead c [] [] → is_over c.state ≡ false → WebEffects k m (request_says m a) [] [] fx
+      → HasReadStream c [] [] → is_over c.state ≡ false → WebEffects k m (request_says m a) [] [] fx
       → Fetched k web_unasked (down m now true fx) (fetching a c [] [])
   -- Bytes of the stream: what is taken is what the core took, none past the byte that decides the response; what goes
   -- up is what it gave, and the text of a move.
@@ -98,7 +98,7 @@ FetchedTo k d (e ∷ t) f = (g : WebTalk) × Fetched k d e g × FetchedTo k g t 
 pub record ReadsOn (c : Core) (stream given : List ℕ) : Type 0 where
   pub rec : ℕ
   pub ran : Ran rec c stream given None
-  pub stands : HasRead c stream given
+  pub stands : HasReadStream c stream given
   pub goes_on : is_over c.state ≡ false
 
 -- a core was ended so: by bytes, or by the stream's end
@@ -125,7 +125,7 @@ FetchesOn k old new e = (d : WebTalk) → IsWebAt old d → (f : WebTalk) × Fet
 
 -- a core that was started for this, and its request
 pub record WebStarts (a : AskParts) (h : Kept) (text : List ℕ) : Type 0 where
-  pub stands : HasRead h.core [] []
+  pub stands : HasReadStream h.core [] []
   pub goes_on : is_over h.core.state ≡ false
   pub request : text ≡ request_text a.host a.conn.peer_port a.path
 

@@ -17,7 +17,7 @@ use Rattle.nb_conns.specs.declared.conn_ask.ConnAsk.{ConnAsk}
 use Rattle.nb_conns.specs.declared.conn_load.Lent.{Lent}
 use Rattle.nb_conns.specs.ConnEffects.{ConnEffects, TookAll, closes_for, downs_for}
 use Rattle.nb_conns.specs.ConnLoads.{lent_bytes}
-use Rattle.nb_conns.specs.Dialogues.{Converses, Dialogue, LendsSo, arriving, talking, comes_from, comes_to_end, ends_short, hands_on, rests_still, takes_none, takes_segment, takes_tick, talked_on, with_lending, with_passing, with_segment_call}
+use Rattle.nb_conns.specs.Dialogues.{Converses, Dialogue, LendsSo, arriving, talking, comes_from_peer, comes_to_end, ends_short, hands_on, rests_still, takes_none, takes_segment, takes_tick, talked_on, with_lending, with_passing, with_segment_call}
 use Rattle.nb_http.specs.Standing.{Core}
 use Rattle.nb_nodes.specs.declared.load.Load.{Load}
 use Rattle.nb_nodes.specs.declared.obj.Obj.{Obj}
@@ -65,7 +65,7 @@ module _ {c : WebCall} {n : ℕ} {a : List (NodeEntry Obj Load)} {ds : List (Dee
       (entry_by b start reads going taken 1 way.Up refl m es acts out sent (comes_to_end b calls (with_segment_call calls m.rec s c.now acts)) fx effects
       (as_stages (runs_of obj_nature c.conn m true fx ++ Holds (port_at c.conn 1) way.Up None ∷ []) (ap (λ o. runs_of obj_nature c.conn m true fx ++ Holds (port_at c.conn 1) way.Up o ∷ []) (none_left m fx.took short all)) k))
 
-  segment_did : (m : Said) (s : SegmentParts) (done : Bool) (fx : Fx Obj Load) (d : Dialogue) → comes_from b 1 m ≡ true → IsLaidOut m.bytes s → length m.bytes < 2 ^ 32 → Converses conn_carrier (talking b start calls None) (up 1 m c.now done fx) d
+  segment_did : (m : Said) (s : SegmentParts) (done : Bool) (fx : Fx Obj Load) (d : Dialogue) → comes_from_peer b 1 m ≡ true → IsLaidOut m.bytes s → length m.bytes < 2 ^ 32 → Converses conn_carrier (talking b start calls None) (up 1 m c.now done fx) d
       → Walk c n (view true true true true) (runs_of obj_nature c.conn m done fx ++ Holds (port_at c.conn 1) way.Up (rest m done fx) ∷ []) a (fetching q core stream given) d [] None ds → SegmentDid c n ds b start calls q stream m s
   segment_did m s false fx d comes is short by k = segment_fails (conn_fails (Holds (port_at c.conn 1) way.Up None ∷ []) m fx k)
   segment_did m s true fx _ comes is short (takes_segment _ _ _ _ _ _ _ t acts None came text lends effects all) k =
@@ -90,7 +90,7 @@ module _ {c : WebCall} {n : ℕ} {a : List (NodeEntry Obj Load)} {ds : List (Dee
   segment_did m s true fx d comes is short (ends_short _ _ cut hands) k = absurd (let z = cut in cc)
   segment_did m s true fx d comes is short (rests_still _ _ quiet asks) k = absurd (false≢true (sym (ap not comes) ∙ quiet))
 
-  pub segment_walk : (m : Said) (s : SegmentParts) → comes_from b 1 m ≡ true → IsLaidOut m.bytes s → length m.bytes < 2 ^ 32
+  pub segment_walk : (m : Said) (s : SegmentParts) → comes_from_peer b 1 m ≡ true → IsLaidOut m.bytes s → length m.bytes < 2 ^ 32
       → Walk c n (view true true true true) (Offers (port_at c.conn 1) m ∷ []) a (fetching q core stream given) (talking b start calls None) [] None ds → SegmentDid c n ds b start calls q stream m s
   segment_walk m s comes is short k = let w = offer_conn k in segment_did m s w.0 w.1 w.2 comes is short w.3 w.4
 

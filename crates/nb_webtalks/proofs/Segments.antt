@@ -25,7 +25,7 @@ use Rattle.nb_conns.specs.declared.conn_ask.ConnAsk.{ConnAsk}
 use Rattle.nb_conns.specs.declared.conn_load.Lent.{Lent}
 use Rattle.nb_conns.specs.ConnAsks.{link_of}
 use Rattle.nb_conns.specs.ConnEffects.{downs_for, place_says}
-use Rattle.nb_conns.specs.Dialogues.{ConversesTo, Dialogue, IsConnAt, arriving, comes_from, comes_to_end, is_talking, talked_on, talking, unopened, with_segment_call}
+use Rattle.nb_conns.specs.Dialogues.{ConversesTo, Dialogue, IsConnAt, arriving, comes_from_peer, comes_to_end, is_talking, talked_on, talking, unopened, with_segment_call}
 use Rattle.nb_http.proofs.RunLaws.{goes_on_undecided}
 use Rattle.nb_http.specs.Standing.{Core}
 use Rattle.nb_nodes.specs.declared.obj.Obj.{Obj}
@@ -43,7 +43,7 @@ use Rattle.nb_webnodes.specs.WebAsks.{AskParts}
 use Rattle.nb_webnodes.specs.WebTalks.{FetchedTo, ReadsOn, WebTalk, fetching, web_decided, web_unasked}
 use Rattle.nb_webtalks.specs.TalkStands.{StandsForTalk, stream_by}
 use Rattle.nb_webtalks.specs.Tellings.{messages_of}
-use Rattle.nb_webtalks.specs.Comings.{HasBrought, SegmentComes, response_end, segment_comes_so, segment_lacks_memory, segment_says, sends_say, with_segment}
+use Rattle.nb_webtalks.specs.Comings.{HasBrought, SegmentComes, response_end, segment_comes_so, segment_lacks_memory, segment_says, sends_say, calls_with_segment}
 use Rattle.nb_webtalks.proofs.Upward.{LetsUp, lets_all, lets_gave, lets_none, lets_silent}
 use Rattle.nb_webtalks.proofs.Walking.{WebCall}
 use Rattle.nb_webtalks.proofs.Steps.{walked}
@@ -99,7 +99,7 @@ module _ (a : ConnAsk) (start : ℕ) (calls : List TcpCall) (entries : List Conn
   asks_so es more is keeps =
       (each_at (AsksAsPromised (link_of a) start) [] entries entry more (subst (EachConnEntry (AsksAsPromised (link_of a) start) []) is keeps.each)).0 ∙ ap (λ z. segment_asks (link_of a) (conn_phase a.isn z) m now) called
 
-  come_then : after_tcp_call a.isn phase (segment_came m now) ≡ conn_phase a.isn (with_segment calls m now)
+  come_then : after_tcp_call a.isn phase (segment_came m now) ≡ conn_phase a.isn (calls_with_segment calls m now)
   come_then = sym (phase-append a.isn calls (segment_came m now))
 
   module _ (asked : acts ≡ segment_asks (link_of a) phase m now) where
@@ -112,7 +112,7 @@ module _ (a : ConnAsk) (start : ℕ) (calls : List TcpCall) (entries : List Conn
     ends_so = ap (λ (z : Acts). z.over) asked
 
     -- with what went up all has
-    comes_so : (es more behind : List ConnEntry) (sent : List ℕ) → es ≡ entries ++ entry ∷ (behind ++ more) → ConnKeeps (link_of a) start es → LetsUp acts.ready behind sent → stream_by a calls ++ sent ≡ stream_by a (with_segment calls m now)
+    comes_so : (es more behind : List ConnEntry) (sent : List ℕ) → es ≡ entries ++ entry ∷ (behind ++ more) → ConnKeeps (link_of a) start es → LetsUp acts.ready behind sent → stream_by a calls ++ sent ≡ stream_by a (calls_with_segment calls m now)
     comes_so es more _ _ is keeps (lets_none idle) =
         append-nil (stream_by a calls)
         ∙ none_more a.isn calls (segment_came m now) (ap (λ z. next (held_in phase) == next (held_in z)) (sym come_then) ∙ not_off _ (sym (ap (λ (z : Acts). z.ready) asked) ∙ idle))
@@ -127,10 +127,10 @@ module _ (a : ConnAsk) (start : ℕ) (calls : List TcpCall) (entries : List Conn
 record Knows (a : ConnAsk) (start : ℕ) (calls : List TcpCall) (m : Arrival) (now : ℕ) (acts : Acts) (sent : List ℕ) (p : Dialogue) : Type 0 where
   keeps : ConnKeeps (link_of a) start (had p)
   asked : acts ≡ segment_asks (link_of a) (conn_phase a.isn calls) m now
-  all : stream_by a calls ++ sent ≡ stream_by a (with_segment calls m now)
+  all : stream_by a calls ++ sent ≡ stream_by a (calls_with_segment calls m now)
 
 module _ (c : WebChain) (order : IsInOrder c) (g h : Objects Obj) (now : ℕ) (ns : List Notice) (a : ConnAsk) (start : ℕ) (calls : List TcpCall) (s : StandsForTalk a start calls c g) (msg : Said) (sp : SegmentParts)
-    (comes : comes_from a 1 msg ≡ true) (is : IsLaidOut msg.bytes sp) (short : length msg.bytes < 2 ^ 32) (st : Started c order g h now (Offers (port_at c.conn.0 1) msg ∷ []) ns s.above s.between s.below) where
+    (comes : comes_from_peer a 1 msg ≡ true) (is : IsLaidOut msg.bytes sp) (short : length msg.bytes < 2 ^ 32) (st : Started c order g h now (Offers (port_at c.conn.0 1) msg ∷ []) ns s.above s.between s.below) where
   abbrev m : Arrival
   m = arriving msg.rec sp
 
@@ -186,7 +186,7 @@ module _ (c : WebChain) (order : IsInOrder c) (g h : Objects Obj) (now : ℕ) (n
         record { keeps = keeps; asked = so; all = comes_so a start calls entries called gave m now acts so (had p) rest behind sent p_is keeps lets }
 
     -- whether the stream has ended then
-    ends_then : (b : Bool) → comes_to_end a entries (with_segment_call entries msg.rec sp now acts) ≡ b → has_ended (held_after a.isn (with_segment calls m now)) ≡ b
+    ends_then : (b : Bool) → comes_to_end a entries (with_segment_call entries msg.rec sp now acts) ≡ b → has_ended (held_after a.isn (calls_with_segment calls m now)) ≡ b
     ends_then b is_so =
         let e : ConnEntry = conn_entry (calls_in (segment_came m now)) acts in
         let was : has_ended (held_after a.isn (tcp_calls entries)) ≡ false = ap (λ z. has_ended (held_after a.isn z)) called ∙ s.unended in
@@ -197,7 +197,7 @@ module _ (c : WebChain) (order : IsInOrder c) (g h : Objects Obj) (now : ℕ) (n
     phase_at = conn_phase a.isn calls
 
     abbrev close_says : Option Cause → Option Cause → List Said
-    close_says ends other = sends_say (link_of a) 0 (closes_by ends other a.isn (conn_phase a.isn (with_segment calls m now)))
+    close_says ends other = sends_say (link_of a) 0 (closes_by ends other a.isn (conn_phase a.isn (calls_with_segment calls m now)))
 
     -- its messages, with those of the close
     all_says : (told : List Said) → messages_of (told_of st.deeds) ≡ downs_for msg.rec acts ++ told → acts ≡ segment_asks (link_of a) phase_at m now → (ends : Option Cause) → response_end a calls m now ≡ ends
@@ -209,12 +209,12 @@ module _ (c : WebChain) (order : IsInOrder c) (g h : Objects Obj) (now : ℕ) (n
         ∙ ap (λ z. place ++ (sends ++ z)) (closes ∙ ap (close_says ends) (ends_so a start calls entries called gave m now acts asked) ∙ ap (λ z. close_says z (segment_end a.isn phase_at m)) (sym is_so))
 
     -- what reads on ends nothing
-    none_ends : (core : Core) (given : List ℕ) → ReadsOn core (stream_by a calls ++ sent) given → stream_by a calls ++ sent ≡ stream_by a (with_segment calls m now) → comes_to_end a entries (with_segment_call entries msg.rec sp now acts) ≡ false
+    none_ends : (core : Core) (given : List ℕ) → ReadsOn core (stream_by a calls ++ sent) given → stream_by a calls ++ sent ≡ stream_by a (calls_with_segment calls m now) → comes_to_end a entries (with_segment_call entries msg.rec sp now acts) ≡ false
         → response_end a calls m now ≡ None
     none_ends core given reads all off =
         let stream = stream_by a calls ++ sent in
         let y = goes_on_undecided reads.rec core stream given None reads.ran reads.goes_on in
-        ap (λ (r : Response). verdict_end msg.rec r.verdict) (ap (λ z. response_read z (has_ended (held_after a.isn (with_segment calls m now)))) (sym all) ∙ ap (response_read stream) (ends_then false off) ∙ y.0)
+        ap (λ (r : Response). verdict_end msg.rec r.verdict) (ap (λ z. response_read z (has_ended (held_after a.isn (calls_with_segment calls m now)))) (sym all) ∙ ap (response_read stream) (ends_then false off) ∙ y.0)
 
     came_of : CallDid (end_of st.talk st.dialogue) (suc (length st.deeds)) st.deeds left_at acts.over (downs_for msg.rec acts) q msg.rec (stream_by a calls) sent (comes_to_end a entries (with_segment_call entries msg.rec sp now acts))
         → SegmentComes a start calls c h m now ns
@@ -244,17 +244,17 @@ module _ (c : WebChain) (order : IsInOrder c) (g h : Objects Obj) (now : ℕ) (n
         t : (messages_of (told_of st.deeds) ≡ told) × (first_close (told_of st.deeds) ≡ Some x) × (b ≡ s.above ++ entries_of c.fetch.0 st.deeds) × (web_decided q core taken given (Some x) ≡ st.talk) × (p ≡ st.dialogue)
         t = walked w
 
-        decided : (acts ≡ segment_asks (link_of a) phase_at m now) → stream_by a calls ++ sent ≡ stream_by a (with_segment calls m now) → (closed : List Said) → told ≡ downs_for msg.rec acts ++ closed → closed ≡ close_says (Some x) acts.over → SegmentComes a start calls c h m now ns
+        decided : (acts ≡ segment_asks (link_of a) phase_at m now) → stream_by a calls ++ sent ≡ stream_by a (calls_with_segment calls m now) → (closed : List Said) → told ≡ downs_for msg.rec acts ++ closed → closed ≡ close_says (Some x) acts.over → SegmentComes a start calls c h m now ns
         decided asked all closed told_is closes =
-            let ended = has_ended (held_after a.isn (with_segment calls m now)) in
+            let ended = has_ended (held_after a.isn (calls_with_segment calls m now)) in
             let y = answers.answered later ended (λ end. let z = whole end in (z.0, ends_then true z.1)) in
-            let same : response_read (taken ++ later) ended ≡ response_come a.isn (with_segment calls m now) = ap (λ z. response_read z ended) (sym cut ∙ all) in
+            let same : response_read (taken ++ later) ended ≡ response_come a.isn (calls_with_segment calls m now) = ap (λ z. response_read z ended) (sym cut ∙ all) in
             let ends : response_end a calls m now ≡ Some x = ap (λ (r : Response). verdict_end msg.rec r.verdict) (sym same) ∙ sym y.cause in
             segment_comes_so
             (all_says closed (t.0 ∙ told_is) asked (Some x) ends closes)
             (sym told_close ∙ t.1 ∙ ap (λ z. earlier z (segment_end a.isn phase_at m)) (sym ends))
             (λ none. absurd (none-some x (sym none ∙ sym told_close ∙ t.1)))
-            (λ z e. subst (HasBrought c h (response_come a.isn (with_segment calls m now))) (same_Some x z (sym ends ∙ e)) (record {
+            (λ z e. subst (HasBrought c h (response_come a.isn (calls_with_segment calls m now))) (same_Some x z (sym ends ∙ e)) (record {
               trace = s.above ++ entries_of c.fetch.0 st.deeds;
               stands = st.fetch;
               moves = ap moved_in (sym t.2) ∙ answers.moves ∙ y.moves ∙ ap (λ (r : Response). text_of r.verdict) same;
@@ -275,7 +275,7 @@ module _ (c : WebChain) (order : IsInOrder c) (g h : Objects Obj) (now : ℕ) (n
             let kept = each_at (AsksAsPromised (link_of a) start) [] (es ++ before) close after (subst (EachConnEntry (AsksAsPromised (link_of a) start) []) had_is k.keeps.each) in
             let e : ConnEntry = conn_entry (calls_in (segment_came m now)) acts in
             let none_behind : tcp_calls behind ≡ [] = lets_silent acts.ready behind sent lets in
-            let come : tcp_calls (es ++ before) ≡ with_segment calls m now =
+            let come : tcp_calls (es ++ before) ≡ calls_with_segment calls m now =
             flat_map-append (λ (z : ConnEntry). tcp_calls_of z.call) es before ∙ ap (λ z. tcp_calls es ++ z) none ∙ append-nil (tcp_calls es) ∙ ap tcp_calls es_is
             ∙ flat_map-append (λ (z : ConnEntry). tcp_calls_of z.call) entries (e ∷ behind) ∙ ap (λ z. tcp_calls entries ++ segment_came m now ∷ z) none_behind ∙ ap (λ z. z ++ segment_came m now ∷ []) called in
             decided k.asked k.all (downs_for 0 closing) told_is

@@ -17,7 +17,7 @@ use Rattle.nb_nodes.specs.declared.obj.Obj.{Obj}
 use Rattle.nb_nodes.specs.Carriers.{web_carrier}
 use Rattle.nb_nodes.specs.Carried.{CarriesNothing, both_closes}
 use Rattle.nb_nodes.specs.Objects.{obj_nature}
-use Rattle.nb_nodes.specs.Fetches.{AsksMove, AsksOfFetch, AsksOfUp, brings_move, closed_well, ends_fetch, first_end, gathers, moved_by, moved_cause, moved_in, taken_below}
+use Rattle.nb_nodes.specs.Fetches.{AsksMove, AsksOfFetch, AsksOfUp, brings_move, closed_well, ends_fetch, first_end, gathers, moved_by_entry, moved_cause, moved_in, taken_below}
 use Rattle.nb_opens.specs.Notices.{first_close, or_else}
 use Rattle.nb_opens.proofs.Bodies.{after_close, passes_close, taken_close, takes_all}
 use Rattle.nb_webnodes.specs.WebTalks.{WebTalk, Fetched, ends_early, is_open_web, stays_idle}
@@ -95,10 +95,10 @@ end_of t e h is = find-append ends_fetch t (e ∷ []) ∙ ap (λ z. option_or z 
 
 pub moved_by_move : (t : List (NodeEntry Obj Load)) (m : Said) (now : ℕ) (fx : Fx Obj Load) → gathers t ≡ true → brings_move 1 m ≡ true → fx.closes.items ≡ both_closes moved_cause → moved_in (t ++ up 1 m now true fx ∷ []) ≡ Some m.bytes
 moved_by_move t m now fx going is closes =
-    ap (λ z. option_and_then moved_by z) (end_of t (up 1 m now true fx) going (rw (closes) refl)) ∙ ap (λ b. if b then Some m.bytes else None) is
+    ap (λ z. option_and_then moved_by_entry z) (end_of t (up 1 m now true fx) going (rw (closes) refl)) ∙ ap (λ b. if b then Some m.bytes else None) is
 
 pub unmoved_by_close : (t : List (NodeEntry Obj Load)) (x : Cause) (now : ℕ) (fx : Fx Obj Load) → gathers t ≡ true → moved_in (t ++ closed 1 x now fx ∷ []) ≡ None
-unmoved_by_close t x now fx going = ap (λ z. option_and_then moved_by z) (end_of t (closed 1 x now fx) going refl)
+unmoved_by_close t x now fx going = ap (λ z. option_and_then moved_by_entry z) (end_of t (closed 1 x now fx) going refl)
 
 close_again : (z : Option Cause) (x : Cause) → or_else (or_else (or_else z (Some x)) (Some x)) (Some x) ≡ or_else z (Some x)
 close_again None x = refl

@@ -43,8 +43,8 @@ SegmentsCome = (a : ConnAsk) (start : ℕ) (calls : List TcpCall) (c : WebChain)
     → AreCalled c g h → StandsForTalk a start calls c g → came.port ≡ a.peer_port → came.source.0 ≡ a.peer.0 → IsLaidOut came.body.now s → length came.body.now < 2 ^ 32 → SegmentComes a start calls c h (arriving rec s) now d.ns
 
 -- A time comes.
-abbrev pub TimesCome : Type 0
-TimesCome = (a : ConnAsk) (start : ℕ) (calls : List TcpCall) (c : WebChain) (g h : Objects Obj) (now : ℕ) (entry : Option GraphEvent) (before after : Heard) (d : DoesWeb c now (ticks_web c) entry g h before after)
+abbrev pub TimesComeToWeb : Type 0
+TimesComeToWeb = (a : ConnAsk) (start : ℕ) (calls : List TcpCall) (c : WebChain) (g h : Objects Obj) (now : ℕ) (entry : Option GraphEvent) (before after : Heard) (d : DoesWeb c now (ticks_web c) entry g h before after)
     → AreCalled c g h → StandsForTalk a start calls c g → TimeComes a start calls c h now d.ns
 
 -- The user closes them.

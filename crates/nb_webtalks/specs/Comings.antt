@@ -39,19 +39,19 @@ abbrev pub sends_say : Link → ℕ → Sends → List Said
 sends_say l rec sends = segments_say rec (last_try sends) (map (λ s. outgoing_message l s.0) sends)
 
 -- with a segment
-abbrev pub with_segment : List TcpCall → Arrival → ℕ → List TcpCall
-with_segment calls m now = calls ++ segment_came m now ∷ []
+abbrev pub calls_with_segment : List TcpCall → Arrival → ℕ → List TcpCall
+calls_with_segment calls m now = calls ++ segment_came m now ∷ []
 
 -- how the response ends that has come then
 abbrev pub response_end : ConnAsk → List TcpCall → Arrival → ℕ → Option Cause
-response_end a calls m now = verdict_end m.rec (response_come a.isn (with_segment calls m now)).verdict
+response_end a calls m now = verdict_end m.rec (response_come a.isn (calls_with_segment calls m now)).verdict
 
 -- how far the stream has come, what the segment calls for, and the close of a response that is decided
 abbrev pub segment_says : ConnAsk → List TcpCall → Arrival → ℕ → List Said
 segment_says a calls m now =
     place_says m.rec (web_put a.isn calls m now).advance
     ++ (sends_say (link_of a) m.rec (calls_for a.isn (conn_phase a.isn calls) m.segment)
-    ++ sends_say (link_of a) 0 (closes_by (response_end a calls m now) (segment_end a.isn (conn_phase a.isn calls) m) a.isn (conn_phase a.isn (with_segment calls m now))))
+    ++ sends_say (link_of a) 0 (closes_by (response_end a calls m now) (segment_end a.isn (conn_phase a.isn calls) m) a.isn (conn_phase a.isn (calls_with_segment calls m now))))
 
 -- The Fetch has its move, or all of its body where it was closed with Ok.
 pub record HasBrought (c : WebChain) (h : Objects Obj) (r : Response) (x : Cause) : Type 0 where
@@ -64,8 +64,8 @@ pub record HasBrought (c : WebChain) (h : Objects Obj) (r : Response) (x : Cause
 -- What comes of a segment: memory ran out, or it puts what its promise says, and the three go on or have brought the response.
 pub data SegmentComes (a : ConnAsk) (start : ℕ) (calls : List TcpCall) (c : WebChain) (h : Objects Obj) (m : Arrival) (now : ℕ) (ns : List Notice) : Type 0 where
   segment_lacks_memory : first_close ns ≡ Some no_memory → SegmentComes a start calls c h m now ns
-  segment_comes_so : messages_of ns ≡ segment_says a calls m now → first_close ns ≡ (web_put a.isn calls m now).over → (first_close ns ≡ None → StandsForTalk a start (with_segment calls m now) c h)
-      → ((x : Cause) → response_end a calls m now ≡ Some x → HasBrought c h (response_come a.isn (with_segment calls m now)) x) → SegmentComes a start calls c h m now ns
+  segment_comes_so : messages_of ns ≡ segment_says a calls m now → first_close ns ≡ (web_put a.isn calls m now).over → (first_close ns ≡ None → StandsForTalk a start (calls_with_segment calls m now) c h)
+      → ((x : Cause) → response_end a calls m now ≡ Some x → HasBrought c h (response_come a.isn (calls_with_segment calls m now)) x) → SegmentComes a start calls c h m now ns
 
 -- What comes of a time: memory ran out, or what the plan that runs fires is put, and the three go on or have ended.
 pub data TimeComes (a : ConnAsk) (start : ℕ) (calls : List TcpCall) (c : WebChain) (h : Objects Obj) (now : ℕ) (ns : List Notice) : Type 0 where

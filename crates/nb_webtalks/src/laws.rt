@@ -7,7 +7,7 @@ ghost use Rattle.nb_nodes.specs.declared.obj.Obj.{Obj as TheObj};
 ghost use Rattle.nb_streams.specs.Flows.{TcpCall};
 ghost use Rattle.nb_webchains.specs.declared.web_chain.WebChain.{WebChain as TheWebChain};
 ghost use Rattle.nb_webchains.specs.WebChains.{web_graph};
-ghost use Rattle.nb_webtalks.specs.Calls.{BeginsCome, ClosesCome, SegmentsCome, TimesCome};
+ghost use Rattle.nb_webtalks.specs.Calls.{BeginsCome, ClosesCome, SegmentsCome, TimesComeToWeb};
 ghost use Rattle.nb_webtalks.specs.TalkStands.{StandsForTalk};
 
 /// Where the three are as they were, they stand for the same calls.
@@ -28,7 +28,7 @@ pub fn segments_come()
 
 /// A time puts what the plan fires that runs; the three go on, or have ended.
 pub fn times_come()
-    ensures { TimesCome }
+    ensures { TimesComeToWeb }
 {}
 
 /// Where the user closes them the connection says what a close calls for, once.

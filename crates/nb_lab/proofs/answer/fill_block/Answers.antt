@@ -1,7 +1,7 @@
 use Rattle.std.proofs.Common.{◌≡◌, ◌-◌, ◌*◌, min, length, take, ap, sym, ◌∙◌, arith}
 use Rattle.std.proofs.lemmas.List.{length-take, take_at}
 use Rattle.nb_lab.specs.Images.{image_len, image_piece}
-use Rattle.nb_lab.specs.Files.{size_of}
+use Rattle.nb_lab.specs.Files.{size_of_block}
 use Rattle.nb_lab.proofs.ImageLemmas.{block_piece, length-image_piece}
 use Rattle.nb_lab.proofs.answer.fill_block.Goals as goal
 
@@ -9,7 +9,7 @@ pub returns-clause-block : goal.returns-clause-block
 returns-clause-block c =
     let m = c.min-len.result in
     let i = c.args.image.0 in
-    let size = size_of c.args.size in
+    let size = size_of_block c.args.size in
     let told : length (take m c.args.room.now) ≡ m = omega (arith, length-take m c.args.room.now) in
     let piece : c.fill.new.piece ≡ image_piece i c.min-from.result m = c.fill.ensures ∙ ap (image_piece i c.min-from.result) told in
     let from : c.min-from.result ≡ min ((c.args.n - 1) * size) (image_len i) =

@@ -1,5 +1,5 @@
 use Rattle.std.proofs.Common.{ℕ, [], ◌∷◌, ◌+◌, sym, subst}
-use Rattle.nb_lab.specs.Labs.{LabState, coming}
+use Rattle.nb_lab.specs.Labs.{LabState, coming_record}
 use Rattle.nb_labrun.specs.Playing.{GathersUndelivered, InPlay, TurnGathers}
 use Rattle.nb_labrun.proofs.PlayLemmas.{play_uses}
 use Rattle.nb_labrun.proofs.TurnLemmas.{on_ok, turn_gathers}
@@ -9,7 +9,7 @@ pub returns-clause-plays : goal.returns-clause-plays
 returns-clause-plays c =
     let l = c.args.lab.now in
     let came = c.advance-come.new.self in
-    let r = coming c.advance-come.result came in
+    let r = coming_record c.advance-come.result came in
     let before = c.args.client.now in
     let after = c.step-turn.new.client in
     on_ok c.end_step.result

@@ -4,7 +4,7 @@ use Rattle.nb_image.specs.Images.{ImageList}
 use Rattle.nb_machine.specs.Effects.{Surroundings, concludes_at_once, images_effect}
 use Rattle.nb_runner.specs.ImageDeeds.{IsConcludedWell, MayFollow, conclusion_of, image_deed_effect}
 use Rattle.nb_runner.specs.Intents.{IsAskable, intent_effect}
-use Rattle.nb_runner.specs.World.{surroundings_in, world_with_images}
+use Rattle.nb_runner.specs.World.{surroundings_in_world, world_with_images}
 use Rattle.nb_runner.specs.declared.images.ImageDeed.{ImageDeed}
 use Rattle.nb_runner.specs.declared.world.World.{World}
 use Rattle.nb_client.specs.Soundness.{IsSound}
@@ -39,8 +39,8 @@ returns-in-Intends-clause-moves c =
     let i = c.in-Intends.intent in
     let well = deed_intends c.in_ok-deed.deed i _ w.opens w.state.images next.state.images c.in-Intends.is c.in_ok-deed.ensures.well in
     let same : next ≡ w = c.in_ok-deed.ensures.after ∙ ap (λ (l : ImageList). world_with_images w l) well.1 in
-    let found : surroundings_in w (option_copied c.base.result) c.from-depth.result ≡ found_by_script w s =
-    ap (λ b. surroundings_in w b c.from-depth.result) c.base.ensures ∙ ap (λ (d : ℕ). surroundings_in w s.base d) (c.from-depth.ensures ∙ c.depth.ensures) in
+    let found : surroundings_in_world w (option_copied c.base.result) c.from-depth.result ≡ found_by_script w s =
+    ap (λ b. surroundings_in_world w b c.from-depth.result) c.base.ensures ∙ ap (λ (d : ℕ). surroundings_in_world w s.base d) (c.from-depth.ensures ∙ c.depth.ensures) in
     let value : images_effect (found_by_script w s) c.args.command.now ≡ intent_effect i =
     subst (λ (x : Surroundings). images_effect x c.args.command.now ≡ intent_effect i) found (c.in_ok-deed.ensures.value ∙ ap (λ (d : ImageDeed). image_deed_effect d next.state.images) c.in-Intends.is) in
     let intends = intends_images s w c.args.words.now c.args.command.now i next c.requires.sound.linked c.requires.words c.requires.value value same in
@@ -69,8 +69,8 @@ returns-in-Concludes-clause-moves c =
     let s = c.args.script in
     let next = c.do_images.new.self in
     let what = c.in-Concludes.conclusion in
-    let found : surroundings_in w (option_copied c.base.result) c.from-depth.result ≡ found_by_script w s =
-    ap (λ b. surroundings_in w b c.from-depth.result) c.base.ensures ∙ ap (λ (d : ℕ). surroundings_in w s.base d) (c.from-depth.ensures ∙ c.depth.ensures) in
+    let found : surroundings_in_world w (option_copied c.base.result) c.from-depth.result ≡ found_by_script w s =
+    ap (λ b. surroundings_in_world w b c.from-depth.result) c.base.ensures ∙ ap (λ (d : ℕ). surroundings_in_world w s.base d) (c.from-depth.ensures ∙ c.depth.ensures) in
     let value : images_effect (found_by_script w s) c.args.command.now ≡ concludes_at_once (conclusion_of what next.state.images) =
     subst (λ (x : Surroundings). images_effect x c.args.command.now ≡ concludes_at_once (conclusion_of what next.state.images)) found
     (c.in_ok-deed.ensures.value ∙ ap (λ (d : ImageDeed). image_deed_effect d next.state.images) c.in-Concludes.is) in

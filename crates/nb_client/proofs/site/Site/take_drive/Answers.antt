@@ -5,7 +5,7 @@ use Rattle.nb_drivecmd.specs.declared.drive.Drive.{Drive}
 use Rattle.nb_drivecmd.specs.HookedDrives.{with_hooked}
 use Rattle.nb_runner.specs.World.{world_with_drives}
 use Rattle.nb_client.specs.Booting.{AsksFirst}
-use Rattle.nb_client.specs.Drives.{drive_by}
+use Rattle.nb_client.specs.Drives.{drive_hooked_by}
 use Rattle.nb_client.specs.Soundness.{kept_drives, snapshot_at}
 use Rattle.nb_client.proofs.DriveConcludes.{asks_concludes, fails_for, hooks_concludes}
 use Rattle.nb_client.proofs.Results.{if_ok}
@@ -22,7 +22,7 @@ returns-in-Keep c = λ p asks number none.
     let d = c.args.disk.now in
     let h = c.hook.ensures in
     let k = c.go_on_with-in-Keep in
-    let world = h.world ∙ ap (λ (x : Drive). world_with_drives now.world (kept_drives now.opens.list (with_hooked x now.world.state.drives))) (c.drive_by-drive.ensures ∙ ap (drive_by d.hooking) (sym number)) in
+    let world = h.world ∙ ap (λ (x : Drive). world_with_drives now.world (kept_drives now.opens.list (with_hooked x now.world.state.drives))) (c.drive_by-drive.ensures ∙ ap (drive_hooked_by d.hooking) (sym number)) in
     rw (k.ensures.stage, c.cause.ensures)
     (hooks_concludes now c.args.script d p asks none c.requires.sound c.args.answer c.hook.new.self (sym (rw c.in_default.is at c.failure_of.ensures)) (rw number c.requires.fits) c.in-Keep.is h.used h.opens world
     (subst (λ z. Puts c.args.out.now k.new.out (out_texts (result z ∷ []))) c.cause.ensures k.ensures.puts))

@@ -2,7 +2,7 @@ use Rattle.std.proofs.Common.{ℕ, List, Some, refl, sym, ◌∙◌, ap, subst}
 use Rattle.nb_terms.specs.declared.acts.Acts.{Acts}
 use Rattle.nb_dnsmsg.specs.Messages.{IsAnswer}
 use Rattle.nb_dns.specs.declared.state.LookupPhase.{LookupPhase}
-use Rattle.nb_dns.specs.Lookups.{asks_end}
+use Rattle.nb_dns.specs.Lookups.{asks_lookup_end}
 use Rattle.nb_dns.specs.Steps.{no_reply, reply}
 use Rattle.nb_dns.proofs.CallsLemmas.{same_address}
 use Rattle.nb_dns.proofs.state.State.datagram.Goals as goal
@@ -16,7 +16,7 @@ returns-in-Some c =
       answers = subst (λ (x : List ℕ). IsAnswer c.args.body.now s.id x c.in-Some.answer) c.as_slice.ensures.value c.in-Some.ensures.sound;
     })
     (ap (λ (x : LookupPhase). record s { phase = x }) c.phase_with-self.ensures)
-    (ap (λ (x : Acts). record x { over = Some c.cause_of.result }) c.requires ∙ ap (λ x. asks_end x) c.cause_of.ensures)
+    (ap (λ (x : Acts). record x { over = Some c.cause_of.result }) c.requires ∙ ap (λ x. asks_lookup_end x) c.cause_of.ensures)
 
 pub returns-in_default : goal.returns-in_default
 returns-in_default c =

@@ -8,7 +8,7 @@ use Rattle.nb_drivenodes.specs.declared.session_stage.SessionStage.{SessionStage
 use Rattle.nb_drivenodes.specs.declared.session_stage.SessionStage.TheVariants.{LoggingIn}
 use Rattle.nb_drivenodes.specs.DriveEffects.{OnlyFirst, pdu_emit}
 use Rattle.nb_drivenodes.specs.StreamCuts.{FeedsSo, cuts_one}
-use Rattle.nb_drivenodes.specs.SessionTalks.{HasLogin, AnswersLogin}
+use Rattle.nb_drivenodes.specs.SessionTalks.{HasStandingLogin, AnswersLogin}
 use Rattle.nb_drivenodes.proofs.DriveEffectLemmas.{pdu-alone}
 use Rattle.nb_drivenodes.proofs.SessionLemmas.{session-cuts}
 use Rattle.nb_drivenodes.proofs.LoginAnswerLemmas.{answers-on, gives-on, nothing-emitted, some-same}
@@ -20,7 +20,7 @@ returns-in-Ok-clause-leads g c = λ m slot now p before takes r whole feeds.
     let came : pdu_came c.args.rec (pdu_parts c.in-Some.pdu) ≡ pdu_came m.rec p = ap (λ z. pdu_came z (pdu_parts c.in-Some.pdu)) (sym r) ∙ ap (pdu_came m.rec) same in
     answers-on g.L.CarriesText.texts m slot now c.carry_out.new.fx c.carry_out.new.self.stage (LoggingIn c.answer_to.new.login) before c.carry_out.new.self.pdus p
     (λ i e. LoginStands i c.answer_to.new.login e) c.in-Ok.answer c.args.self.now.stage takes (λ o. absurd (let z = o in let y = c.in-LoggingIn.is in cc))
-    (λ i h has on. subst (λ (z : PduCame). AnswersLogin i h z (LoginStands i c.answer_to.new.login) c.in-Ok.answer) came (c.in-Ok.ensures i h (subst (λ (z : SessionStage). HasLogin z i h) c.in-LoggingIn.is has) on))
+    (λ i h has on. subst (λ (z : PduCame). AnswersLogin i h z (LoginStands i c.answer_to.new.login) c.in-Ok.answer) came (c.in-Ok.ensures i h (subst (λ (z : SessionStage). HasStandingLogin z i h) c.in-LoggingIn.is has) on))
     (λ i e s. s) c.carry_out.ensures.stage c.carry_out.ensures.effects
     (subst (λ z. FeedsSo before z m.bytes c.carry_out.new.fx.took (cuts_one p)) (sym c.carry_out.ensures.pdus)
     (subst (λ z. FeedsSo before c.args.self.now.pdus m.bytes z (cuts_one p)) (sym c.carry_out.ensures.took) feeds))

@@ -1,7 +1,7 @@
 use Rattle.std.proofs.Common.{◌≡◌, ◌++◌, ◌∙◌, List, ℕ, Option, false, ap, sym, subst, take}
 use Rattle.nb_terms.specs.declared.acts.Acts.{Acts}
 use Rattle.nb_terms.specs.declared.cause.Cause.{Cause}
-use Rattle.nb_http.specs.Standing.{Core, Kept, HasRead, TakesBytes, is_over}
+use Rattle.nb_http.specs.Standing.{Core, Kept, HasReadStream, TakesBytes, is_over}
 use Rattle.nb_http.specs.Giving.{TakesSo, range_given}
 use Rattle.nb_http.proofs.StandsLemmas.{range_bytes}
 use Rattle.nb_http.proofs.http.Http.bytes.Goals as goal
@@ -23,7 +23,7 @@ returns-clause-stands c = λ stream given s live.
     subst (λ (k : Core). TakesBytes c.args.rec old k taken (take c.take-taken.result.given bytes ++ take waiting k.chunks.block) over) (sym is) takes.stands in
     let whole : TakesBytes c.args.rec old new taken (range_given bytes c.range_to-give.result ++ take waiting new.chunks.block) over =
     subst (λ (g : List ℕ). TakesBytes c.args.rec old new taken (g ++ take waiting new.chunks.block) over) (sym up) step in
-    whole stream given (subst (λ (k : Core). HasRead k stream given) (sym was) s) unended
+    whole stream given (subst (λ (k : Core). HasReadStream k stream given) (sym was) s) unended
 
 pub returns-clause-sends : goal.returns-clause-sends
 returns-clause-sends c = (ap (λ (a : Acts). a.sends) c.clear.ensures, ap (λ (a : Acts). a.tried) c.clear.ensures, ap (λ (a : Acts). a.advance) c.clear.ensures)
@@ -39,4 +39,4 @@ returns-clause-least c = λ stream given part later s live e l.
     let old : Core = record { head = c.self.inside.head.items; chunks = c.self.inside.chunks; state = c.self.inside.state } in
     let was : old ≡ c.args.self.now.core = ap (λ (k : Kept). k.core) c.self.view_is in
     let unended : is_over old.state ≡ false = ap (λ (k : Core). is_over k.state) was ∙ live in
-    (c.take-taken.ensures.live unended).least stream given part later (subst (λ (k : Core). HasRead k stream given) (sym was) s) unended e l
+    (c.take-taken.ensures.live unended).least stream given part later (subst (λ (k : Core). HasReadStream k stream given) (sym was) s) unended e l

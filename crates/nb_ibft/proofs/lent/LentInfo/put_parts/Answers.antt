@@ -1,5 +1,5 @@
 use Rattle.std.proofs.Common.{◌≡◌, ◌++◌, ap, ◌∙◌}
-use Rattle.nb_ibft.specs.Tables.{header_text, initiator_text, host_text, targets_text, parts_text, total_length}
+use Rattle.nb_ibft.specs.Tables.{table_header_text, initiator_text, host_text, targets_text, parts_text, total_length}
 use Rattle.nb_ibft.specs.Views.{lent_info}
 use Rattle.nb_ibft.proofs.JoinLemmas.{six_put}
 use Rattle.nb_ibft.proofs.lent.LentInfo.put_parts.Goals as goal
@@ -14,5 +14,5 @@ returns c =
     c.put.ensures.value
     (c.put_host.ensures.value ∙ ap (λ n. c.put.new.to.items ++ host_text n i.host) c.host_place.ensures.value)
     (c.put_parts.ensures ∙ ap (λ n. c.put_host.new.to.items ++ targets_text 0 n i.targets) c.disks_place.ensures.value)
-    in let head : c.put_header.new.to.items ≡ header_text (total_length i) c.args.checksum = (c.put_header.ensures.value ∙ ap (λ n. header_text n c.args.checksum) c.total_length.ensures) in
+    in let head : c.put_header.new.to.items ≡ table_header_text (total_length i) c.args.checksum = (c.put_header.ensures.value ∙ ap (λ n. table_header_text n c.args.checksum) c.total_length.ensures) in
     record { value = whole ∙ ap (λ x. x ++ parts_text i) head }

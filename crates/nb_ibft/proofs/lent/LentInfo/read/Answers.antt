@@ -2,7 +2,7 @@ use Rattle.std.proofs.Common.{◌≡◌, ℕ, ◌<◌, ◌≤◌, ◌^◌, List,
 use Rattle.std.proofs.lemmas.List.{length-append}
 use Rattle.nb_wire.proofs.BytesLaws.{splits_of}
 use Rattle.nb_ibft.specs.Infos.{Info, IsShortText}
-use Rattle.nb_ibft.specs.Tables.{header_text, control_text, initiator_text, addresses_text, host_text, texts_text, texts_place, host_place, disks_place, total_length}
+use Rattle.nb_ibft.specs.Tables.{table_header_text, control_text, initiator_text, addresses_text, host_text, texts_text, texts_place, host_place, disks_place, total_length}
 use Rattle.nb_ibft.specs.Places.{slots}
 use Rattle.nb_ibft.proofs.FieldLemmas.{part_cut, address_read}
 use Rattle.nb_ibft.proofs.TextLemmas.{kept_short}
@@ -24,29 +24,29 @@ six bytes mac more e h = omega (arith, ap length e, length-append mac more, h)
 
 pub returns-in_err-_header-clause-complete : goal.returns-in_err-_header-clause-complete
 returns-in_err-_header-clause-complete c = λ i valid e.
-    absurd (c.in_err-_header.ensures.complete (header_text (total_length i) (checksum i)) (after_header i) refl (e ∙ opened i))
+    absurd (c.in_err-_header.ensures.complete (table_header_text (total_length i) (checksum i)) (after_header i) refl (e ∙ opened i))
 
 pub returns-in_err-control-clause-complete : goal.returns-in_err-control-clause-complete
 returns-in_err-control-clause-complete c = λ i valid e.
-    let header = c.in_ok-_header.ensures.complete (header_text (total_length i) (checksum i)) (after_header i) refl (e ∙ opened i) in
+    let header = c.in_ok-_header.ensures.complete (table_header_text (total_length i) (checksum i)) (after_header i) refl (e ∙ opened i) in
     absurd (c.in_err-control.ensures.complete (control_text i.targets) (after_control i) (control_length i.targets) header.1)
 
 pub returns-in_err-initiator-clause-complete : goal.returns-in_err-initiator-clause-complete
 returns-in_err-initiator-clause-complete c = λ i valid e.
-    let header = c.in_ok-_header.ensures.complete (header_text (total_length i) (checksum i)) (after_header i) refl (e ∙ opened i) in
+    let header = c.in_ok-_header.ensures.complete (table_header_text (total_length i) (checksum i)) (after_header i) refl (e ∙ opened i) in
     let control = c.in_ok-control.ensures.complete (control_text i.targets) (after_control i) (control_length i.targets) header.1 in
     absurd (c.in_err-initiator.ensures.complete (initiator_text (texts_place i) i.initiator) (after_initiator i) refl control.1)
 
 pub returns-in_err-addresses-clause-complete : goal.returns-in_err-addresses-clause-complete
 returns-in_err-addresses-clause-complete c = λ i valid e.
-    let header = c.in_ok-_header.ensures.complete (header_text (total_length i) (checksum i)) (after_header i) refl (e ∙ opened i) in
+    let header = c.in_ok-_header.ensures.complete (table_header_text (total_length i) (checksum i)) (after_header i) refl (e ∙ opened i) in
     let control = c.in_ok-control.ensures.complete (control_text i.targets) (after_control i) (control_length i.targets) header.1 in
     let initiator = c.in_ok-initiator.ensures.complete (initiator_text (texts_place i) i.initiator) (after_initiator i) refl control.1 in
     absurd (c.in_err-addresses.ensures.complete (addresses_text i) (after_addresses i) refl initiator.1)
 
 pub returns-in_err-mac-clause-complete : goal.returns-in_err-mac-clause-complete
 returns-in_err-mac-clause-complete c = λ i valid e.
-    let header = c.in_ok-_header.ensures.complete (header_text (total_length i) (checksum i)) (after_header i) refl (e ∙ opened i) in
+    let header = c.in_ok-_header.ensures.complete (table_header_text (total_length i) (checksum i)) (after_header i) refl (e ∙ opened i) in
     let control = c.in_ok-control.ensures.complete (control_text i.targets) (after_control i) (control_length i.targets) header.1 in
     let initiator = c.in_ok-initiator.ensures.complete (initiator_text (texts_place i) i.initiator) (after_initiator i) refl control.1 in
     let addresses = c.in_ok-addresses.ensures.complete (addresses_text i) (after_addresses i) refl initiator.1 in
@@ -54,7 +54,7 @@ returns-in_err-mac-clause-complete c = λ i valid e.
 
 pub returns-in_err-host-clause-complete : goal.returns-in_err-host-clause-complete
 returns-in_err-host-clause-complete c = λ i valid e.
-    let header = c.in_ok-_header.ensures.complete (header_text (total_length i) (checksum i)) (after_header i) refl (e ∙ opened i) in
+    let header = c.in_ok-_header.ensures.complete (table_header_text (total_length i) (checksum i)) (after_header i) refl (e ∙ opened i) in
     let control = c.in_ok-control.ensures.complete (control_text i.targets) (after_control i) (control_length i.targets) header.1 in
     let initiator = c.in_ok-initiator.ensures.complete (initiator_text (texts_place i) i.initiator) (after_initiator i) refl control.1 in
     let addresses = c.in_ok-addresses.ensures.complete (addresses_text i) (after_addresses i) refl initiator.1 in
@@ -64,7 +64,7 @@ returns-in_err-host-clause-complete c = λ i valid e.
 pub returns-in_err-name-clause-complete : goal.returns-in_err-name-clause-complete
 returns-in_err-name-clause-complete c = λ i valid e.
     let stand = texts_stand i _ valid e in
-    let header = c.in_ok-_header.ensures.complete (header_text (total_length i) (checksum i)) (after_header i) refl (e ∙ opened i) in
+    let header = c.in_ok-_header.ensures.complete (table_header_text (total_length i) (checksum i)) (after_header i) refl (e ∙ opened i) in
     let control = c.in_ok-control.ensures.complete (control_text i.targets) (after_control i) (control_length i.targets) header.1 in
     let initiator = c.in_ok-initiator.ensures.complete (initiator_text (texts_place i) i.initiator) (after_initiator i) refl control.1 in
     let addresses = c.in_ok-addresses.ensures.complete (addresses_text i) (after_addresses i) refl initiator.1 in
@@ -75,7 +75,7 @@ returns-in_err-name-clause-complete c = λ i valid e.
 pub returns-in_err-host_name-clause-complete : goal.returns-in_err-host_name-clause-complete
 returns-in_err-host_name-clause-complete c = λ i valid e.
     let stand = texts_stand i _ valid e in
-    let header = c.in_ok-_header.ensures.complete (header_text (total_length i) (checksum i)) (after_header i) refl (e ∙ opened i) in
+    let header = c.in_ok-_header.ensures.complete (table_header_text (total_length i) (checksum i)) (after_header i) refl (e ∙ opened i) in
     let control = c.in_ok-control.ensures.complete (control_text i.targets) (after_control i) (control_length i.targets) header.1 in
     let initiator = c.in_ok-initiator.ensures.complete (initiator_text (texts_place i) i.initiator) (after_initiator i) refl control.1 in
     let addresses = c.in_ok-addresses.ensures.complete (addresses_text i) (after_addresses i) refl initiator.1 in
@@ -86,7 +86,7 @@ returns-in_err-host_name-clause-complete c = λ i valid e.
 pub returns-in_err-targets-clause-complete : goal.returns-in_err-targets-clause-complete
 returns-in_err-targets-clause-complete c = λ i valid e.
     let stand = texts_stand i _ valid e in
-    let header = c.in_ok-_header.ensures.complete (header_text (total_length i) (checksum i)) (after_header i) refl (e ∙ opened i) in
+    let header = c.in_ok-_header.ensures.complete (table_header_text (total_length i) (checksum i)) (after_header i) refl (e ∙ opened i) in
     let control = c.in_ok-control.ensures.complete (control_text i.targets) (after_control i) (control_length i.targets) header.1 in
     let initiator = c.in_ok-initiator.ensures.complete (initiator_text (texts_place i) i.initiator) (after_initiator i) refl control.1 in
     let addresses = c.in_ok-addresses.ensures.complete (addresses_text i) (after_addresses i) refl initiator.1 in
@@ -97,7 +97,7 @@ returns-in_err-targets-clause-complete c = λ i valid e.
 pub returns-clause-complete : goal.returns-clause-complete
 returns-clause-complete c = λ i valid e.
     let stand = texts_stand i _ valid e in
-    let header = c.in_ok-_header.ensures.complete (header_text (total_length i) (checksum i)) (after_header i) refl (e ∙ opened i) in
+    let header = c.in_ok-_header.ensures.complete (table_header_text (total_length i) (checksum i)) (after_header i) refl (e ∙ opened i) in
     let control = c.in_ok-control.ensures.complete (control_text i.targets) (after_control i) (control_length i.targets) header.1 in
     let initiator = c.in_ok-initiator.ensures.complete (initiator_text (texts_place i) i.initiator) (after_initiator i) refl control.1 in
     let addresses = c.in_ok-addresses.ensures.complete (addresses_text i) (after_addresses i) refl initiator.1 in

@@ -1,6 +1,6 @@
 use Rattle.std.proofs.Common.{◌∙◌, ◌++◌, List, ℕ, ap, sym, subst, arith}
 use Rattle.nb_iscsipdu.specs.declared.pdus.Known.TheVariants.{Len}
-use Rattle.nb_iscsipdu.specs.Streams.{IsKnown, state_of}
+use Rattle.nb_iscsipdu.specs.Streams.{IsKnown, pdu_state_of}
 use Rattle.nb_iscsipdu.proofs.StreamLemmas.{RestStep, rest-step, open-none}
 use Rattle.nb_iscsipdu.proofs.pdus.Pdus.take_rest.Goals as goal
 
@@ -25,7 +25,7 @@ returns-in-Len-clause-all c = λ long. (step c).all
 
 pub returns-in-Len-clause-least : goal.returns-in-Len-clause-least
 returns-in-Len-clause-least c = λ part later parts some.
-    ap (λ (x : List ℕ). state_of (x ++ part)) (sym c.self.view_is) ∙ (step c).least part later parts some
+    ap (λ (x : List ℕ). pdu_state_of (x ++ part)) (sym c.self.view_is) ∙ (step c).least part later parts some
 
 pub returns-in-No-clause-least : goal.returns-in-No-clause-least
 returns-in-No-clause-least c = open-none c.args.self.now

@@ -4,7 +4,7 @@ use Rattle.nb_record.specs.Logged.{Puts}
 use Rattle.nb_runner.proofs.Puts.{Puts-append}
 use Rattle.nb_network.specs.declared.living.Living.{Living}
 use Rattle.nb_teller.specs.Spelling.{Spelling}
-use Rattle.nb_network.specs.Drives.{DriveNews, heard_of, noted}
+use Rattle.nb_network.specs.Drives.{DriveNews, news_of, noted}
 use Rattle.nb_network.specs.Many.{Many}
 use Rattle.nb_network.specs.Steps.{EndIsPut, EndIsSettled, IsOpenAt, step_records}
 use Rattle.nb_network.proofs.Places.{open_at, set_at}
@@ -14,11 +14,11 @@ use Rattle.nb_network.proofs.opens.Opens.settle.Goals as goal
 pub returns-in-None-clause-settles : goal.returns-in-None-clause-settles
 returns-in-None-clause-settles c = λ o at.
     let list = c.args.self.now.list in
-    let heard : DriveNews = heard_of c.args.asked c.args.desk.now.told.value in
+    let heard : DriveNews = news_of c.args.asked c.args.desk.now.told.value in
     let x = c.index_mut.result.now in
     let v : c.self.inside.list.items ≡ list = ap (λ (m : Many). m.list) c.self.view_is in
     let same : x ≡ o = c.index_mut.ensures.value ∙ ap (λ os. get_or os c.args.place x) v ∙ open_at list c.args.place x o at in
-    let new : c.note.new.self ≡ noted heard o = c.in_ok-note.ensures ∙ (ap (λ (z : Spelling). noted (heard_of c.args.asked z) x) c.deref.ensures ∙ ap (noted heard) same) in
+    let new : c.note.new.self ≡ noted heard o = c.in_ok-note.ensures ∙ (ap (λ (z : Spelling). noted (news_of c.args.asked z) x) c.deref.ensures ∙ ap (noted heard) same) in
     subst (λ e. EndIsSettled e at.before o at.behind c.args.net.now c.args.begun c.args.awaited heard c.args.desk.now.told.value (set c.self.inside.list.items c.args.place c.note.new.self) c.args.net.now None c.args.log.now c.put_told.new.log)
     (sym c.in-None.is) (
       ap (λ os. set os c.args.place c.note.new.self) v ∙ set_at list c.args.place o at c.note.new.self ∙ ap (λ y. at.before ++ y ∷ at.behind) new,
@@ -31,7 +31,7 @@ returns-in-None-clause-settles c = λ o at.
 pub returns-in-Some-clause-settles : goal.returns-in-Some-clause-settles
 returns-in-Some-clause-settles c =
     let list = c.args.self.now.list in
-    let heard : DriveNews = heard_of c.args.asked c.args.desk.now.told.value in
+    let heard : DriveNews = news_of c.args.asked c.args.desk.now.told.value in
     let x = c.index_mut.result.now in
     let v : c.self.inside.list.items ≡ list = ap (λ (m : Many). m.list) c.self.view_is in
     ok_map
@@ -40,7 +40,7 @@ returns-in-Some-clause-settles c =
     c.end.result
     (λ answer h o at.
     let same : x ≡ o = c.index_mut.ensures.value ∙ ap (λ os. get_or os c.args.place x) v ∙ open_at list c.args.place x o at in
-    let new : c.note.new.self ≡ noted heard o = c.in_ok-note.ensures ∙ (ap (λ (z : Spelling). noted (heard_of c.args.asked z) x) c.deref.ensures ∙ ap (noted heard) same) in
+    let new : c.note.new.self ≡ noted heard o = c.in_ok-note.ensures ∙ (ap (λ (z : Spelling). noted (news_of c.args.asked z) x) c.deref.ensures ∙ ap (noted heard) same) in
     let there : IsOpenAt (set c.self.inside.list.items c.args.place c.note.new.self) c.args.place (noted heard o) = record {
       before = at.before;
       behind = at.behind;

@@ -10,7 +10,7 @@ use Rattle.nb_teller.specs.Spelling.{Spelling}
 use Rattle.nb_open.specs.declared.open.Open.{Open}
 use Rattle.nb_open.specs.Ends.{MayWaitBeside, ShutsWith}
 use Rattle.nb_open.specs.Open.{IsOpenOf as IsBareOf}
-use Rattle.nb_network.specs.Many.{LivesSome, Many, bare_open}
+use Rattle.nb_network.specs.Many.{IsLivingOfSome, Many, bare_open}
 use Rattle.nb_network.specs.Shutting.{ends_beside, parted_by}
 use Rattle.nb_network.proofs.Shuts.{may_beside}
 use Rattle.nb_network.proofs.Hearing.{bare_is}
@@ -30,7 +30,7 @@ returns c = record {
       let v : c.self.inside.list.items ≡ o ∷ rest = ap (λ (m : Many). m.list) c.self.view_is ∙ is in
       let same : x ≡ bare_open o = c.bare-open.ensures ∙ ap bare_open (c.remove.ensures.value ∙ ap (λ os. get_or os 0 c.remove.result) v) in
       let parts : c.parted-with.result ≡ parted_by (ends_beside x.objects (x.speaker.number == c.args.beside)) c.args.waits = c.parted-with.ensures ∙ ap (λ b. parted_by b c.args.waits) c.ends_with.ensures in
-      let some : LivesSome c.args.self.now.graph o = (subst (AllByRecursion (LivesSome c.args.self.now.graph)) is c.requires.sound.2.lives).0 in
+      let some : IsLivingOfSome c.args.self.now.graph o = (subst (AllByRecursion (IsLivingOfSome c.args.self.now.graph)) is c.requires.sound.2.lives).0 in
       record {
         now = ends_beside x.objects (x.speaker.number == c.args.beside);
         parts = ap (λ p. p.1) parts;

@@ -4,7 +4,7 @@ use Rattle.std.specs.Option.{option_copied}
 use Rattle.nb_command.specs.Bases.{base_by}
 use Rattle.nb_machine.specs.Effects.{Effect, image_answer_effect}
 use Rattle.nb_runner.specs.ImageDeeds.{image_deed_effect}
-use Rattle.nb_runner.specs.World.{surroundings_in}
+use Rattle.nb_runner.specs.World.{surroundings_in_world}
 use Rattle.nb_runner.proofs.ImageLaws.{fits_well, follows_well, leaves_well, unmoved_well}
 use Rattle.nb_runner.proofs.world.World.do_images.Goals as goal
 
@@ -22,7 +22,7 @@ deed_of-requires-clause-may c =
 
 pub returns-in-Ok-clause-value : goal.returns-in-Ok-clause-value
 returns-in-Ok-clause-value c =
-    let x = surroundings_in c.args.self.now (option_copied c.args.own) c.args.depth in
+    let x = surroundings_in_world c.args.self.now (option_copied c.args.own) c.args.depth in
     subst (λ (e : Effect). IfOk c.deed_of.result (λ d. e ≡ image_deed_effect d c.deed_of.new.self.state.images)) (sym (ap (image_answer_effect x) c.in-Ok.ensures.value)) (c.deed_of.ensures.value x refl refl refl)
 
 pub returns-in-Ok-clause-well : goal.returns-in-Ok-clause-well
