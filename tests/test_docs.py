@@ -4,6 +4,7 @@ from __future__ import annotations
 
 import re
 import unittest
+from textwrap import dedent
 
 from shared.ipxe import NOT_BUILT, NOT_SET
 from tests import TOP
@@ -12,6 +13,10 @@ DOCS = TOP / "docs"
 PAGES = [TOP / "README.md", TOP / "examples" / "README.md", *sorted(DOCS.glob("*.md"))]
 MOST_WORDS = 45
 MOST_SENTENCES = 6
+
+# A definition of a module of specs: a name at the beginning of a line, or in a block of those that cite one another.
+DEFINED = re.compile(r"^(?:(?:abbrev|unfoldable) )*pub (?!mod |use )(?:record |data )?([^\s:]+)", re.M)
+TOGETHER = re.compile(r"^(?:\w+ )*mutual\n((?:  .*\n|\n)+)", re.M)
 
 # Each has a plainer word: a prefix of, after, out of memory, invalid, received, returned.
 UNUSUAL = r"\b(?:a front of|behind|want of memory|of no form|heard|heeds?|told|tells|went up)\b"
@@ -82,6 +87,15 @@ class Names(unittest.TestCase):
             parts = [path for path in folder.rglob("*") if path.suffix in (".rt", ".antt") and "out" not in path.parts]
             named = {name for path in parts for name in re.findall(r"\w+", path.read_text())}
             self.assertEqual([name for name in listed.split() if name not in named], [], crate)
+
+    def test_no_definition_s_name_stands_in_two_modules(self) -> None:
+        """A clause cites definitions by their names alone, so each has one meaning."""
+        modules: dict[str, list[str]] = {}
+        for path in sorted((TOP / "crates").glob("*/specs/*.antt")):
+            text = TOGETHER.sub(lambda block: dedent(block[1]), path.read_text())
+            for name in set(DEFINED.findall(text)):
+                modules.setdefault(name, []).append(f"{path.parts[-3]}/{path.stem}")
+        self.assertEqual({name: places for name, places in modules.items() if len(places) > 1}, {})
 
     def test_what_is_named_is_there(self) -> None:
         for page in PAGES:
