@@ -31,7 +31,8 @@ use Rattle.nb_laws.proofs.Tellings.{told}
 use Rattle.nb_laws.proofs.Commands.{script_as, script_told}
 use Rattle.nb_laws.proofs.SoFar.{over_so_far, left_unasked, result_so_far, fetches_nothing, hooks_none, hooks_failed, left_quiet, concludes_at_once_so}
 use Rattle.nb_laws.proofs.Afterwards.{sleeps_after}
-use Rattle.nb_laws.proofs.Settling.{comes_sleeps, comes_asleep, query_asleep, comes_keeps}
+use Rattle.nb_laws.proofs.Settling.{comes_sleeps, comes_keeps}
+use Rattle.nb_laws.proofs.OwnQueries.{comes_asleep, query_asleep}
 use Rattle.nb_openlaws.specs.Standings.{live_opening}
 use Rattle.nb_laws.specs.CommandOpens.{command_open, command_end, over_of}
 use Rattle.nb_laws.specs.Frames.{by_sleep, HoldsOf, HoldsResult, by_failed_end}

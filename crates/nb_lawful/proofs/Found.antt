@@ -39,7 +39,8 @@ use Rattle.nb_laws.proofs.Commands.{script_as, script_told}
 use Rattle.nb_laws.proofs.Inquiries.{asks_some, shown_inquiry_keeps}
 use Rattle.nb_laws.proofs.Afterwards.{after_keeps, after_none, after_plainly, host_leaves, after_unhooked}
 use Rattle.nb_laws.proofs.SoFar.{result_is, opened_no_file, hooks_so_far, hooks_none}
-use Rattle.nb_laws.proofs.Settling.{IsNoFetch, asked_plainly}
+use Rattle.nb_laws.proofs.Settling.{IsNoFetch}
+use Rattle.nb_laws.proofs.OwnQueries.{asked_plainly}
 use Rattle.nb_laws.proofs.Stays.{IsAsking}
 use Rattle.nb_openlaws.specs.Standings.{live_opening, heard_calls}
 use Rattle.nb_laws.specs.CommandOpens.{command_end}

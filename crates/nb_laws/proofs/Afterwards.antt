@@ -14,7 +14,8 @@ use Rattle.nb_laws.specs.Lists.{made}
 use Rattle.nb_laws.specs.Moves.{MovedOpen}
 use Rattle.nb_laws.proofs.Fetching.{plain_asks}
 use Rattle.nb_laws.proofs.Moved.{asking_asks, after_either}
-use Rattle.nb_laws.proofs.Settling.{IsNoFetch, AsksFile, LeavesTable, WordsAre, images_words, drives_words, other_words, words_are, plain_comes, comes_sleeps, comes_stays, comes_keeps, concludes_same, hooks_same, LooksUpNoDisk, looks_up_no_disk, same_errand, no_errand}
+use Rattle.nb_laws.proofs.Settling.{IsNoFetch, LeavesTable, WordsAre, images_words, drives_words, other_words, words_are, plain_comes, comes_sleeps, comes_stays, comes_keeps, concludes_same, hooks_same}
+use Rattle.nb_laws.proofs.OwnQueries.{AsksFile, LooksUpNoDisk, looks_up_no_disk, same_errand, no_errand}
 use Rattle.nb_laws.proofs.SoFar.{left_unasked, left_by_host}
 use Rattle.nb_laws.proofs.Stays.{Stays, IsAsking, host_stays}
 use Rattle.std.proofs.lemmas.Option.{none-some}

@@ -30,7 +30,7 @@ use Rattle.nb_laws.specs.Silence.{IsSilent}
 use Rattle.nb_laws.proofs.Histories.{followed_one, followed_append}
 use Rattle.nb_laws.proofs.Tellings.{told, made_more}
 use Rattle.nb_laws.proofs.HandOffs.{last_end_more}
-use Rattle.nb_laws.proofs.Settling.{WordsAsk, ask_none, ask_host, query_of_host}
+use Rattle.nb_laws.proofs.OwnQueries.{WordsAsk, ask_none, ask_host, query_of_host}
 use Rattle.nb_drivecmd.specs.declared.outcome.Hooking.{Hooking}
 use Rattle.nb_drivecmd.specs.HookedDrives.{with_hooked}
 
