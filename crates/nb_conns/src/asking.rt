@@ -112,6 +112,7 @@ fn send<L: CarriesConn>(heading: Heading, acts: Box<Acts>, downs: &mut Few<Emit<
 }
 
 /// Asks for what goes down. What `acts` holds is lent where segments are sent, and else comes back at once.
+#[inline(always)]
 pub(crate) fn ask_down<L: CarriesConn>(
     acts: Box<Acts>,
     downs: &mut Few<Emit<L>>,

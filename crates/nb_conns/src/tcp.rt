@@ -169,7 +169,9 @@ impl Tcp {
         let Some(mut lent) = self.lent.take() else {
             return self.give_up();
         };
-        let ends = running.take(rec, segment, now, &mut acts, &mut lent);
+        // A copy, so that where a segment is handed on it needs no place in memory.
+        let own = *segment;
+        let ends = running.take(rec, &own, now, &mut acts, &mut lent);
         let window = self.keep(lent);
         self.carry_out(acts, window, ends, fx);
         Ok(())

@@ -66,6 +66,7 @@ impl Sends {
     }
 
     /// Adds a message, whose body is `head` and then `tail`.
+    #[inline(always)]
     pub fn add(&mut self, proto: u8, to: Ip4, to_port: u16, own_port: u16, head: &[u8], tail: &[u8])
         requires room { length self.old.items < 2 }
         requires fits { length head.now + length tail.now ≤ 1480 }
@@ -79,6 +80,7 @@ impl Sends {
 
 impl SendTo {
     /// Becomes this message, whose body is `head` and then `tail`.
+    #[inline(always)]
     fn set(&mut self, proto: u8, to: Ip4, to_port: u16, own_port: u16, head: &[u8], tail: &[u8])
         requires { length head.now + length tail.now ≤ 1480 }
         ensures { self.new ≡ record { proto = proto; to = to; to_port = to_port; own_port = own_port; body = record { items = head.now ++ tail.now } } }
