@@ -8,7 +8,9 @@ use Rattle.nb_machine.specs.Closings.{Shuts}
 use Rattle.nb_machine.specs.Courses.{Progress, Standing, ready, running, waiting, reaching, yielded, handing, left, handed_off, stopped, StepBegins, Proceeds}
 use Rattle.nb_runner.specs.StatusNumber.{status_number}
 use Rattle.nb_runner.specs.Steps.{moves_in, moves_outside}
-use Rattle.nb_runner.specs.Handings.{records_left}
+use Rattle.nb_runner.specs.Handings.{IsNextPiece, records_left}
+use Rattle.nb_runner.specs.declared.handing.Handing.{Handing}
+use Rattle.nb_runner.specs.declared.piece_record.PieceRecord.{PieceRecord}
 use Rattle.nb_runner.specs.declared.status.Status.{Status}
 use Rattle.nb_runner.specs.declared.status.Status.TheVariants as status
 use Rattle.nb_traced.specs.Holdings.{Holdings}
@@ -222,6 +224,12 @@ ComesNearer turn.More before after = most_moves after.stage after < most_moves b
 ComesNearer turn.Waiting before after = Unit {0}
 ComesNearer turn.Yielded before after = Unit {0}
 ComesNearer (turn.Over s) before after = Unit {0}
+
+-- a hand-off is under way, and this piece's record is the next
+pub record HandsNext (p : PieceRecord) (c : Snapshot) : Type 0 where
+  pub handing : Handing
+  pub stage : c.stage ≡ stage.HandingOff handing
+  pub next : IsNextPiece c.world.state.images.images handing p
 
 -- the output has come to where no object lives
 pub record EndsEmpty (outs : List Out) (so_far : List Arrived) : Type 0 where
