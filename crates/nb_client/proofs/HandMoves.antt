@@ -1,7 +1,7 @@
 -- The next piece of a hand-off, as a move of the machine.
 use Rattle.std.proofs.Common.{◌≡◌, ℕ, zero, suc, Bool, true, false, List, [], ◌∷◌, length, drop, map, refl, sym, ◌∙◌, ap, subst, arith}
 use Rattle.std.specs.List.{AllByRecursion, flat_map}
-use Rattle.nb_defs.specs.Records.{Out, out_text}
+use Rattle.nb_defs.specs.Records.{Out}
 use Rattle.nb_record.specs.Logged.{Logged, Puts}
 use Rattle.nb_image.specs.declared.image.Image.{Image}
 use Rattle.nb_image.specs.Parts.{PartText, PieceText, part_pieces}
@@ -9,17 +9,15 @@ use Rattle.nb_machine.specs.Conclusions.{part_records, piece_record}
 use Rattle.nb_machine.specs.Courses.{stands, handing, handed_off, hands, has_handed}
 use Rattle.nb_runner.proofs.Puts.{Puts-nothing}
 use Rattle.nb_runner.proofs.HandingLemmas.{piece_put}
-use Rattle.nb_runner.specs.Handings.{HandsOn, IsNextPiece, PassesNext, parts_handed, record_of, records_left}
+use Rattle.nb_runner.specs.Handings.{HandsOn, IsNextPiece, PassesNext, parts_handed, records_left}
 use Rattle.nb_runner.specs.declared.handing.Handing.{Handing}
-use Rattle.nb_runner.specs.declared.piece_record.PieceRecord.{PieceRecord}
 use Rattle.nb_runner.specs.declared.world.World.{World}
 use Rattle.nb_traced.specs.Pieces.{IsApart}
 use Rattle.nb_network.specs.Many.{Many}
-use Rattle.nb_client.specs.Progressing.{HandsNext, ProceedsTo, TurnsBy}
+use Rattle.nb_client.specs.Progressing.{PassesPiece, ProceedsTo}
 use Rattle.nb_client.specs.Snapshots.{at_handing, at_handed_off, snapshot}
 use Rattle.nb_client.specs.Soundness.{IsSound, IsUsable}
 use Rattle.nb_client.specs.Turning.{MovesOn}
-use Rattle.nb_client.specs.declared.client.Turn.TheVariants as turn
 use Rattle.nb_client.specs.declared.stage.Stage.TheVariants as stage
 use Rattle.nb_client.proofs.Moves.{one_move}
 use Rattle.nb_client.proofs.Standing.{stands_at}
@@ -123,9 +121,9 @@ same_handing : (h h' : Handing) → stage.HandingOff h ≡ stage.HandingOff h' �
 same_handing h h' e = cc
 
 -- the next piece was put by the caller, and is passed
-pub piece_turns : (n : ℕ) (w : World) (m : Many) (h h' : Handing) → IsSound n w m (stage.HandingOff h) → PassesNext w.state.images h h' → (p : PieceRecord) (old new : Logged) →
-    HandsNext p (snapshot n w m (stage.HandingOff h)) → Puts old new (out_text (record_of p)) → TurnsBy turn.More [] (snapshot n w m (stage.HandingOff h)) (snapshot n w m (stage.HandingOff h')) old new
-piece_turns n w m h h' sound passes p old new next puts =
+pub piece_turns : (n : ℕ) (w : World) (m : Many) (h h' : Handing) → IsSound n w m (stage.HandingOff h) → PassesNext w.state.images h h' →
+    PassesPiece (snapshot n w m (stage.HandingOff h)) (snapshot n w m (stage.HandingOff h'))
+piece_turns n w m h h' sound passes = λ p old new next puts.
     let comes : IsNextPiece w.state.images.images h p = subst (λ x. IsNextPiece w.state.images.images x p) (same_handing h next.handing next.stage) next.next in
     let goes = piece_goes n w m h h' sound (piece_put w.state.images h h' p comes passes puts) in
     (goes.goes.advances, tt)

@@ -1,9 +1,5 @@
-ghost use Rattle.std.specs.Prelude.{[], IfSome};
-ghost use Rattle.nb_defs.specs.Records.{out_text};
-ghost use Rattle.nb_record.specs.Logged.{Logged, Puts};
-ghost use Rattle.nb_runner.specs.Handings.{record_of};
-ghost use Rattle.nb_runner.specs.declared.piece_record.PieceRecord.{PieceRecord as ThePiece};
-ghost use Rattle.nb_client.specs.Progressing.{ComesNearer, HandsNext, TurnsBy};
+ghost use Rattle.std.specs.Prelude.{IfSome};
+ghost use Rattle.nb_client.specs.Progressing.{ComesNearer, HandsNext, HasNextPiece, PassesPiece};
 ghost use Rattle.nb_client.specs.Soundness.{IsSound, snapshot_at};
 ghost use Rattle.nb_client.specs.Turning.{MovesOn};
 ghost use Rattle.nb_client.specs.declared.client.Turn.TheVariants as turn;
@@ -27,8 +23,8 @@ impl Client {
 
     /// Goes on as `more` does, where the record of the next piece was put by the caller.
     pub fn pass_piece(&mut self)
-        requires { (p : ThePiece) × HandsNext p self.old }
-        ensures does { (p : ThePiece) (old new : Logged) → HandsNext p self.old → Puts old new (out_text (record_of p)) → TurnsBy turn.More [] self.old self.new old new }
+        requires { HasNextPiece self.old }
+        ensures does { PassesPiece self.old self.new }
         ensures nearer { ComesNearer turn.More self.old self.new }
     {
         let Stage::HandingOff(handing) = &mut self.stage else {

@@ -1,12 +1,7 @@
-use Rattle.std.proofs.Common.{[], sym, ◌∙◌, ap, subst}
-use Rattle.nb_defs.specs.Records.{out_text}
-use Rattle.nb_record.specs.Logged.{Logged, Puts}
-use Rattle.nb_runner.specs.Handings.{record_of}
-use Rattle.nb_runner.specs.declared.piece_record.PieceRecord.{PieceRecord}
-use Rattle.nb_client.specs.Progressing.{HandsNext, TurnsBy}
+use Rattle.std.proofs.Common.{sym, ◌∙◌, ap, subst}
+use Rattle.nb_client.specs.Progressing.{PassesPiece}
 use Rattle.nb_client.specs.Snapshots.{Snapshot}
 use Rattle.nb_client.specs.Soundness.{IsUsable, snapshot_at}
-use Rattle.nb_client.specs.declared.client.Turn.TheVariants as turn
 use Rattle.nb_client.specs.declared.stage.Stage.{Stage}
 use Rattle.nb_client.specs.declared.stage.Stage.TheVariants as stage
 use Rattle.nb_client.proofs.HandMoves.{piece_turns, usable_hands}
@@ -17,6 +12,6 @@ returns-clause-does c =
     let i = c.self.inside in
     let h = c.in-HandingOff.handing in
     let sound = usable_hands i.lost i.site.used i.site.world i.site.opens h (subst (λ (st : Stage). IsUsable i.lost (snapshot_at i.site st)) c.in-HandingOff.is c.self.invariant) in
-    subst (λ (s : Snapshot). (p : PieceRecord) (old new : Logged) → HandsNext p s → Puts old new (out_text (record_of p)) → TurnsBy turn.More [] s (snapshot_at i.site (stage.HandingOff c.pass_piece.new.self)) old new)
+    subst (λ (s : Snapshot). PassesPiece s (snapshot_at i.site (stage.HandingOff c.pass_piece.new.self)))
     (ap (λ (st : Stage). snapshot_at i.site st) (sym c.in-HandingOff.is) ∙ c.self.view_is)
     (piece_turns i.site.used i.site.world i.site.opens h c.pass_piece.new.self sound c.pass_piece.ensures)
