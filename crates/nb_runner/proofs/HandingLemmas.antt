@@ -338,8 +338,8 @@ pub same_first : (x y : Out) (xs ys : List Out) → x ∷ xs ≡ y ∷ ys → x 
 same_first x y xs ys e = cc
 
 -- where a piece comes next, some are left
-pub some_left : {images : List Image} {h : Handing} {r : PieceRecord} → IsNextPiece images h r → records_left images h ≡ [] → ⊥
-some_left n none = let no : [] ≡ record_of _ ∷ n.rest = sym none ∙ n.left in cc
+pub some_left : (images : List Image) (h : Handing) (r : PieceRecord) → IsNextPiece images h r → records_left images h ≡ [] → ⊥
+some_left images h r n none = let no : [] ≡ record_of r ∷ n.rest = sym none ∙ n.left in cc
 
 -- so a piece that was put is passed
 pub piece_put : {before after : Logged} (list : ImageList) (old new : Handing) (r : PieceRecord) → IsNextPiece list.images old r → PassesNext list old new → Puts before after (out_text (record_of r)) →

@@ -1,5 +1,5 @@
 -- How far a hand-off is, and what putting a piece does to it.
-use Rattle.std.specs.Prelude.{◌≡◌, ◌<◌, ◌≤◌, ℕ, ◌+◌, Bool, true, false, List, [], ◌∷◌, ◌++◌, length, drop, Option, None, slice_get, IfSome}
+use Rattle.std.specs.Prelude.{◌≡◌, ◌<◌, ◌≤◌, ℕ, ◌+◌, Bool, true, false, List, [], ◌∷◌, ◌++◌, length, drop, Option, Some, None, slice_get, IfSome}
 use Rattle.std.specs.List.{flat_map, AllByRecursion}
 use Rattle.nb_defs.specs.Records.{Out, out_texts, part}
 use Rattle.nb_record.specs.Logged.{Logged, Puts}

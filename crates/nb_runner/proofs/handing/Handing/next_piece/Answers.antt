@@ -8,8 +8,8 @@ use Rattle.nb_runner.specs.Handings.{parts_handed}
 use Rattle.nb_runner.proofs.HandingLemmas.{none_left, part_small, past_end, piece_at_place, piece_comes, records_of_part}
 use Rattle.nb_runner.proofs.handing.Handing.next_piece.Goals as goal
 
-pub overflow_cast-piece : goal.overflow_cast-piece
-overflow_cast-piece c =
+pub overflow_cast-result : goal.overflow_cast-result
+overflow_cast-result c =
     let h = c.args.self.now in
     let is = sym c.next_part.ensures.value ∙ ap (λ o. option_map part_text o) c.in-Some.is in
     let got = sym c.piece.ensures ∙ ap (λ o. option_map piece_text o) c.in-Some-piece.is in
@@ -41,4 +41,5 @@ returns c =
     let piece = piece_text c.in-Some-piece.piece in
     let is : slice_get (parts_handed c.args.images.now.images h) h.part ≡ Some p = sym c.next_part.ensures.value ∙ ap (λ o. option_map part_text o) c.in-Some.is in
     let got : slice_get (part_pieces p.bytes) h.piece ≡ Some piece = sym c.piece.ensures ∙ ap (λ o. option_map piece_text o) c.in-Some-piece.is in
-    piece_comes c.args.images.now h p piece _ c.requires is got (ap (λ k. part k c.in-Some.part.index piece.offset piece.bytes) (sym c.number.ensures)) refl
+    piece_comes c.args.images.now h p piece (record { kind = c.number.result; index = c.in-Some.part.index; offset = c.in-Some-piece.piece.offset; bytes = c.in-Some-piece.piece.bytes })
+    c.requires is got (ap (λ k. part k c.in-Some.part.index piece.offset piece.bytes) (sym c.number.ensures)) refl
