@@ -10,6 +10,7 @@ pub mod Cuttings
 pub mod Fetching
 pub mod Refills
 pub mod Turned
+pub mod Pieces
 pub mod Last
 pub mod Closings
 pub mod BadRests

@@ -1,5 +1,5 @@
 -- Writing bytes piece by piece.
-use Rattle.std.proofs.Common.{◌≡◌, ℕ, refl, ◌+◌, ◌-◌, ◌≤◌, ◌<◌, List, [], ◌++◌, length, take, drop, sym, ◌∙◌, ap, subst, arith, append-nil, take-add, Result, Ok, Err}
+use Rattle.std.proofs.Common.{◌≡◌, ℕ, refl, ◌+◌, ◌-◌, ◌≤◌, ◌<◌, List, [], ◌++◌, length, take, drop, sym, ◌∙◌, ap, subst, arith, append-nil, append_assoc, take-add, Result, Ok, Err}
 use Rattle.std.specs.Prelude.{OnErr}
 use Rattle.std.proofs.lemmas.List.{take_all, take-append-drop, length-drop}
 use Rattle.nb_record.specs.Outside.{Outside, Writes, Rose}
@@ -50,3 +50,26 @@ stopped_there a b c bytes at left_some p w r = record {
 
 pub length-rest : (bytes : List ℕ) (at : ℕ) → length (take (length bytes - at) (drop at bytes)) ≡ length bytes - at
 length-rest bytes at = rw (rest_is bytes at) (length-drop at bytes)
+
+-- bytes that were written one after the other
+pub wrote_both : (a b c : Outside) (bytes more : List ℕ) → Wrote a b bytes → Wrote b c more → Wrote a c (bytes ++ more)
+wrote_both a b c bytes more p w = record {
+  passes = Passes-then a b c [] bytes [] more p.passes w.passes;
+  reads_stay = w.reads_stay ∙ p.reads_stay;
+}
+
+-- bytes stopped after others that were written
+pub stopped_later : (a b c : Outside) (bytes more : List ℕ) → Wrote a b bytes → Stopped b c more → Stopped a c (bytes ++ more)
+stopped_later a b c bytes more p s = record {
+  part = bytes ++ s.part;
+  lost = s.lost;
+  fronts = ap (λ t. bytes ++ t) s.fronts ∙ sym (append_assoc bytes s.part s.lost);
+  missing = s.missing;
+  wrote = wrote_both a b c bytes s.part p s.wrote;
+  rose = rose_later a.write_faults b.write_faults c.write_faults p.passes.counts.write_count s.rose;
+}
+
+-- what holds where a call fails gives what follows from it
+pub on_err_then : {T E : Type 0} (r : Result T E) (P Q : Type 0) → (P → Q) → OnErr r P → OnErr r Q
+on_err_then (Ok x) P Q f p = tt
+on_err_then (Err e) P Q f p = f p

@@ -5,7 +5,8 @@ use Rattle.nb_machine.specs.Courses.{Progress, nowhere}
 use Rattle.nb_traced.specs.Holdings.{Holdings, no_holdings}
 use Rattle.nb_traced.specs.Outputs.{Arrived, Traced}
 use Rattle.nb_client.specs.Snapshots.{Snapshot, StandsForProgress, FitsOutput}
-use Rattle.nb_client.specs.Progressing.{IsFinal, AwaitsRecord, RunEndsWith}
+use Rattle.nb_client.specs.Progressing.{IsAtWork, IsFinal, AwaitsRecord, ComesNearer, RunEndsWith}
+use Rattle.nb_client.specs.declared.client.Turn.TheVariants as turn
 use Rattle.nb_record.specs.Outside.{Outside, Passes, Rose, IsAtEnd}
 use Rattle.nb_record.specs.Logged.{Logged}
 use Rattle.nb_record.specs.declared.notes.ReadNote.{ReadNote}
@@ -80,6 +81,10 @@ abbrev pub IsFlaw : Flaw → Outside → Outside → Logged → Type 0
 IsFlaw flaw.WriteFault before after log = (log.is_short ≡ false) × Stopped before after log.bytes
 IsFlaw flaw.NoMemory before after log = Wrote before after []
 
+-- a log that has gathered these bytes more
+abbrev pub with_more : Logged → List ℕ → Logged
+with_more log more = record { bytes = log.bytes ++ more; room = log.room; is_short = log.is_short }
+
 -- whatever run went on before, it goes on afterwards, with this held of what was read
 abbrev pub KeepsRun : List ℕ → List ℕ → Outside → Outside → Logged → Logged → Type 0
 KeepsRun held held' before now old new =
@@ -127,6 +132,11 @@ abbrev pub StepsTo : StepEnd → List In → Outside → Outside → Logged → 
 StepsTo ending.Waits used before now old new c c' = AwaitsRecord c'.stage × LeadsOn used before now old new c c'
 StepsTo (ending.Over s) used before now old new c c' = IsFinal s × RunEndsWith c'.stage s × LeadsOn used before now old new c c'
 StepsTo (ending.Cut f) used before now old new c c' = Stops (flaw_status f) used before now old c
+
+-- a piece was written and the step goes on, nearer to its end; or there was none, and nothing was done
+abbrev pub WritesPiece : Bool → Outside → Outside → Logged → Logged → Snapshot → Snapshot → Type 0
+WritesPiece true before now old new c c' = IsAtWork c'.stage × LeadsOn [] before now old new c c' × ComesNearer turn.More c c'
+WritesPiece false before now old new c c' = (new ≡ old) × (c' ≡ c)
 
 -- a turn's status: the run's, or out of memory
 abbrev pub IsStatusOf : Status → StepEnd → Type 0

@@ -1,5 +1,5 @@
-ghost use Rattle.std.specs.Prelude.{◌≡◌, ◌≤◌, [], false, length, List, ℕ, OnOk, OnErr, IfErr};
-ghost use Rattle.nb_boot.specs.Going.{Wrote, Stopped, IsFlaw, KeepsRun, CutsAll, flaw_status};
+ghost use Rattle.std.specs.Prelude.{◌≡◌, ◌≤◌, ◌++◌, [], false, length, List, ℕ, OnOk, OnErr, IfErr};
+ghost use Rattle.nb_boot.specs.Going.{Wrote, Stopped, IsFlaw, KeepsRun, CutsAll, flaw_status, with_more};
 
 use crate::Status;
 use nb_record::{Failed, Line, Log};
@@ -54,6 +54,37 @@ pub fn flush<L: Line>(log: &mut Log, line: &mut L) -> Result<(), Flaw>
         }
         Err(Failed) => Err(Flaw::WriteFault),
     }
+}
+
+/// Writes what the log gathered, and then a head and a page that aren't copied into it.
+pub fn flush_with<L: Line>(
+    log: &mut Log,
+    head: &[u8],
+    page: &[u8],
+    line: &mut L,
+) -> Result<(), Flaw>
+    ensures ok { OnOk result (Wrote (L.outside line.old) (L.outside line.new) (log.old.bytes ++ (head.now ++ page.now))) }
+    ensures whole { OnOk result (log.old.is_short ≡ false) }
+    ensures cleared { OnOk result (log.new ≡ record { bytes = []; room = log.old.room; is_short = false }) }
+    ensures err { IfErr result (λ flaw. IsFlaw flaw (L.outside line.old) (L.outside line.new) (with_more log.old (head.now ++ page.now))) }
+{
+    match flush(log, line) {
+        Ok(()) => {}
+        Err(flaw) => return Err(flaw),
+    }
+    match write_both(head, page, line) {
+        Ok(()) => Ok(()),
+        Err(Failed) => Err(Flaw::WriteFault),
+    }
+}
+
+/// Writes all the bytes of a head and of a page.
+fn write_both<L: Line>(head: &[u8], page: &[u8], line: &mut L) -> Result<(), Failed>
+    ensures ok { OnOk result (Wrote (L.outside line.old) (L.outside line.new) (head.now ++ page.now)) }
+    ensures err { OnErr result (Stopped (L.outside line.old) (L.outside line.new) (head.now ++ page.now)) }
+{
+    write_all(head, line)?;
+    write_all(page, line)
 }
 
 /// How many bytes of output are gathered at most. One call of the client puts fewer than twice what may stay

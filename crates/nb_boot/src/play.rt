@@ -1,4 +1,4 @@
-ghost use Rattle.std.specs.Prelude.{◌≡◌, ◌<◌, ◌-◌, ◌^◌, ℕ, List, [], ◌∷◌};
+ghost use Rattle.std.specs.Prelude.{◌≡◌, ◌<◌, ◌-◌, ◌^◌, ℕ, List, [], ◌∷◌, false, IfOk, IfErr};
 ghost use Rattle.nb_defs.specs.Records.{In, IsIn};
 ghost use Rattle.nb_record.specs.Outside.{Outside};
 ghost use Rattle.nb_record.specs.View.{in_of};
@@ -9,10 +9,10 @@ ghost use Rattle.nb_client.specs.Snapshots.{FitsOutput, StandsForProgress};
 ghost use Rattle.nb_client.specs.Progressing.{CanUse, IsAtWork};
 ghost use Rattle.nb_boot.specs.Run.{Shows};
 ghost use Rattle.nb_boot.specs.Shown.{EndsWhere};
-ghost use Rattle.nb_boot.specs.Going.{StepsTo, IsStatusOf, UsesRecord, Going, IsClosing};
+ghost use Rattle.nb_boot.specs.Going.{StepsTo, IsStatusOf, UsesRecord, Going, IsClosing, Stops, WritesPiece, flaw_status};
 
 use crate::Status;
-use crate::output::{Flaw, flush, make_room};
+use crate::output::{Flaw, flush, flush_with, make_room};
 use nb_client::{Client, Turn};
 use nb_record::{InRec, Line, Log, NoMemory};
 
@@ -37,6 +37,25 @@ fn end_of(status: Status) -> StepEnd
     }
 }
 
+/// Writes the next piece of a hand-off, after what the log gathered, from where its bytes are kept. False where no piece
+/// comes next.
+fn write_piece<L: Line>(client: &mut Client, log: &mut Log, line: &mut L) -> Result<bool, Flaw>
+    requires { IsAtWork client.old.stage }
+    ensures ok { IfOk result (λ is. WritesPiece is (L.outside line.old) (L.outside line.new) log.old log.new client.old client.new) }
+    ensures none { IfOk result (λ is. is ≡ false → line.new ≡ line.old) }
+    ensures err { IfErr result (λ flaw. Stops (flaw_status flaw) [] (L.outside line.old) (L.outside line.new) log.old client.old) }
+{
+    let Some(piece) = client.next_piece() else {
+        return Ok(false);
+    };
+    let written = flush_with(log, &piece.head(), piece.bytes, line);
+    client.pass_piece();
+    match written {
+        Ok(()) => Ok(true),
+        Err(flaw) => Err(flaw),
+    }
+}
+
 /// Goes on until the step is over, and writes output whenever the log is nearly full.
 #[inline(never)]
 fn go_on<L: Line>(client: &mut Client, log: &mut Log, line: &mut L) -> StepEnd
@@ -44,6 +63,11 @@ fn go_on<L: Line>(client: &mut Client, log: &mut Log, line: &mut L) -> StepEnd
     ensures { StepsTo result [] (L.outside line.old) (L.outside line.new) log.old log.new client.old client.new }
 {
     'moves: loop {
+        match write_piece(client, log, line) {
+            Ok(true) => continue 'moves,
+            Ok(false) => {}
+            Err(flaw) => return StepEnd::Cut(flaw),
+        }
         match make_room(log, line) {
             Ok(()) => {}
             Err(flaw) => return StepEnd::Cut(flaw),

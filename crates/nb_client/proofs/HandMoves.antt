@@ -1,5 +1,5 @@
 -- The next piece of a hand-off, as a move of the machine.
-use Rattle.std.proofs.Common.{◌≡◌, ℕ, zero, suc, true, false, List, [], ◌∷◌, length, drop, map, refl, sym, ◌∙◌, ap, subst, arith}
+use Rattle.std.proofs.Common.{◌≡◌, ℕ, zero, suc, Bool, true, false, List, [], ◌∷◌, length, drop, map, refl, sym, ◌∙◌, ap, subst, arith}
 use Rattle.std.specs.List.{AllByRecursion, flat_map}
 use Rattle.nb_defs.specs.Records.{Out}
 use Rattle.nb_record.specs.Logged.{Logged, Puts}
@@ -8,14 +8,15 @@ use Rattle.nb_image.specs.Parts.{PartText, PieceText, part_pieces}
 use Rattle.nb_machine.specs.Conclusions.{part_records, piece_record}
 use Rattle.nb_machine.specs.Courses.{stands, handing, handed_off, hands, has_handed}
 use Rattle.nb_runner.proofs.Puts.{Puts-nothing}
-use Rattle.nb_runner.specs.Handings.{HandsOn, parts_handed, records_left}
+use Rattle.nb_runner.proofs.HandingLemmas.{piece_put}
+use Rattle.nb_runner.specs.Handings.{HandsOn, IsNextPiece, PassesNext, parts_handed, records_left}
 use Rattle.nb_runner.specs.declared.handing.Handing.{Handing}
 use Rattle.nb_runner.specs.declared.world.World.{World}
 use Rattle.nb_traced.specs.Pieces.{IsApart}
 use Rattle.nb_network.specs.Many.{Many}
-use Rattle.nb_client.specs.Progressing.{ProceedsTo}
+use Rattle.nb_client.specs.Progressing.{PassesPiece, ProceedsTo}
 use Rattle.nb_client.specs.Snapshots.{at_handing, at_handed_off, snapshot}
-use Rattle.nb_client.specs.Soundness.{IsSound}
+use Rattle.nb_client.specs.Soundness.{IsSound, IsUsable}
 use Rattle.nb_client.specs.Turning.{MovesOn}
 use Rattle.nb_client.specs.declared.stage.Stage.TheVariants as stage
 use Rattle.nb_client.proofs.Moves.{one_move}
@@ -110,3 +111,19 @@ handed_goes {old} {new} n w m h h' sound does =
       };
       nearer = λ x. absurd x;
     }
+
+-- a hand-off that is under way, in a client that is of use, is sound
+pub usable_hands : (lost : Bool) (n : ℕ) (w : World) (m : Many) (h : Handing) → IsUsable lost (snapshot n w m (stage.HandingOff h)) → IsSound n w m (stage.HandingOff h)
+usable_hands true n w m h is = let no : stage.HandingOff h ≡ stage.Stopped = is in cc
+usable_hands false n w m h is = is
+
+same_handing : (h h' : Handing) → stage.HandingOff h ≡ stage.HandingOff h' → h' ≡ h
+same_handing h h' e = cc
+
+-- the next piece was put by the caller, and is passed
+pub piece_turns : (n : ℕ) (w : World) (m : Many) (h h' : Handing) → IsSound n w m (stage.HandingOff h) → PassesNext w.state.images h h' →
+    PassesPiece (snapshot n w m (stage.HandingOff h)) (snapshot n w m (stage.HandingOff h'))
+piece_turns n w m h h' sound passes = λ p old new next puts.
+    let comes : IsNextPiece w.state.images.images h p = subst (λ x. IsNextPiece w.state.images.images x p) (same_handing h next.handing next.stage) next.next in
+    let goes = piece_goes n w m h h' sound (piece_put w.state.images h h' p comes passes puts) in
+    (goes.goes.advances, tt)

@@ -1,6 +1,6 @@
 -- What a call of the client does, by its turn: between the client and the two lists of records, those used and those written.
 use Rattle.std.specs.Prelude.{◌≡◌, ℕ, ◌+◌, ◌<◌, List, [], ◌∷◌, ◌++◌, length}
-use Rattle.nb_defs.specs.Records.{In, start, frame, tick, off, Out, out_texts, step, done}
+use Rattle.nb_defs.specs.Records.{In, start, frame, tick, off, Out, out_text, out_texts, step, done}
 use Rattle.nb_record.specs.Logged.{Logged, Puts}
 use Rattle.nb_traced.specs.Plain.{without_graph}
 use Rattle.nb_machine.specs.CommandRecords.{status_of, stopped_cause}
@@ -8,7 +8,9 @@ use Rattle.nb_machine.specs.Closings.{Shuts}
 use Rattle.nb_machine.specs.Courses.{Progress, Standing, ready, running, waiting, reaching, yielded, handing, left, handed_off, stopped, StepBegins, Proceeds}
 use Rattle.nb_runner.specs.StatusNumber.{status_number}
 use Rattle.nb_runner.specs.Steps.{moves_in, moves_outside}
-use Rattle.nb_runner.specs.Handings.{records_left}
+use Rattle.nb_runner.specs.Handings.{IsNextPiece, record_of, records_left}
+use Rattle.nb_runner.specs.declared.handing.Handing.{Handing}
+use Rattle.nb_runner.specs.declared.piece_record.PieceRecord.{PieceRecord}
 use Rattle.nb_runner.specs.declared.status.Status.{Status}
 use Rattle.nb_runner.specs.declared.status.Status.TheVariants as status
 use Rattle.nb_traced.specs.Holdings.{Holdings}
@@ -222,6 +224,20 @@ ComesNearer turn.More before after = most_moves after.stage after < most_moves b
 ComesNearer turn.Waiting before after = Unit {0}
 ComesNearer turn.Yielded before after = Unit {0}
 ComesNearer (turn.Over s) before after = Unit {0}
+
+-- a hand-off is under way, and this piece's record is the next
+pub record HandsNext (p : PieceRecord) (c : Snapshot) : Type 0 where
+  pub handing : Handing
+  pub stage : c.stage ≡ stage.HandingOff handing
+  pub next : IsNextPiece c.world.state.images.images handing p
+
+-- there is one
+abbrev pub HasNextPiece : Snapshot → Type 0
+HasNextPiece c = (p : PieceRecord) × HandsNext p c
+
+-- a client goes on as by a turn in which that record is put, into whatever log it is put
+abbrev pub PassesPiece : Snapshot → Snapshot → Type 0
+PassesPiece before after = (p : PieceRecord) (old new : Logged) → HandsNext p before → Puts old new (out_text (record_of p)) → TurnsBy turn.More [] before after old new
 
 -- the output has come to where no object lives
 pub record EndsEmpty (outs : List Out) (so_far : List Arrived) : Type 0 where

@@ -6,7 +6,7 @@ use Rattle.std.specs.Option.{option_to_list}
 use Rattle.std.proofs.lemmas.Option.{slice_get_within, none-some, same_Some}
 use Rattle.std.proofs.lemmas.List.{drop-append-le, drop_all, length-take}
 use Rattle.std.proofs.lemmas.Bool.{eqb-true, eqb-false}
-use Rattle.nb_defs.specs.Records.{Out, out_texts}
+use Rattle.nb_defs.specs.Records.{Out, out_text, out_texts}
 use Rattle.nb_record.specs.Logged.{Logged, Puts}
 use Rattle.nb_image.specs.declared.image.Image.{Image}
 use Rattle.nb_image.specs.Images.{ImageList, put_image, image_place, with_image}
@@ -15,8 +15,10 @@ use Rattle.nb_image.proofs.PartsLemmas.{parts_length, piece_is, pieces_length}
 use Rattle.nb_runner.specs.declared.handing.Booted.{Booted}
 use Rattle.nb_runner.specs.declared.handing.Booted.TheVariants as booted
 use Rattle.nb_runner.specs.declared.handing.Handing.{Handing}
+use Rattle.nb_runner.specs.declared.piece_record.PieceRecord.{PieceRecord}
 use Rattle.nb_machine.specs.Conclusions.{part_records, piece_record}
-use Rattle.nb_runner.specs.Handings.{IsShortImage, AreShortImages, IsShortTable, FitsBooted, IsAtPiece, PutsNext, booted_parts, moved_on, parts_handed}
+use Rattle.nb_runner.specs.Handings.{IsShortImage, AreShortImages, IsShortTable, FitsBooted, IsAtPiece, IsNextPiece, PassesNext, PutsNext, booted_parts, moved_on, parts_handed, record_of, records_left}
+use Rattle.nb_runner.proofs.Puts.{Puts-one}
 
 -- of all elements of both lists, and of an element
 pub all_append : {A : Type 0} (P : A → Type 0) (xs ys : List A) → AllByRecursion P xs → AllByRecursion P ys → AllByRecursion P (xs ++ ys)
@@ -110,12 +112,11 @@ left_at ps k j p h within =
     ap (λ xs. drop j (flat_map part_records xs)) (drop_get ps k p h)
     ∙ drop-append-le j (part_records p) (flat_map part_records (drop (k + 1) ps)) within
 
-pub next_left : (ps : List PartText) (k j : ℕ) (p : PartText) (piece : PieceText) → slice_get ps k ≡ Some p → slice_get (part_pieces p.bytes) j ≡ Some piece →
-    drop j (flat_map part_records (drop k ps)) ≡ piece_record p piece ∷ (drop (j + 1) (part_records p) ++ flat_map part_records (drop (k + 1) ps))
-next_left ps k j p piece h g =
-    let r = get_map (piece_record p) (part_pieces p.bytes) j piece g in
-    let within : j < length (part_records p) = slice_get_within (part_records p) j (piece_record p piece) r in
-    left_at ps k j p h (omega arith) ∙ ap (λ xs. xs ++ flat_map part_records (drop (k + 1) ps)) (drop_get (part_records p) j (piece_record p piece) r)
+pub next_left : (ps : List PartText) (k j : ℕ) (p : PartText) (next : Out) → slice_get ps k ≡ Some p → slice_get (part_records p) j ≡ Some next →
+    drop j (flat_map part_records (drop k ps)) ≡ next ∷ (drop (j + 1) (part_records p) ++ flat_map part_records (drop (k + 1) ps))
+next_left ps k j p next h r =
+    let within : j < length (part_records p) = slice_get_within (part_records p) j next r in
+    left_at ps k j p h (omega arith) ∙ ap (λ xs. xs ++ flat_map part_records (drop (k + 1) ps)) (drop_get (part_records p) j next r)
 
 -- within the part
 pub left_within : (ps : List PartText) (k j : ℕ) (p : PartText) → slice_get ps k ≡ Some p → j + 1 ≤ length (part_records p) →
@@ -280,29 +281,71 @@ part_of_table images h e = sym (ap (slice_get (parts_handed images h)) e ∙ get
 pub part_early : (images : List Image) (h : Handing) (p : PartText) → length (booted_parts images h.booted) ≤ 65 → slice_get (booted_parts images h.booted) h.part ≡ Some p → h.part ≤ 65
 part_early images h p few is = let within = slice_get_within (booted_parts images h.booted) h.part p is in omega (arith, within, few)
 
--- A PIECE WAS PUT
+-- THE NEXT PIECE
 
-pub piece_done : {before after : Logged} (list : ImageList) (h : Handing) (p : PartText) (piece : PieceText) (last : Bool) → IsAtPiece list h → slice_get (parts_handed list.images h) h.part ≡ Some p → slice_get (part_pieces p.bytes) h.piece ≡ Some piece →
-    (h.piece + 1 == length (part_records p)) ≡ last → Puts before after (out_texts (piece_record p piece ∷ [])) → IsAtPiece list (moved_on last h) × PutsNext list.images h (moved_on last h) before after
-piece_done list h p piece true at is got at_end puts =
-    let ps = parts_handed list.images h in
-    let last : h.piece + 1 ≡ length (part_records p) = eqb-true (h.piece + 1) (length (part_records p)) at_end in (
-      at_next list h at (part_within ps h.part p is),
-      record {
-        next = piece_record p piece;
-        left = next_left ps h.part h.piece p piece is got ∙ ap (λ rs. piece_record p piece ∷ rs) (left_behind ps h.part h.piece p (drop_past (h.piece + 1) (part_records p) last));
-        puts = puts;
-      },
-    )
-piece_done list h p piece false at is got within puts =
+-- a piece that stands next in its part has the next record
+pub piece_comes : (list : ImageList) (h : Handing) (p : PartText) (piece : PieceText) (r : PieceRecord) → IsAtPiece list h → slice_get (parts_handed list.images h) h.part ≡ Some p →
+    slice_get (part_pieces p.bytes) h.piece ≡ Some piece → piece_record p piece ≡ record_of r → r.bytes.now ≡ piece.bytes → IsNextPiece list.images h r
+piece_comes list h p piece r at is got same bytes =
+    let small = part_small list.images h h.part p at.booted at.short at.table is in
+    let rest = drop (h.piece + 1) (part_records p) ++ flat_map part_records (drop (h.part + 1) (parts_handed list.images h)) in
+    record {
+      rest = rest;
+      left = next_left (parts_handed list.images h) h.part h.piece p (piece_record p piece) is (get_map (piece_record p) (part_pieces p.bytes) h.piece piece got) ∙ ap (λ x. x ∷ rest) same;
+      short = rw bytes (piece_at_place p.bytes h.piece piece small got).short;
+    }
+
+-- a part has few pieces
+pub piece_early : (list : ImageList) (h : Handing) (p : PartText) → IsAtPiece list h → slice_get (parts_handed list.images h) h.part ≡ Some p → h.piece < 4097
+piece_early list h p at is =
+    let here : h.piece < length (part_records p) = rw is at at.piece in
+    let small : length p.bytes ≤ 268435456 = part_small list.images h h.part p at.booted at.short at.table is in
+    omega (arith, here, records_of_part p, pieces_length p.bytes, count_some (length p.bytes) small)
+
+-- a place of a list has an element
+get_some : {A : Type 0} (xs : List A) (k : ℕ) → k < length xs → (x : A) × (slice_get xs k ≡ Some x)
+get_some [] k h = absurd (omega arith)
+get_some (x ∷ xs) zero h = (x, refl)
+get_some (x ∷ xs) (suc k) h = get_some xs k (omega arith)
+
+-- the next record is passed
+pub piece_passed : (list : ImageList) (h : Handing) (p : PartText) (last : Bool) → IsAtPiece list h → slice_get (parts_handed list.images h) h.part ≡ Some p →
+    (h.piece + 1 == length (part_records p)) ≡ last → PassesNext list h (moved_on last h)
+piece_passed list h p true at is at_end =
     let ps = parts_handed list.images h in
     let here : h.piece < length (part_records p) = rw is at at.piece in
+    let one = get_some (part_records p) h.piece here in
+    let last : h.piece + 1 ≡ length (part_records p) = eqb-true (h.piece + 1) (length (part_records p)) at_end in
+    record {
+      at = at_next list h at (part_within ps h.part p is);
+      next = one.0;
+      left = next_left ps h.part h.piece p one.0 is one.1 ∙ ap (λ rs. one.0 ∷ rs) (left_behind ps h.part h.piece p (drop_past (h.piece + 1) (part_records p) last));
+    }
+piece_passed list h p false at is within =
+    let ps = parts_handed list.images h in
+    let here : h.piece < length (part_records p) = rw is at at.piece in
+    let one = get_some (part_records p) h.piece here in
     let other : h.piece + 1 ≡ length (part_records p) → ⊥ = eqb-false (h.piece + 1) (length (part_records p)) within in
-    let more : h.piece + 1 < length (part_records p) = grind arith in (
-      at_piece list h p at is more,
-      record {
-        next = piece_record p piece;
-        left = next_left ps h.part h.piece p piece is got ∙ ap (λ rs. piece_record p piece ∷ rs) (left_within ps h.part h.piece p is (omega (arith, more)));
-        puts = puts;
-      },
+    let more : h.piece + 1 < length (part_records p) = grind arith in
+    record {
+      at = at_piece list h p at is more;
+      next = one.0;
+      left = next_left ps h.part h.piece p one.0 is one.1 ∙ ap (λ rs. one.0 ∷ rs) (left_within ps h.part h.piece p is (omega (arith, more)));
+    }
+
+-- the record that comes next is the one that is passed
+pub same_first : (x y : Out) (xs ys : List Out) → x ∷ xs ≡ y ∷ ys → x ≡ y
+same_first x y xs ys e = cc
+
+-- where a piece comes next, some are left
+pub some_left : (images : List Image) (h : Handing) (r : PieceRecord) → IsNextPiece images h r → records_left images h ≡ [] → ⊥
+some_left images h r n none = let no : [] ≡ record_of r ∷ n.rest = sym none ∙ n.left in cc
+
+-- so a piece that was put is passed
+pub piece_put : {before after : Logged} (list : ImageList) (old new : Handing) (r : PieceRecord) → IsNextPiece list.images old r → PassesNext list old new → Puts before after (out_text (record_of r)) →
+    IsAtPiece list new × PutsNext list.images old new before after
+piece_put {before} {after} list old new r comes passes puts =
+    let same : record_of r ≡ passes.next = same_first _ _ _ _ (sym comes.left ∙ passes.left) in (
+      passes.at,
+      record { next = passes.next; left = passes.left; puts = subst (λ x. Puts before after (out_texts (x ∷ []))) same (Puts-one (record_of r) puts) },
     )

@@ -1,7 +1,7 @@
 -- How far a hand-off is, and what putting a piece does to it.
-use Rattle.std.specs.Prelude.{◌≡◌, ◌<◌, ◌≤◌, ℕ, ◌+◌, Bool, true, false, List, [], ◌∷◌, ◌++◌, length, drop, Option, None, slice_get, IfSome}
+use Rattle.std.specs.Prelude.{◌≡◌, ◌<◌, ◌≤◌, ℕ, ◌+◌, Bool, true, false, List, [], ◌∷◌, ◌++◌, length, drop, Option, Some, None, slice_get, IfSome}
 use Rattle.std.specs.List.{flat_map, AllByRecursion}
-use Rattle.nb_defs.specs.Records.{Out, out_texts}
+use Rattle.nb_defs.specs.Records.{Out, out_texts, part}
 use Rattle.nb_record.specs.Logged.{Logged, Puts}
 use Rattle.nb_image.specs.declared.image.Image.{Image}
 use Rattle.nb_image.specs.Images.{ImageList}
@@ -9,6 +9,7 @@ use Rattle.nb_image.specs.Parts.{PartText, parts, table_parts, sector_part}
 use Rattle.nb_runner.specs.declared.handing.Booted.{Booted}
 use Rattle.nb_runner.specs.declared.handing.Booted.TheVariants as booted
 use Rattle.nb_runner.specs.declared.handing.Handing.{Handing}
+use Rattle.nb_runner.specs.declared.piece_record.PieceRecord.{PieceRecord}
 use Rattle.nb_machine.specs.Conclusions.{part_records}
 
 -- an image's texts are short, and its body is an image's
@@ -55,6 +56,27 @@ pub record IsAtPiece (list : ImageList) (h : Handing) : Type 0 where
   pub behind : slice_get (parts_handed list.images h) h.part ≡ None → h.piece ≡ 0
   pub short : AreShortImages list.images
   pub table : IsShortTable h.table
+
+-- a piece's record
+abbrev pub record_of : PieceRecord → Out
+record_of p = part p.kind p.index p.offset p.bytes.now
+
+-- this piece's record, which is short, is the first of those still to come
+pub record IsNextPiece (images : List Image) (h : Handing) (p : PieceRecord) : Type 0 where
+  pub rest : List Out
+  pub left : records_left images h ≡ record_of p ∷ rest
+  pub short : length p.bytes.now ≤ 65536
+
+-- so it is, or none is still to come
+abbrev pub ComesNext : Option PieceRecord → List Image → Handing → Type 0
+ComesNext None images h = records_left images h ≡ []
+ComesNext (Some p) images h = IsNextPiece images h p
+
+-- the next record, which there is, is passed
+pub record PassesNext (list : ImageList) (old new : Handing) : Type 0 where
+  pub at : IsAtPiece list new
+  pub next : Out
+  pub left : records_left list.images old ≡ next ∷ records_left list.images new
 
 -- the next record was put, or there is none
 pub record PutsNext (images : List Image) (old new : Handing) (before after : Logged) : Type 0 where

@@ -1,9 +1,9 @@
 ghost use Rattle.std.specs.Prelude.{◌≡◌, ◌<◌, ◌≤◌, ◌∷◌, [], true, false, length, option_map, slice_get, IfSome};
 ghost use Rattle.std.specs.Option.{option_copied};
 ghost use Rattle.nb_image.specs.Parts.{part_text, sector_part, table_parts};
-ghost use Rattle.nb_record.specs.Logged.{Puts};
-ghost use Rattle.nb_runner.specs.Handings.{FitsBooted, HandsOn, IsAtPiece, booted_parts, moved_on, parts_handed};
+ghost use Rattle.nb_runner.specs.Handings.{ComesNext, FitsBooted, HandsOn, IsAtPiece, PassesNext, booted_parts, moved_on, parts_handed, records_left};
 
+use crate::PieceRecord;
 use nb_image::{Handoff, Images, Part, PartBytes, PartKind};
 use nb_record::{Log, OutRec};
 use nb_wire::Text;
@@ -115,25 +115,53 @@ impl Handing {
         self.booted.part(images, self.part)
     }
 
+    /// The record of the next piece. None where all was put.
+    pub fn next_piece<'a>(&'a self, images: &'a Images) -> Option<PieceRecord<'a>>
+        requires { IsAtPiece images.now self.now }
+        ensures { ComesNext result images.now.images self.now }
+    {
+        let Some(part) = self.next_part(images) else {
+            return None;
+        };
+        let Some(piece) = part.piece(self.piece) else {
+            unreachable!()
+        };
+        Some(PieceRecord {
+            kind: part.kind.number(),
+            index: part.index,
+            offset: piece.offset as u32,
+            bytes: piece.bytes,
+        })
+    }
+
+    /// The next piece was put: another comes next, if any is left.
+    pub fn pass_piece(&mut self, images: &Images)
+        requires at { IsAtPiece images.now self.old }
+        requires some { records_left images.now.images self.old ≡ [] → ⊥ }
+        ensures { PassesNext images.now self.old self.new }
+    {
+        let Some(part) = self.next_part(images) else {
+            unreachable!()
+        };
+        let last = self.piece + 1 == part.piece_count();
+        self.go_on(last);
+    }
+
     /// Puts the next piece. False where all was put.
     pub fn put_piece(&mut self, images: &Images, log: &mut Log) -> bool
         requires { IsAtPiece images.now self.old }
         ensures { HandsOn result images.now self.old self.new log.old log.new }
     {
-        let Some(part) = self.next_part(images) else {
+        let Some(piece) = self.next_piece(images) else {
             return false;
         };
-        let Some(piece) = part.piece(self.piece) else {
-            unreachable!()
-        };
         log.put(&OutRec::Part {
-            kind: part.kind.number(),
-            index: part.index,
-            offset: piece.offset as u32,
+            kind: piece.kind,
+            index: piece.index,
+            offset: piece.offset,
             bytes: piece.bytes,
         });
-        let last = self.piece + 1 == part.piece_count();
-        self.go_on(last);
+        self.pass_piece(images);
         true
     }
 

@@ -1,74 +1,15 @@
-use Rattle.std.proofs.Common.{◌≡◌, ◌+◌, ◌<◌, ◌==◌, length, Some, None, refl, sym, ◌∙◌, ap, subst, arith}
-use Rattle.std.specs.Prelude.{slice_get}
-use Rattle.std.specs.Option.{option_map}
-use Rattle.nb_image.specs.Parts.{part_text, piece_text, part_pieces}
-use Rattle.nb_defs.specs.Records.{out_text, part}
-use Rattle.nb_record.specs.Logged.{Puts}
-use Rattle.nb_machine.specs.Conclusions.{part_records, piece_record}
-use Rattle.nb_runner.specs.Handings.{parts_handed}
-use Rattle.nb_runner.proofs.Puts.{Puts-one}
-use Rattle.nb_runner.proofs.HandingLemmas.{none_left, part_small, past_end, piece_at_place, piece_done, records_of_part}
+use Rattle.std.proofs.Common.{refl}
+use Rattle.nb_runner.proofs.HandingLemmas.{piece_put, some_left}
 use Rattle.nb_runner.proofs.handing.Handing.put_piece.Goals as goal
 
-pub overflow_cast-piece : goal.overflow_cast-piece
-overflow_cast-piece c =
-    let h = c.args.self.now in
-    let is = sym c.next_part.ensures.value ∙ ap (λ o. option_map part_text o) c.in-Some.is in
-    let got = sym c.piece.ensures ∙ ap (λ o. option_map piece_text o) c.in-Some-piece.is in
-    let small = part_small c.args.images.now.images h h.part (part_text c.in-Some.part) c.requires.booted c.requires.short c.requires.table is in
-    let at = piece_at_place (part_text c.in-Some.part).bytes h.piece (piece_text c.in-Some-piece.piece) small got in
-    rw at.offset (omega (arith, at.fits))
-
 pub put-requires : goal.put-requires
-put-requires c =
-    let h = c.args.self.now in
-    let is = sym c.next_part.ensures.value ∙ ap (λ o. option_map part_text o) c.in-Some.is in
-    let got = sym c.piece.ensures ∙ ap (λ o. option_map piece_text o) c.in-Some-piece.is in
-    let small = part_small c.args.images.now.images h h.part (part_text c.in-Some.part) c.requires.booted c.requires.short c.requires.table is in
-    (piece_at_place (part_text c.in-Some.part).bytes h.piece (piece_text c.in-Some-piece.piece) small got).short
+put-requires c = c.in-Some.ensures.short
 
-pub overflow_add-last : goal.overflow_add-last
-overflow_add-last c =
-    let h = c.args.self.now in
-    let is = sym c.next_part.ensures.value ∙ ap (λ o. option_map part_text o) c.in-Some.is in
-    let got = sym c.piece.ensures ∙ ap (λ o. option_map piece_text o) c.in-Some-piece.is in
-    let small = part_small c.args.images.now.images h h.part (part_text c.in-Some.part) c.requires.booted c.requires.short c.requires.table is in
-    let at = piece_at_place (part_text c.in-Some.part).bytes h.piece (piece_text c.in-Some-piece.piece) small got in
-    omega (arith, at.fits)
-
-pub go_on-requires-clause-piece : goal.go_on-requires-clause-piece
-go_on-requires-clause-piece c =
-    let h = c.args.self.now in
-    let is = sym c.next_part.ensures.value ∙ ap (λ o. option_map part_text o) c.in-Some.is in
-    let got = sym c.piece.ensures ∙ ap (λ o. option_map piece_text o) c.in-Some-piece.is in
-    let small = part_small c.args.images.now.images h h.part (part_text c.in-Some.part) c.requires.booted c.requires.short c.requires.table is in
-    let at = piece_at_place (part_text c.in-Some.part).bytes h.piece (piece_text c.in-Some-piece.piece) small got in
-    omega (arith, at.fits)
-
-pub unreachable-requires : goal.unreachable-requires
-unreachable-requires c =
-    let h = c.args.self.now in
-    let ps = parts_handed c.args.images.now.images h in
-    let p = part_text c.in-Some.part in
-    let is : slice_get ps h.part ≡ Some p = sym c.next_part.ensures.value ∙ ap (λ o. option_map part_text o) c.in-Some.is in
-    let none : slice_get (part_pieces p.bytes) h.piece ≡ None = sym c.piece.ensures ∙ ap (λ o. option_map piece_text o) c.in_default-piece.is in
-    let here : h.piece < length (part_records p) = rw is at c.requires.piece in
-    omega (arith, here, records_of_part p, past_end (part_pieces p.bytes) h.piece none)
+pub pass_piece-requires-clause-some : goal.pass_piece-requires-clause-some
+pass_piece-requires-clause-some c = some_left c.args.images.now.images c.args.self.now c.in-Some.piece c.in-Some.ensures
 
 pub returns-in_default : goal.returns-in_default
-returns-in_default c =
-    let h = c.args.self.now in
-    let ps = parts_handed c.args.images.now.images h in
-    let none : slice_get ps h.part ≡ None = sym c.next_part.ensures.value ∙ ap (λ o. option_map part_text o) c.in_default.is in
-    (none_left ps h.part h.piece none, refl, refl)
+returns-in_default c = (c.in_default.ensures, refl, refl)
 
 pub returns : goal.returns
-returns c =
-    let h = c.args.self.now in
-    let ps = parts_handed c.args.images.now.images h in
-    let p = part_text c.in-Some.part in
-    let piece = piece_text c.in-Some-piece.piece in
-    let is : slice_get ps h.part ≡ Some p = sym c.next_part.ensures.value ∙ ap (λ o. option_map part_text o) c.in-Some.is in
-    let got : slice_get (part_pieces p.bytes) h.piece ≡ Some piece = sym c.piece.ensures ∙ ap (λ o. option_map piece_text o) c.in-Some-piece.is in
-    let puts = Puts-one (piece_record p piece) (subst (λ k. Puts c.args.log.now c.put.new.self (out_text (part k c.in-Some.part.index c.in-Some-piece.piece.offset c.in-Some-piece.piece.bytes.now))) c.number.ensures c.put.ensures) in
-    rw c.go_on.ensures (piece_done c.args.images.now h p piece _ c.requires is got (ap (λ n. h.piece + 1 == n) (records_of_part p ∙ sym c.piece_count.ensures)) puts)
+returns c = piece_put c.args.images.now c.args.self.now c.pass_piece.new.self c.in-Some.piece c.in-Some.ensures c.pass_piece.ensures c.put.ensures
