@@ -5,7 +5,7 @@ use Rattle.nb_record.specs.Logged.{Logged, Puts}
 use Rattle.nb_client.specs.Snapshots.{Snapshot}
 use Rattle.nb_client.specs.Progressing.{Advances, IsAtWork}
 use Rattle.nb_runner.specs.declared.status.Status.{Status}
-use Rattle.nb_boot.specs.Going.{CutsAll, Going, IsFlaw, KeepsRun, LeadsOn, Stops, WritesPiece, Wrote, flaw_status, with_more}
+use Rattle.nb_boot.specs.Going.{CutsAll, Going, IsFlaw, KeepsRun, LeadsOn, Stops, WritesPiece, Wrote, flaw_status, log_with_more}
 use Rattle.nb_boot.specs.declared.output.Flaw.{Flaw}
 use Rattle.nb_boot.specs.declared.output.Flaw.TheVariants as flaw
 use Rattle.nb_boot.proofs.Cuttings.{flaw_cuts}
@@ -13,7 +13,7 @@ use Rattle.nb_boot.proofs.Goings.{going_flushed, going_grows}
 use Rattle.nb_boot.proofs.Turned.{Keeps, cut_stops, keeps_log, keeps_then}
 
 -- bytes that are put into a log which isn't short
-more_puts : (log : Logged) (more : List ℕ) → log.is_short ≡ false → Puts log (with_more log more) more
+more_puts : (log : Logged) (more : List ℕ) → log.is_short ≡ false → Puts log (log_with_more log more) more
 more_puts log more whole = record {
   room_stays = refl;
   whole = λ e. (e, refl);
@@ -33,28 +33,28 @@ GoesBy log more c c' = (new : Logged) → Puts log new more → Advances [] c c'
 pub piece_leads : (before now : Outside) (log new : Logged) (more : List ℕ) (c c' : Snapshot) → log.is_short ≡ false → Wrote before now (log.bytes ++ more) →
     new ≡ record { bytes = []; room = log.room; is_short = false } → GoesBy log more c c' → IsAtWork c.stage → IsAtWork c'.stage × LeadsOn [] before now log new c c'
 piece_leads before now log new more c c' whole wrote cleared goes busy =
-    let does = goes (with_more log more) (more_puts log more whole) in (
+    let does = goes (log_with_more log more) (more_puts log more whole) in (
       does.1,
       λ ins rest first r.
-          let g = going_grows [] ins rest first before log (with_more log more) c c' does.0 busy tt r in
+          let g = going_grows [] ins rest first before log (log_with_more log more) c c' does.0 busy tt r in
           record {
             progress = g.progress;
             holdings = g.holdings;
             stands = g.stands;
             fits = g.fits;
             going = subst (λ l. Going (ins ++ []) rest first now l g.progress g.holdings) (sym cleared)
-                (going_flushed (ins ++ []) rest first before now (with_more log more) g.progress g.holdings log.room whole wrote g.going);
+                (going_flushed (ins ++ []) rest first before now (log_with_more log more) g.progress g.holdings log.room whole wrote g.going);
           },
     )
 
 -- it couldn't be written, and a run is cut short
-pub piece_cuts : (f : Flaw) (before now : Outside) (log : Logged) (more : List ℕ) (c c' : Snapshot) → IsFlaw f before now (with_more log more) → GoesBy log more c c' → IsAtWork c.stage →
+pub piece_cuts : (f : Flaw) (before now : Outside) (log : Logged) (more : List ℕ) (c c' : Snapshot) → IsFlaw f before now (log_with_more log more) → GoesBy log more c c' → IsAtWork c.stage →
     Stops (flaw_status f) [] before now log c
 piece_cuts flaw.NoMemory before now log more c c' f goes busy = λ ins rest first r. flaw_cuts flaw.NoMemory before now log f rest ins first r.progress r.holdings r.going
 piece_cuts flaw.WriteFault before now log more c c' f goes busy = λ ins rest first r.
-    let does = goes (with_more log more) (more_puts log more f.0) in
-    let g = going_grows [] ins rest first before log (with_more log more) c c' does.0 busy tt r in
-    flaw_cuts flaw.WriteFault before now (with_more log more) f rest (ins ++ []) first g.progress g.holdings g.going
+    let does = goes (log_with_more log more) (more_puts log more f.0) in
+    let g = going_grows [] ins rest first before log (log_with_more log more) c c' does.0 busy tt r in
+    flaw_cuts flaw.WriteFault before now (log_with_more log more) f rest (ins ++ []) first g.progress g.holdings g.going
 
 -- where none comes next, a run stands as it stood
 none_keeps : (is : Bool) (before mid at : Outside) (old log same : Logged) (c c1 c2 : Snapshot) → is ≡ false → WritesPiece is mid at log same c1 c2 → at ≡ mid →

@@ -82,8 +82,8 @@ IsFlaw flaw.WriteFault before after log = (log.is_short ≡ false) × Stopped be
 IsFlaw flaw.NoMemory before after log = Wrote before after []
 
 -- a log that has gathered these bytes more
-abbrev pub with_more : Logged → List ℕ → Logged
-with_more log more = record { bytes = log.bytes ++ more; room = log.room; is_short = log.is_short }
+abbrev pub log_with_more : Logged → List ℕ → Logged
+log_with_more log more = record { bytes = log.bytes ++ more; room = log.room; is_short = log.is_short }
 
 -- whatever run went on before, it goes on afterwards, with this held of what was read
 abbrev pub KeepsRun : List ℕ → List ℕ → Outside → Outside → Logged → Logged → Type 0

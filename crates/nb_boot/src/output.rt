@@ -1,5 +1,5 @@
 ghost use Rattle.std.specs.Prelude.{◌≡◌, ◌≤◌, ◌++◌, [], false, length, List, ℕ, OnOk, OnErr, IfErr};
-ghost use Rattle.nb_boot.specs.Going.{Wrote, Stopped, IsFlaw, KeepsRun, CutsAll, flaw_status, with_more};
+ghost use Rattle.nb_boot.specs.Going.{Wrote, Stopped, IsFlaw, KeepsRun, CutsAll, flaw_status, log_with_more};
 
 use crate::Status;
 use nb_record::{Failed, Line, Log};
@@ -66,7 +66,7 @@ pub fn flush_with<L: Line>(
     ensures ok { OnOk result (Wrote (L.outside line.old) (L.outside line.new) (log.old.bytes ++ (head.now ++ page.now))) }
     ensures whole { OnOk result (log.old.is_short ≡ false) }
     ensures cleared { OnOk result (log.new ≡ record { bytes = []; room = log.old.room; is_short = false }) }
-    ensures err { IfErr result (λ flaw. IsFlaw flaw (L.outside line.old) (L.outside line.new) (with_more log.old (head.now ++ page.now))) }
+    ensures err { IfErr result (λ flaw. IsFlaw flaw (L.outside line.old) (L.outside line.new) (log_with_more log.old (head.now ++ page.now))) }
 {
     match flush(log, line) {
         Ok(()) => {}
