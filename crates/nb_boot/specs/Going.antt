@@ -5,8 +5,7 @@ use Rattle.nb_machine.specs.Courses.{Progress, nowhere}
 use Rattle.nb_traced.specs.Holdings.{Holdings, no_holdings}
 use Rattle.nb_traced.specs.Outputs.{Arrived, Traced}
 use Rattle.nb_client.specs.Snapshots.{Snapshot, StandsForProgress, FitsOutput}
-use Rattle.nb_client.specs.Progressing.{IsAtWork, IsFinal, AwaitsRecord, ComesNearer, RunEndsWith}
-use Rattle.nb_client.specs.declared.client.Turn.TheVariants as turn
+use Rattle.nb_client.specs.Progressing.{IsAtWork, IsFinal, AwaitsRecord, RunEndsWith, most_moves}
 use Rattle.nb_record.specs.Outside.{Outside, Passes, Rose, IsAtEnd}
 use Rattle.nb_record.specs.Logged.{Logged}
 use Rattle.nb_record.specs.declared.notes.ReadNote.{ReadNote}
@@ -135,7 +134,7 @@ StepsTo (ending.Cut f) used before now old new c c' = Stops (flaw_status f) used
 
 -- a piece was written and the step goes on, nearer to its end; or there was none, and nothing was done
 abbrev pub WritesPiece : Bool → Outside → Outside → Logged → Logged → Snapshot → Snapshot → Type 0
-WritesPiece true before now old new c c' = IsAtWork c'.stage × LeadsOn [] before now old new c c' × ComesNearer turn.More c c'
+WritesPiece true before now old new c c' = IsAtWork c'.stage × LeadsOn [] before now old new c c' × (most_moves c'.stage c' < most_moves c.stage c)
 WritesPiece false before now old new c c' = (new ≡ old) × (c' ≡ c)
 
 -- a turn's status: the run's, or out of memory

@@ -124,6 +124,6 @@ same_handing h h' e = cc
 pub piece_turns : (n : ℕ) (w : World) (m : Many) (h h' : Handing) → IsSound n w m (stage.HandingOff h) → PassesNext w.state.images h h' →
     PassesPiece (snapshot n w m (stage.HandingOff h)) (snapshot n w m (stage.HandingOff h'))
 piece_turns n w m h h' sound passes = λ p old new next puts.
-    let comes : IsNextPiece w.state.images.images h p = subst (λ x. IsNextPiece w.state.images.images x p) (same_handing h next.handing next.stage) next.next in
+    let comes : IsNextPiece w.state.images.images h p = subst (λ x. IsNextPiece w.state.images.images x p) (same_handing h next.under_way next.is) next.next in
     let goes = piece_goes n w m h h' sound (piece_put w.state.images h h' p comes passes puts) in
     (goes.goes.advances, tt)

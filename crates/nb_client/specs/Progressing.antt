@@ -227,9 +227,9 @@ ComesNearer (turn.Over s) before after = Unit {0}
 
 -- a hand-off is under way, and this piece's record is the next
 pub record HandsNext (p : PieceRecord) (c : Snapshot) : Type 0 where
-  pub handing : Handing
-  pub stage : c.stage ≡ stage.HandingOff handing
-  pub next : IsNextPiece c.world.state.images.images handing p
+  pub under_way : Handing
+  pub is : c.stage ≡ stage.HandingOff under_way
+  pub next : IsNextPiece c.world.state.images.images under_way p
 
 -- there is one
 abbrev pub HasNextPiece : Snapshot → Type 0
