@@ -35,7 +35,7 @@ use Rattle.nb_drivetalks.proofs.Talks.{Failed, ran_out}
 use Rattle.nb_drivetalks.proofs.Units.{none_left}
 use Rattle.nb_drivetalks.proofs.Walking.{DriveCall, Walk, view}
 
--- A segment came: it failed, or the connection took it, and so much of the stream went up.
+-- A segment came: it failed, or the connection has it, and so much of the stream rose.
 pub data SegmentDid (c : DriveCall) (n : ℕ) (ds : List (Deed Obj Load)) (b : ConnAsk) (start : ℕ) (calls : List ConnEntry) (a : DriveAskParts) (tasks : List (ReadTask × ℕ)) (come : List ℕ) (m : Said) (s : SegmentParts) : Type 0 where
   segment_fails : Failed c ds → SegmentDid c n ds b start calls a tasks come m s
   segment_does : (acts : Acts) (es behind : List ConnEntry) (gave : List ℕ) (out : Option Lent) → es ≡ calls ++ conn_entry (calls_in (segment_came (arriving m.rec s) c.now)) acts ∷ behind → LetsUp acts.ready behind gave
