@@ -59,7 +59,7 @@ module _ (a : ConnAsk) (start : ℕ) (calls : List TcpCall) (entries : List Conn
     pub ends_so : acts.over ≡ segment_end a.isn phase m
     ends_so = ap (λ (z : Acts). z.over) asked
 
-    -- with what went up then all has gone up
+    -- with what rose then all has risen
     pub comes_so : (es behind more : List ConnEntry) (up : List ℕ) → LetsUp acts.ready behind up → es ≡ (entries ++ entry ∷ behind) ++ more → ConnKeeps (link_of a) start es
         → stream_by a calls ++ up ≡ stream_by a (calls ++ segment_came m now ∷ [])
     comes_so es _ more _ (lets_none none) is keeps =

@@ -97,7 +97,7 @@ gave_all _ a start entries (while_talking r _ _ _ _ t) = all_went_up (link_of a)
 
 -- WHERE THEY ARE THEN
 
--- Nothing was closed in a call of the connection: all go on, with what it asked, and what went up then.
+-- Nothing was closed in a call of the connection: all go on, with what it asked, and what rose then.
 pub record GoesOn (c : WebCall) (ds : List (Deed Obj Load)) (a : ConnAsk) (start : ℕ) (entries : List ConnEntry) (call : TcpCall) (q : AskParts) (stream : List ℕ) (rec : ℕ) : Type 0 where
   pub acts : Acts
   pub sent : List ℕ

@@ -54,7 +54,7 @@ pub data TimeDid (c : WebCall) (n : ℕ) (ds : List (Deed Obj Load)) (b : ConnAs
   time_does : (acts : Acts) → CallDid c n ds (talked_on b start (calls ++ conn_entry (calls_in (time_came c.now)) acts ∷ []) None acts.over) acts.over (downs_for 0 acts) q 0 stream [] false → TimeDid c n ds b start calls q stream
 
 module _ {c : WebCall} {n : ℕ} {a : List (NodeEntry Obj Load)} {ds : List (Deed Obj Load)} {q : AskParts} {core : Core} {stream given : List ℕ} {b : ConnAsk} {start : ℕ} {calls : List ConnEntry} (reads : ReadsOn core stream given) (going : gathers a ≡ true) (taken : taken_below a ≡ given) where
-  -- it took all of the message, with what stands behind it then
+  -- it has all of the message, with what follows it then
   took_it : (m : Said) (s : SegmentParts) (acts : Acts) (es behind : List ConnEntry) (out : Option Lent) (sent : Option (List ℕ)) (fx : Fx Obj Load) → length m.bytes < 2 ^ 32
       → es ≡ calls ++ conn_entry (calls_in (segment_came (arriving m.rec s) c.now)) acts ∷ behind → LetsUp acts.ready behind (sent_bytes sent)
       → ConnEffects conn_carrier m acts (says_up m.rec sent (comes_to_end b calls (with_segment_call calls m.rec s c.now acts))) (closes_for acts.over) (in_list out) fx → TookAll m fx
