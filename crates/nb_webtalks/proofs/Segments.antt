@@ -111,7 +111,7 @@ module _ (a : ConnAsk) (start : ℕ) (calls : List TcpCall) (entries : List Conn
     ends_so : acts.over ≡ segment_end a.isn phase m
     ends_so = ap (λ (z : Acts). z.over) asked
 
-    -- with what went up all has
+    -- with what rose all has
     comes_so : (es more behind : List ConnEntry) (sent : List ℕ) → es ≡ entries ++ entry ∷ (behind ++ more) → ConnKeeps (link_of a) start es → LetsUp acts.ready behind sent → stream_by a calls ++ sent ≡ stream_by a (calls_with_segment calls m now)
     comes_so es more _ _ is keeps (lets_none idle) =
         append-nil (stream_by a calls)
