@@ -1,5 +1,5 @@
 -- The least bytes that decide a head, and what they come to.
-use Rattle.std.proofs.Common.{◌≡◌, ◌≤◌, ◌<◌, ℕ, ◌-◌, List, [], ◌++◌, length, take, drop, Option, Some, None, true, false, refl, ap, ◌∙◌, sym, subst, arith, leb, length-append}
+use Rattle.std.proofs.Common.{◌≡◌, ◌≤◌, ◌<◌, ℕ, ◌-◌, List, [], ◌++◌, length, take, drop, Option, None, true, false, refl, ap, ◌∙◌, sym, subst, arith, leb, length-append}
 use Rattle.std.proofs.lemmas.Bool.{lt-leb, leb-true, leb-false}
 use Rattle.std.proofs.lemmas.List.{take_all, length-take, take-append-le, take-append-drop}
 use Rattle.nb_terms.specs.declared.cause.Cause.{Cause}

@@ -1,16 +1,16 @@
 -- What the bytes of a head so far come to.
 use Rattle.std.proofs.Common.{◌≡◌, ◌≤◌, ◌<◌, inl, inr, ℕ, ◌-◌, ◌^◌, ◌&&◌, List, [], ◌++◌, length, take, drop, min, Option, Some, None, Bool, true, false, refl, ap, ◌∙◌, sym, subst, arith, eqb, ltb, leb, length-append, slice_range, if◌then◌else◌, codes}
 use Rattle.std.specs.Option.{option_map}
-use Rattle.std.proofs.lemmas.Bool.{ne_eqb, eq-eqb, lt-ltb, ltb-true, ltb-false, le-leb, lt-leb, leb-true, leb-false, false≢true}
-use Rattle.std.proofs.lemmas.List.{take_all, drop_all, length-take, take-append-le, take-append-drop}
+use Rattle.std.proofs.lemmas.Bool.{ne_eqb, eq-eqb, lt-ltb, ltb-true, ltb-false, le-leb, lt-leb, leb-false, false≢true}
+use Rattle.std.proofs.lemmas.List.{take_all, drop_all, length-take}
 use Rattle.std.specs.Prelude.{IfSome}
 use Rattle.std.proofs.lemmas.Option.{none-some, same_Some}
 use Rattle.httparse.specs.Grammar.{ResponseHead, status_code}
 use Rattle.nb_terms.specs.declared.cause.Cause.{Cause}
-use Rattle.nb_responses.specs.Lines.{LineBlock, whole, unfinished, crowded, first_block, Found, found, missing, too_many, too_long, found_by, head_block, limit, most_lines}
+use Rattle.nb_responses.specs.Lines.{whole, unfinished, first_block, Found, found, missing, too_many, too_long, found_by, head_block, limit, most_lines}
 use Rattle.nb_responses.specs.Heads.{Framing, sized, chunked, to_end, bad, framing, is_interim, is_move, moves_to, moves_to_first, values}
-use Rattle.nb_responses.specs.Chunks.{Verdict, body, moved, status, broken, large, long, many, response}
-use Rattle.nb_responses.specs.Responses.{most_bytes, ReadsBody, verdict_by, no_block_verdict, Final, no_block, no_head, by_head, by_body}
+use Rattle.nb_responses.specs.Chunks.{Verdict, body, moved, status, broken, large, long, response}
+use Rattle.nb_responses.specs.Responses.{most_bytes, ReadsBody, verdict_by, no_block_verdict, no_block, by_head, by_body}
 use Rattle.nb_responses.proofs.Cases.{either}
 use Rattle.nb_responses.proofs.LineLaws.{block_alone, block_longer, missing_unfinished}
 use Rattle.nb_responses.proofs.BlockLaws.{whole_shorter}
@@ -18,7 +18,7 @@ use Rattle.nb_httpmsg.proofs.LeastLemmas.{less}
 use Rattle.nb_httpmsg.specs.declared.head.HeadInfo.{HeadInfo}
 use Rattle.nb_httpmsg.specs.declared.head.BodyKind.{BodyKind}
 use Rattle.nb_httpmsg.specs.declared.head.BodyKind.TheVariants as kind
-use Rattle.nb_httpmsg.specs.HeadInfos.{IsInfoOf, body_kind, BeginsWithHead, BeginsWithoutHead}
+use Rattle.nb_httpmsg.specs.HeadInfos.{IsInfoOf, body_kind, BeginsWithHead}
 use Rattle.nb_httpmsg.proofs.FeedLemmas.{no_longer}
 use Rattle.nb_httpmsg.proofs.BlockLemmas.{take_within}
 use Rattle.nb_http.specs.declared.state.State.{State}

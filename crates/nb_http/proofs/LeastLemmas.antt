@@ -1,23 +1,21 @@
 -- Only the last byte that a call takes can decide the response.
-use Rattle.std.proofs.Common.{◌≡◌, ◌≤◌, ◌<◌, ℕ, zero, suc, ◌+◌, ◌-◌, List, [], ◌∷◌, ◌++◌, length, take, min, false, refl, ap, ◌∙◌, sym, subst, arith, append-nil, append_assoc, length-append, leb}
+use Rattle.std.proofs.Common.{◌≡◌, ◌≤◌, ◌<◌, ℕ, ◌+◌, ◌-◌, List, [], ◌++◌, length, take, min, false, refl, ap, ◌∙◌, sym, subst, arith, append-nil, append_assoc, length-append, leb}
 use Rattle.std.specs.List.{concat}
 use Rattle.std.proofs.lemmas.Bool.{leb-true, leb-false}
 use Rattle.std.proofs.lemmas.List.{length-take, take-append-le, take_all}
 use Rattle.nb_responses.specs.Lines.{head_block, missing}
-use Rattle.nb_responses.specs.Heads.{framing, sized, chunked}
+use Rattle.nb_responses.specs.Heads.{sized, chunked}
 use Rattle.nb_responses.specs.Chunks.{more, open_body, response}
 use Rattle.nb_readings.proofs.ReadingLemmas.{chunked_body}
 use Rattle.nb_responses.specs.Responses.{most_bytes, no_block, no_block_verdict, by_end}
 use Rattle.nb_responses.proofs.Cases.{either}
 use Rattle.nb_responses.proofs.LineLaws.{take_front}
-use Rattle.nb_httpmsg.specs.Feeding.{StandsForBody}
 use Rattle.nb_httpmsg.specs.Leasts.{IsNotEnough, TakesLeast}
-use Rattle.nb_httpmsg.proofs.BlockLemmas.{take_within}
 use Rattle.nb_httpmsg.proofs.FeedLemmas.{kept_front}
 use Rattle.nb_httpmsg.proofs.LeastLemmas.{less}
 use Rattle.nb_http.specs.declared.state.State.TheVariants.{Head, Sized, Chunked, ToEnd}
 use Rattle.nb_http.specs.declared.head_step.HeadStep.{HeadStep}
-use Rattle.nb_http.specs.Standing.{Core, AtHead, AtSized, AtChunked, AtToEnd, LiveAt, IsReading, HasReadStream, DecidesLast, is_over}
+use Rattle.nb_http.specs.Standing.{Core, AtHead, AtSized, AtChunked, AtToEnd, LiveAt, IsReading, DecidesLast}
 use Rattle.nb_http.specs.HeadReading.{IsHeadRead}
 use Rattle.nb_http.proofs.StandsLemmas.{Undecided, with_more, body_reads, sized_reads, to_end_reads, unlimited, read_by}
 

@@ -9,7 +9,7 @@ use Rattle.nb_terms.specs.declared.cause.Cause.{Cause}
 use Rattle.nb_responses.specs.Lines.{head_block}
 use Rattle.nb_responses.specs.Heads.{Framing, framing, sized, chunked, to_end}
 use Rattle.nb_responses.specs.Chunks.{Verdict, more, open_body, body, broken, Response, response}
-use Rattle.nb_responses.specs.Responses.{most_bytes, within_limit, sized_response, ReadsBody, Final, no_block, by_body, no_block_verdict, IsInterim, ReadsSoFar, by_end, before_end}
+use Rattle.nb_responses.specs.Responses.{most_bytes, within_limit, sized_response, ReadsBody, Final, no_block, by_body, no_block_verdict, IsInterim, by_end, before_end}
 use Rattle.nb_readings.specs.Readings.{read_so_far, response_read}
 use Rattle.nb_readings.proofs.ReadingLemmas.{chunked_body, reading_only}
 use Rattle.nb_responses.proofs.LineLaws.{head_block_more}

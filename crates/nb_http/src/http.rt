@@ -3,6 +3,7 @@
 ghost use Rattle.std.specs.Prelude.{◌≡◌, ◌<◌, ◌^◌};
 ghost use Rattle.nb_http.specs.Giving.{range_to};
 ghost use Rattle.nb_http.specs.Standing.{end_at, state_at_end};
+ghost use Rattle.nb_http.specs.declared.state.State.TheVariants.{Sized};
 
 use crate::causes::{not_a_response, ok};
 use crate::request::request;
@@ -110,6 +111,65 @@ impl Http {
     /// end. `rec` is the number of the record that brought them.
     #[inline(always)]
     pub fn bytes(&mut self, rec: u32, first: &[u8], second: &[u8], acts: &mut Acts) -> u32
+        requires { length first.now + length second.now < 2 ^ 32 }
+        // What it took and what goes up, added to all before, is what it stands for.
+        ensures stands { TakesFirst rec self.old.core self.new (first.now ++ second.now) result acts.new }
+        ensures within { result ≤ length (first.now ++ second.now) }
+        ensures some { is_over self.old.core.state ≡ false
+            → 0 < length (first.now ++ second.now) → 0 < result }
+        // It takes none past the byte that decides the response.
+        ensures least { DecidesLast self.old.core (take result (first.now ++ second.now)) }
+        ensures hands { HandsUp self.old.core self.new acts.new result }
+        ensures sends { SendsNothing acts.new }
+        // After its end it takes nothing, asks for nothing and stays as it is.
+        ensures ended { is_over self.old.core.state ≡ true → (result ≡ 0) × (acts.new ≡ gives_none) }
+        ensures stays { is_over self.old.core.state ≡ true → self.new.core ≡ self.old.core }
+    {
+        match self.state {
+            State::Sized(left) => self.bytes_sized(rec, left, first, second, acts),
+            _ => self.bytes_apart(rec, first, second, acts),
+        }
+    }
+
+    /// The same for a body whose length is stated, of which so many bytes are left.
+    #[inline(always)]
+    fn bytes_sized(
+        &mut self,
+        rec: u32,
+        left: u64,
+        first: &[u8],
+        second: &[u8],
+        acts: &mut Acts,
+    ) -> u32
+        requires at { self.old.core.state ≡ Sized left }
+        requires count { length first.now + length second.now < 2 ^ 32 }
+        // What it took and what goes up, added to all before, is what it stands for.
+        ensures stands { TakesFirst rec self.old.core self.new (first.now ++ second.now) result acts.new }
+        ensures within { result ≤ length (first.now ++ second.now) }
+        ensures some { is_over self.old.core.state ≡ false
+            → 0 < length (first.now ++ second.now) → 0 < result }
+        // It takes none past the byte that decides the response.
+        ensures least { DecidesLast self.old.core (take result (first.now ++ second.now)) }
+        ensures hands { HandsUp self.old.core self.new acts.new result }
+        ensures sends { SendsNothing acts.new }
+        // After its end it takes nothing, asks for nothing and stays as it is.
+        ensures ended { is_over self.old.core.state ≡ true → (result ≡ 0) × (acts.new ≡ gives_none) }
+        ensures stays { is_over self.old.core.state ≡ true → self.new.core ≡ self.old.core }
+    {
+        acts.clear();
+        self.waiting = 0;
+        let taken = self.take_sized(rec, left, first, second);
+        self.waiting = taken.waiting;
+        let give = range_to(taken.given);
+        acts.give = give;
+        acts.ready = taken.waiting > 0;
+        acts.over = taken.over;
+        taken.len as u32
+    }
+
+    /// The same in any state. Not inlined, as most bytes are of a body whose length is stated.
+    #[inline(never)]
+    fn bytes_apart(&mut self, rec: u32, first: &[u8], second: &[u8], acts: &mut Acts) -> u32
         requires { length first.now + length second.now < 2 ^ 32 }
         // What it took and what goes up, added to all before, is what it stands for.
         ensures stands { TakesFirst rec self.old.core self.new (first.now ++ second.now) result acts.new }

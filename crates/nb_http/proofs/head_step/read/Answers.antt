@@ -1,4 +1,4 @@
-use Rattle.std.proofs.Common.{sym, subst, Option, None, length, take}
+use Rattle.std.proofs.Common.{sym, subst, Option, None, take}
 use Rattle.nb_terms.specs.declared.cause.Cause.{Cause}
 use Rattle.nb_http.specs.declared.state.State.TheVariants.{Over}
 use Rattle.nb_http.specs.HeadReading.{IsHeadRead}
