@@ -207,7 +207,7 @@ fn send_place(told: &mut Spelled, who: &Speaker, msg: &Msg<'_>)
     told.put_advance(who.number, msg.a);
 }
 
-/// A message leaves that isn't a place. Most of these are datagrams or tries.
+/// A message leaves that isn't a place. Most of these are datagrams.
 #[inline(always)]
 fn send_more(told: &mut Spelled, net: &Stack, who: &Speaker, room: &mut Room, msg: &Msg<'_>)
     ensures { SpellsMessage net.now who.now told.old told.new msg.now.tag msg.now.a msg.now.b
@@ -215,14 +215,25 @@ fn send_more(told: &mut Spelled, net: &Stack, who: &Speaker, room: &mut Room, ms
 {
     if msg.tag == u8::from(Tag::Datagram) {
         send_datagram(told, net, who, room, None, msg);
-    } else if msg.tag == u8::from(Tag::Try) {
+    } else {
+        send_late(told, net, who, room, msg);
+    }
+}
+
+/// A message leaves that is neither. Not inlined, so that places and datagrams cost little.
+#[inline(never)]
+fn send_late(told: &mut Spelled, net: &Stack, who: &Speaker, room: &mut Room, msg: &Msg<'_>)
+    ensures { SpellsMessage net.now who.now told.old told.new msg.now.tag msg.now.a msg.now.b
+        (msg.now.first.now ++ msg.now.second.now) }
+{
+    if msg.tag == u8::from(Tag::Try) {
         send_try(told, net, who, room, msg);
     } else {
         send_rare(told, net, who, room, msg);
     }
 }
 
-/// A message of any kind leaves. Not inlined, so that places, datagrams and tries cost little.
+/// A message of any kind leaves.
 #[inline(never)]
 fn send_rare(told: &mut Spelled, net: &Stack, who: &Speaker, room: &mut Room, msg: &Msg<'_>)
     ensures { SpellsMessage net.now who.now told.old told.new msg.now.tag msg.now.a msg.now.b
