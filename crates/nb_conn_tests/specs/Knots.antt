@@ -4,7 +4,7 @@ use Rattle.nb_terms.specs.declared.cause.Cause.{Cause}
 use Rattle.nb_effects.specs.declared.effects.Emit.{Emit}
 use Rattle.nb_effects.specs.declared.effects.Fx.{Fx}
 use Rattle.nb_graph.specs.Trace.{NodeEntry}
-use Rattle.nb_graph.specs.Effects.{AreDowns, AreUps, AreCloses}
+use Rattle.nb_graph.specs.Effects.{AreDowns, AreUps, AreCloseSlots}
 use Rattle.nb_conns.specs.ConnLoads.{Carrier, first_of_conn, second_of_conn}
 use Rattle.nb_conns.specs.Dialogues.{TcpStands}
 use Rattle.nb_conn_tests.specs.declared.knot.Carried.{Carried}
@@ -39,7 +39,7 @@ pub record TakesFew (len : ℕ) (fx : Fx Knot Carried) : Type 0 where
   pub no_make : fx.makes ≡ None
   pub downs : AreDowns len fx.downs
   pub ups : AreUps len fx.ups
-  pub closes : AreCloses fx.closes.items
+  pub closes : AreCloseSlots fx.closes.items
   pub within : fx.took ≤ len
 
 -- one message goes down
@@ -48,4 +48,4 @@ pub record HandsDown (len : ℕ) (fx : Fx Knot Carried) : Type 0 where
   pub no_up : fx.ups.first ≡ None
   pub no_ups : fx.ups.second ≡ None
   pub downs : AreDowns len fx.downs
-  pub closes : AreCloses fx.closes.items
+  pub closes : AreCloseSlots fx.closes.items

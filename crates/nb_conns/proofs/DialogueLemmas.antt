@@ -7,7 +7,7 @@ use Rattle.std.specs.Prelude.{IfSome}
 use Rattle.nb_terms.specs.declared.cause.Cause.{Cause}
 use Rattle.nb_effects.specs.declared.effects.Emit.{Emit}
 use Rattle.nb_effects.specs.declared.effects.Fx.{Fx}
-use Rattle.nb_graph.specs.Effects.{IsNothing, IsDown, IsUp, AreCloses}
+use Rattle.nb_graph.specs.Effects.{IsNothing, IsDown, IsUp, AreCloseSlots}
 use Rattle.nb_ledger.specs.declared.message.Msg.{Msg}
 use Rattle.nb_graph.specs.Trace.{Said, said, NodeEntry, up, down, closed, time, regain, IsSettled}
 use Rattle.nb_conns.specs.declared.conn_load.Lent.{Lent}
@@ -123,7 +123,7 @@ none_alike : {L : Type 0} (o p : Option (Emit L)) → o ≡ None → IfSome o (�
 none_alike None p h = tt
 none_alike (Some e) p h = absurd (none-some e (sym h))
 
-no_close : (xs : List (ℕ × Cause)) → xs ≡ [] → AreCloses xs
+no_close : (xs : List (ℕ × Cause)) → xs ≡ [] → AreCloseSlots xs
 no_close [] h i d below = absurd (omega arith)
 no_close (x ∷ xs) h i d below = absurd (let z = h in cc)
 

@@ -10,27 +10,27 @@ use Rattle.nb_effects.specs.declared.effects.Emit.{Emit}
 use Rattle.nb_effects.specs.declared.effects.Few.{Few}
 use Rattle.nb_effects.specs.declared.effects.Fx.{Fx}
 use Rattle.nb_graph.specs.Trace.{Said, silence, loads, in_list, carried, bytes_between}
-use Rattle.nb_graph.specs.Effects.{AreUps, AreCloses, IsUp}
+use Rattle.nb_graph.specs.Effects.{AreUps, AreCloseSlots, IsUp}
 use Rattle.nb_conns.specs.declared.conn_load.Lent.{Lent}
 use Rattle.nb_conns.specs.ConnLoads.{Carrier, window_of_conn, windows_in}
 use Rattle.nb_conns.specs.ConnEffects.{SendsDown, GivesBack, ConnEffects, ConnWithin, few_say, emit_says, emits_of, received_says, range_emit, ups_for, closes_for, GoesAbove}
 
-both_within : (cause : Cause) → AreCloses ((0, cause) ∷ (1, cause) ∷ [])
+both_within : (cause : Cause) → AreCloseSlots ((0, cause) ∷ (1, cause) ∷ [])
 both_within cause zero d h = omega arith
 both_within cause (suc zero) d h = omega arith
 both_within cause (suc (suc k)) d h = absurd (omega arith)
 
-end_within : (over : Option Cause) → AreCloses (closes_for over)
+end_within : (over : Option Cause) → AreCloseSlots (closes_for over)
 end_within None k d h = absurd (omega arith)
 end_within (Some cause) k d h = both_within cause k d h
 
-below_within : (cause : Cause) → AreCloses ((1, cause) ∷ [])
+below_within : (cause : Cause) → AreCloseSlots ((1, cause) ∷ [])
 below_within cause zero d h = omega arith
 below_within cause (suc k) d h = absurd (omega arith)
 
 pub effects_within : {N L : Type 0} (k : Carrier L) (acts : Acts) (window : Option Lent) (ends : Bool) (over : Option Cause) (fx : Fx N L) (len : ℕ) → fx.makes ≡ None → SendsDown k acts fx.downs → GivesBack k window ends fx.ups → fx.closes.items ≡ closes_for over → ConnWithin len fx
 effects_within k acts window ends over fx len no_make downs ups closes =
-    record { no_make = no_make; downs = downs.within len; ups = ups.within len; closes = subst (λ (z : List (ℕ × Cause)). AreCloses z) (sym closes) (end_within over) }
+    record { no_make = no_make; downs = downs.within len; ups = ups.within len; closes = subst (λ (z : List (ℕ × Cause)). AreCloseSlots z) (sym closes) (end_within over) }
 
 no_ups_within : {L : Type 0} (len : ℕ) (f : Few (Emit L)) → f.first ≡ None → f.second ≡ None → AreUps len f
 no_ups_within {L} len f one two = ((λ _. two), none f.first one, none f.second two)
@@ -42,7 +42,7 @@ no_ups_within {L} len f one two = ((λ _. two), none f.first one, none f.second 
 -- a close from above
 pub downs_within : {N L : Type 0} (k : Carrier L) (acts : Acts) (cause : Cause) (fx : Fx N L) (len : ℕ) → fx.makes ≡ None → SendsDown k acts fx.downs → fx.ups.first ≡ None → fx.ups.second ≡ None → fx.closes.items ≡ (1, cause) ∷ [] → ConnWithin len fx
 downs_within k acts cause fx len no_make downs one two closes =
-    record { no_make = no_make; downs = downs.within len; ups = no_ups_within len fx.ups one two; closes = subst (λ (z : List (ℕ × Cause)). AreCloses z) (sym closes) (below_within cause) }
+    record { no_make = no_make; downs = downs.within len; ups = no_ups_within len fx.ups one two; closes = subst (λ (z : List (ℕ × Cause)). AreCloseSlots z) (sym closes) (below_within cause) }
 
 no_emits : {L : Type 0} (f : Few (Emit L)) → f.first ≡ None → f.second ≡ None → emits_of f ≡ []
 no_emits {L} f one two = ap (λ (z : Option (Emit L)). in_list z ++ in_list f.second) one ∙ ap (λ (z : Option (Emit L)). in_list z) two
@@ -104,5 +104,5 @@ range_within {N} {L} k acts from to len fx no_make downs one two closes order mo
         subst (λ (z : Option (Emit L)). IfSome z (IsUp len)) (sym one) (refl, λ _. (order, most)),
         subst (λ (z : Option (Emit L)). IfSome z (IsUp len)) (sym two) tt,
       );
-      closes = subst (λ (z : List (ℕ × Cause)). AreCloses z) (sym closes) (end_within None);
+      closes = subst (λ (z : List (ℕ × Cause)). AreCloseSlots z) (sym closes) (end_within None);
     }

@@ -8,7 +8,7 @@ use Rattle.nb_effects.specs.declared.effects.Emit.{Emit}
 use Rattle.nb_effects.specs.declared.effects.Few.{Few}
 use Rattle.nb_effects.specs.declared.effects.Fx.{Fx}
 use Rattle.nb_graph.specs.Trace.{Said, in_list, carries, loads, lent, Nature}
-use Rattle.nb_graph.specs.Effects.{AreDowns, AreUps, AreCloses}
+use Rattle.nb_graph.specs.Effects.{AreDowns, AreUps, AreCloseSlots}
 use Rattle.std.specs.Global.{Box}
 use Rattle.nb_conns.specs.declared.asking.Heading.{Heading}
 use Rattle.nb_conns.specs.declared.conn_load.ConnLoad.TheVariants.{Segments, Window}
@@ -121,7 +121,7 @@ pub record ConnWithin {N L : Type 0} (len : ℕ) (fx : Fx N L) : Type 0 where
   pub no_make : fx.makes ≡ None
   pub downs : AreDowns len fx.downs
   pub ups : AreUps len fx.ups
-  pub closes : AreCloses fx.closes.items
+  pub closes : AreCloseSlots fx.closes.items
 
 -- an entry by a message from below takes all of it
 abbrev pub TookAll : {N L : Type 0} → Said → Fx N L → Type 0

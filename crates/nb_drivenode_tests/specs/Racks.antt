@@ -3,7 +3,7 @@ use Rattle.std.specs.Prelude.{◌≡◌, ◌≤◌, ℕ, List, [], ◌++◌, Non
 use Rattle.std.proofs.Common.{append-nil}
 use Rattle.nb_effects.specs.declared.effects.Fx.{Fx}
 use Rattle.nb_graph.specs.Trace.{NodeEntry}
-use Rattle.nb_graph.specs.Effects.{AreDowns, AreUps, AreCloses}
+use Rattle.nb_graph.specs.Effects.{AreDowns, AreUps, AreCloseSlots}
 use Rattle.nb_drivenodes.specs.DriveEffects.{TextCarrier}
 use Rattle.nb_drivenodes.specs.SessionTalks.{IscsiStands}
 use Rattle.nb_drivenodes.specs.UnitTalks.{UnitStands}
@@ -42,7 +42,7 @@ pub record TakerKeeps (len : ℕ) (fx : Fx Rack Cargo) : Type 0 where
   pub no_make : fx.makes ≡ None
   pub downs : AreDowns len fx.downs
   pub ups : AreUps len fx.ups
-  pub closes : AreCloses fx.closes.items
+  pub closes : AreCloseSlots fx.closes.items
   pub within : fx.took ≤ len
 
 -- one message goes down
@@ -51,4 +51,4 @@ pub record TakerPasses (len : ℕ) (fx : Fx Rack Cargo) : Type 0 where
   pub no_up : fx.ups.first ≡ None
   pub no_ups : fx.ups.second ≡ None
   pub downs : AreDowns len fx.downs
-  pub closes : AreCloses fx.closes.items
+  pub closes : AreCloseSlots fx.closes.items

@@ -6,7 +6,7 @@ use Rattle.nb_terms.specs.declared.cause.Cause.{Cause}
 use Rattle.nb_effects.specs.declared.effects.Fx.{Fx}
 use Rattle.nb_graph.specs.Trace.{Said, NodeEntry, up, down, closed, regain}
 use Rattle.nb_effects.specs.declared.effects.Emit.{Emit}
-use Rattle.nb_graph.specs.Effects.{IsDown, IsUp, AreCloses}
+use Rattle.nb_graph.specs.Effects.{IsDown, IsUp, AreCloseSlots}
 use Rattle.std.specs.Prelude.{IfSome}
 use Rattle.std.proofs.lemmas.Option.{none-some}
 use Rattle.nb_conns.specs.ConnEffects.{ConnWithin, SaysNothing}
@@ -65,7 +65,7 @@ nothing-within {N} {L} len fx s cl = record { no_make = s.no_make; downs = downs
     ups None (Some y) a b = absurd (none-some y (sym b))
     ups (Some x) p a b = absurd (none-some x (sym a))
 
-    no_close : (xs : List (ℕ × Cause)) → xs ≡ [] → AreCloses xs
+    no_close : (xs : List (ℕ × Cause)) → xs ≡ [] → AreCloseSlots xs
     no_close [] h i d below = absurd (omega arith)
     no_close (x ∷ xs) h i d below = absurd (let z = h in cc)
 

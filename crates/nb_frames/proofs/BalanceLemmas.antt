@@ -8,7 +8,7 @@ use Rattle.nb_ledger.specs.declared.event.Way.{Way}
 use Rattle.nb_ledger.specs.declared.event.Way.TheVariants as way
 use Rattle.nb_ledger.specs.declared.event.GraphEvent.{GraphEvent}
 use Rattle.nb_ledger.specs.declared.event.GraphEvent.TheVariants.{Made, Held, LetGo, Plugged, Entered, Left, Dropped, Closed, Unplugged, Freed}
-use Rattle.nb_graph.specs.Accounts.{Account, Covers, Midway, account, after_note, after_call, enters, is_same_port, rests, sent_by}
+use Rattle.nb_graph.specs.Accounts.{Account, Covers, Midway, account, after_note, account_after_call, enters, is_same_port, rests, sent_by_entry}
 use Rattle.nb_graph.specs.Trace.{Nature, NodeEntry}
 use Rattle.nb_graph.specs.Deeds.{Deed, writes, begins, calls, turns}
 use Rattle.nb_frames.specs.Within.{IsEventWithin}
@@ -48,8 +48,8 @@ note_grows p a (Unplugged q r) i = stays_so a
 note_grows p a (Freed x) i = absurd i
 
 module _ {N L : Type 0} (known : Nature N L) (own : ℕ → Bool) where
-  call_grows : (p : Port) (a : Account) (y : ℕ) (e : NodeEntry N L) → Grows a (if p.obj.0 == y then after_call known p a e else rests a)
-  call_grows p a y e = grows_pick (p.obj.0 == y) a (after_call known p a e) (rests a) (record { same_peer = refl; more = sent_by known p.slot e; sent = refl }) (stays_so a)
+  call_grows : (p : Port) (a : Account) (y : ℕ) (e : NodeEntry N L) → Grows a (if p.obj.0 == y then account_after_call known p a e else rests a)
+  call_grows p a y e = grows_pick (p.obj.0 == y) a (account_after_call known p a e) (rests a) (record { same_peer = refl; more = sent_by_entry known p.slot e; sent = refl }) (stays_so a)
 
   grows_then : (a b d : Account) → Grows a b → Grows b d → Grows a d
   grows_then a b d h k = record { same_peer = k.same_peer ∙ h.same_peer; more = h.more ++ k.more; sent = k.sent ∙ (ap (λ z. z ++ k.more) h.sent ∙ append_assoc a.sent h.more k.more) }
@@ -78,7 +78,7 @@ module _ {N L : Type 0} (known : Nature N L) (own : ℕ → Bool) where
     note_far b (Unplugged r s) i o = refl
     note_far b (Freed x) i o = absurd i
 
-    pub call_far : (b : Account) (y : ℕ) (e : NodeEntry N L) → own y ≡ true → (if q.obj.0 == y then after_call known q b e else rests b) ≡ rests b
+    pub call_far : (b : Account) (y : ℕ) (e : NodeEntry N L) → own y ≡ true → (if q.obj.0 == y then account_after_call known q b e else rests b) ≡ rests b
     call_far b y e o = rw (ne_eqb q.obj.0 y (apart own y q.obj.0 o far)) refl
 
     -- so what it took and sent stays
@@ -90,7 +90,7 @@ module _ {N L : Type 0} (known : Nature N L) (own : ℕ → Bool) where
         (z.0 ∙ ap (λ (x : Account). x.taken) n, z.1 ∙ ap (λ (x : Account). x.sent) n)
     far_stays b (begins x n ∷ ds) i o = absurd i.0
     far_stays b (calls y e ∷ ds) i o =
-        let z = far_stays (if q.obj.0 == y then after_call known q b e else rests b) ds i.1 o.1 in
+        let z = far_stays (if q.obj.0 == y then account_after_call known q b e else rests b) ds i.1 o.1 in
         let n = call_far b y e o.0 in
         (z.0 ∙ ap (λ (x : Account). x.taken) n, z.1 ∙ ap (λ (x : Account). x.sent) n)
     far_stays b (turns u ∷ ds) i o = far_stays b ds i.1 o.1
@@ -107,8 +107,8 @@ module _ {N L : Type 0} (known : Nature N L) (own : ℕ → Bool) where
         (h, far_covered p (after_note p a e) (after_note q b e) ds i.1 o.1 (covers_on a (after_note p a e) b (after_note q b e) (note_grows p a e i.0) (ap (λ (x : Account). x.taken) (note_far b e i.0 o.0)) h))
     far_covered p a b (begins x n ∷ ds) i o h = absurd i.0
     far_covered p a b (calls y e ∷ ds) i o h =
-        let c : Account = if p.obj.0 == y then after_call known p a e else rests a in
-        let d : Account = if q.obj.0 == y then after_call known q b e else rests b in
+        let c : Account = if p.obj.0 == y then account_after_call known p a e else rests a in
+        let d : Account = if q.obj.0 == y then account_after_call known q b e else rests b in
         (h, far_covered p c d ds i.1 o.1 (covers_on a c b d (call_grows p a y e) (ap (λ (x : Account). x.taken) (call_far b y e o.0)) h))
     far_covered p a b (turns u ∷ ds) i o h = far_covered p a b ds i.1 o.1 h
 

@@ -10,7 +10,7 @@ use Rattle.nb_effects.specs.declared.effects.Few.{Few}
 use Rattle.nb_effects.specs.declared.effects.Fx.{Fx}
 use Rattle.nb_graph.specs.Trace.{Said, bytes_between}
 use Rattle.nb_graph.specs.Deeds.{said_of}
-use Rattle.nb_graph.specs.Effects.{AreUps, AreCloses}
+use Rattle.nb_graph.specs.Effects.{AreUps, AreCloseSlots}
 use Rattle.nb_tftp.specs.Sound.{IsRange}
 use Rattle.nb_nodes.specs.declared.load.Load.{Load}
 use Rattle.nb_nodes.specs.declared.obj.Obj.{Obj}
@@ -78,12 +78,12 @@ ups_within : (give : Option (ℕ × ℕ)) (len : ℕ) → IsRange give len → A
 ups_within None len r = ((λ _. refl), tt, tt)
 ups_within (Some range) len r = ((λ _. refl), (refl, (λ _. r)), tt)
 
-both_within : (cause : Cause) → AreCloses (both_closes cause)
+both_within : (cause : Cause) → AreCloseSlots (both_closes cause)
 both_within cause zero d h = omega arith
 both_within cause (suc zero) d h = omega arith
 both_within cause (suc (suc k)) d h = absurd (omega arith)
 
-end_within : (over : Option Cause) → AreCloses (end_closes over)
+end_within : (over : Option Cause) → AreCloseSlots (end_closes over)
 end_within None k d h = absurd (omega arith)
 end_within (Some cause) k d h = both_within cause k d h
 
@@ -93,7 +93,7 @@ all_within acts fx len no_make asks ups closes range =
       no_make = no_make;
       downs = asks.within len;
       ups = subst (λ (z : Few (Emit Load)). AreUps len z) (sym ups) (ups_within acts.give len range);
-      closes = subst (λ (z : List (ℕ × Cause)). AreCloses z) (sym closes) (end_within acts.over);
+      closes = subst (λ (z : List (ℕ × Cause)). AreCloseSlots z) (sym closes) (end_within acts.over);
     }
 
 -- nothing goes up

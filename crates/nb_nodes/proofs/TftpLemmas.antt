@@ -23,7 +23,7 @@ use Rattle.nb_nodes.specs.Tags.{tag_number}
 use Rattle.nb_nodes.specs.Asking.{AskValue, ask_in, begun_with}
 use Rattle.std.specs.Prelude.{IfSome}
 use Rattle.nb_effects.specs.declared.effects.Emit.{Emit}
-use Rattle.nb_graph.specs.Effects.{IsDown, IsUp, AreCloses}
+use Rattle.nb_graph.specs.Effects.{IsDown, IsUp, AreCloseSlots}
 use Rattle.nb_nodes.specs.Carried.{EffectsOf, AsksNone, AsksWithin}
 use Rattle.nb_nodes.specs.Conversations.{Conversation, unbegun, under_way, over, cancelled, talk_has_ended, conversation_ended, talk_went_on, is_datagram, is_begin, first_acts, is_idle, is_fatal, TakesWhole, AsksOfIdle, PassesClose, Continues, begins, receives, ticks, ends, rests, RunsTo, WorksAt, waits, runs, stays, never, is_waiting, talk_is_done, TftpStands, ContinuesAs}
 
@@ -186,7 +186,7 @@ none_alike : (o p : Option (Emit Load)) → o ≡ None → IfSome o (λ e. IfSom
 none_alike None p h = tt
 none_alike (Some e) p h = absurd (let z = h in cc)
 
-no_close : (xs : List (ℕ × Cause)) → xs ≡ [] → AreCloses xs
+no_close : (xs : List (ℕ × Cause)) → xs ≡ [] → AreCloseSlots xs
 no_close [] h k d below = absurd (omega arith)
 no_close (x ∷ xs) h k d below = absurd (let z = h in cc)
 

@@ -9,7 +9,7 @@ use Rattle.nb_effects.specs.declared.effects.Few.{Few}
 use Rattle.nb_effects.specs.declared.effects.Fx.{Fx}
 use Rattle.nb_graph.specs.Trace.{Said, in_list}
 use Rattle.nb_graph.specs.Deeds.{said_of}
-use Rattle.nb_graph.specs.Effects.{AreDowns, AreUps, AreCloses}
+use Rattle.nb_graph.specs.Effects.{AreDowns, AreUps, AreCloseSlots}
 use Rattle.std.specs.Global.{Box}
 use Rattle.nb_nodes.specs.declared.load.Load.{Load}
 use Rattle.nb_nodes.specs.declared.load.Load.TheVariants as load
@@ -108,4 +108,4 @@ pub record AsksWithin (len : ℕ) (fx : Fx Obj Load) : Type 0 where
   pub no_make : fx.makes ≡ None
   pub downs : AreDowns len fx.downs
   pub ups : AreUps len fx.ups
-  pub closes : AreCloses fx.closes.items
+  pub closes : AreCloseSlots fx.closes.items

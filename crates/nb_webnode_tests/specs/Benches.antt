@@ -2,7 +2,7 @@
 use Rattle.std.specs.Prelude.{◌≡◌, ◌≤◌, ℕ, List, [], ◌++◌, None, refl}
 use Rattle.nb_effects.specs.declared.effects.Fx.{Fx}
 use Rattle.nb_graph.specs.Trace.{NodeEntry}
-use Rattle.nb_graph.specs.Effects.{AreDowns, AreUps, AreCloses}
+use Rattle.nb_graph.specs.Effects.{AreDowns, AreUps, AreCloseSlots}
 use Rattle.nb_webnodes.specs.WebEffects.{WebCarrier}
 use Rattle.nb_webnodes.specs.WebTalks.{WebStands}
 use Rattle.std.proofs.Common.{append-nil}
@@ -38,7 +38,7 @@ pub record KeepsAll (len : ℕ) (fx : Fx Bench Words) : Type 0 where
   pub no_make : fx.makes ≡ None
   pub downs : AreDowns len fx.downs
   pub ups : AreUps len fx.ups
-  pub closes : AreCloses fx.closes.items
+  pub closes : AreCloseSlots fx.closes.items
   pub within : fx.took ≤ len
 
 -- one message goes down
@@ -47,4 +47,4 @@ pub record PassesDown (len : ℕ) (fx : Fx Bench Words) : Type 0 where
   pub no_up : fx.ups.first ≡ None
   pub no_ups : fx.ups.second ≡ None
   pub downs : AreDowns len fx.downs
-  pub closes : AreCloses fx.closes.items
+  pub closes : AreCloseSlots fx.closes.items

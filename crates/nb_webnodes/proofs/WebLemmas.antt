@@ -15,7 +15,7 @@ use Rattle.nb_webnodes.specs.WebAsks.{web_ask_in}
 use Rattle.nb_webnodes.specs.WebEffects.{WebCarrier, begin_emit, send_emit, AsksBelow}
 use Rattle.nb_conns.specs.ConnEffects.{ConnWithin}
 use Rattle.nb_effects.specs.declared.effects.Emit.{Emit}
-use Rattle.nb_graph.specs.Effects.{IsDown, IsUp, AreCloses}
+use Rattle.nb_graph.specs.Effects.{IsDown, IsUp, AreCloseSlots}
 use Rattle.std.proofs.lemmas.Option.{none-some}
 use Rattle.std.specs.Prelude.{IfSome}
 use Rattle.nb_webnodes.specs.WebTalks.{WebTalk, web_unasked, cut_short, is_open_web, is_from_below, is_quiet_web, is_cut_web, Fetched, ends_early, stays_idle, FetchedTo, IsWebAt, before_begin, while_fetching, once_answered, once_cut, WebStands, FetchesOn, IsUnaskedWeb, stage_takes_web, stage_asks_web, stage_is_ended}
@@ -105,7 +105,7 @@ ask_within {N} {L} k len text fx below enough mk u1 u2 cl =
     none None e = tt
     none (Some x) e = absurd (none-some x (sym e))
 
-    no_close : (xs : List (ℕ × Cause)) → xs ≡ [] → AreCloses xs
+    no_close : (xs : List (ℕ × Cause)) → xs ≡ [] → AreCloseSlots xs
     no_close [] h i d below = absurd (omega arith)
     no_close (x ∷ xs) h i d below = absurd (let z = h in cc)
 
