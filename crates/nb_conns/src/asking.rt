@@ -95,6 +95,7 @@ fn segments_down<L: CarriesConn>(heading: Heading, acts: Box<Acts>) -> Emit<L>
 }
 
 /// Asks for the segments, after the place where that has grown.
+#[inline(always)]
 fn send<L: CarriesConn>(heading: Heading, acts: Box<Acts>, downs: &mut Few<Emit<L>>)
     requires blank { (downs.old.first ≡ None) × (downs.old.second ≡ None) }
     requires heading { heading_of acts.value.sends.items acts.value.tried ≡ Some heading }
