@@ -7,7 +7,7 @@ use Rattle.nb_opens.specs.Notices.{first_close}
 use Rattle.nb_stack.specs.Client.{Client}
 use Rattle.nb_teller.specs.declared.speaker.Speaker.{Speaker}
 use Rattle.nb_drivechains.specs.declared.drive_answer.DriveAnswer.{DriveAnswer}
-use Rattle.nb_teller.specs.Deliveries.{delivered_address, delivered_answer, delivered_blocks, delivered_bytes}
+use Rattle.nb_teller.specs.Deliveries.{delivered_address, delivered_answer, delivered_bytes}
 use Rattle.nb_teller.specs.Spelling.{Spelling, closed_row, bytes_row, address_row, answer_row, stuck_row, rows_of, rows_in, IsSpelled}
 use Rattle.nb_teller.specs.Tellings.{any_lacks_route}
 

@@ -1,4 +1,4 @@
-use Rattle.std.proofs.Common.{◌≡◌, ◌++◌, refl}
+use Rattle.std.proofs.Common.{◌++◌, refl}
 use Rattle.nb_teller.proofs.SpellingLemmas.{message_told}
 use Rattle.nb_teller.proofs.teller.TellerOutside.send.Goals as goal
 
