@@ -37,11 +37,11 @@ pub fn turn<L: Line>(
 {
     'reads: loop {
         match feed.front() {
-            Front::Whole(ref entry, len) => {
-                if is_first(entry) {
+            Front::Whole(entry, len) => {
+                if is_first(&entry) {
                     return Some(finish(client, Status::BadRecord, log, line));
                 }
-                let over = use_record(client, entry, log, line);
+                let over = use_record(client, &entry, log, line);
                 feed.pass(len);
                 return over;
             }

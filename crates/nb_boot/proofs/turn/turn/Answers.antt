@@ -22,12 +22,12 @@ returns-then-is_first g c = λ n first v.
     let w = waits_there n c.args.feed.now.bytes held first (g.L.Line.outside c.args.line.now) mid c.args.log.now c.reads.log c.args.client.now c.reads.client h.0 waits h.1 v in
     c.finish.ensures w.ins held first w.goes.progress w.goes.holdings w.goes.stands w.goes.fits w.goes.going
     (waits_bad n held first mid c.reads.log c.reads.client w waits few
-    (inr (inl (front_begins held (in_of c.in-Whole.entry.now) c.in-Whole.len IsFirst c.in-Whole.ensures c.if-is_first.ensures))))
+    (inr (inl (front_begins held (in_of c.in-Whole.entry) c.in-Whole.len IsFirst c.in-Whole.ensures c.if-is_first.ensures))))
 
 pub use_record-over-requires-clause-fits : goal.use_record-over-requires-clause-fits
 use_record-over-requires-clause-fits g c =
     let waits : AwaitsRecord c.reads.client.stage = subst (λ (x : Snapshot). AwaitsRecord x.stage) (sym c.reads.invariant.1) c.requires.waits in
-    may_use (in_of c.in-Whole.entry.now) c.reads.client.stage c.if-is_first.ensures waits
+    may_use (in_of c.in-Whole.entry) c.reads.client.stage c.if-is_first.ensures waits
 
 pub use_record-over-requires-clause-few : goal.use_record-over-requires-clause-few
 use_record-over-requires-clause-few g c = subst (λ (x : Snapshot). x.used < 4294967295) (sym c.reads.invariant.1) c.requires.few
@@ -35,7 +35,7 @@ use_record-over-requires-clause-few g c = subst (λ (x : Snapshot). x.used < 429
 pub returns-in-Whole : goal.returns-in-Whole
 returns-in-Whole g c =
     let held = c.reads.feed.bytes in
-    let r = in_of c.in-Whole.entry.now in
+    let r = in_of c.in-Whole.entry in
     let mid = g.L.Line.outside c.reads.line in
     let now = g.L.Line.outside c.use_record-over.new.line in
     let rest = drop c.in-Whole.len held in
